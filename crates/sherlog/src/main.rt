@@ -1,0 +1,6 @@
+//! The program `sherlog`.
+#![tactic(auto)]
+
+pub mod form;
+
+fn main() {}
