@@ -8,6 +8,6 @@ mod literal;
 mod token;
 mod word;
 
-pub use lexer::{LexFault, MAX_SOURCE};
+pub use lexer::{LexFault, MAX_SOURCE, lex};
 pub use token::{IntegerConstant, Keyword, Name, Place, Punctuator, Token, TokenKind, Tokens};
 

@@ -1,8 +1,8 @@
 use Rattle.std.proofs.Common.{sym, ◌∙◌, arith, ◌-◌, ◌≡◌, suc}
 use Rattle.std.proofs.lemmas.Result.{err_from_is_err_and}
-use Rattle.sherlog.specs.Form.{stmt_at}
-use Rattle.sherlog.proofs.Reading.{stop, next, fails, runs_out, at_zero, above}
-use Rattle.sherlog.proofs.form.+stmt.Goals as goal
+use Rattle.first_form.specs.Form.{stmt_at}
+use Rattle.first_form.proofs.Reading.{stop, next, fails, runs_out, at_zero, above}
+use Rattle.first_form.proofs.form.+stmt.Goals as goal
 
 pub items-returns-then-begins : goal.items-returns-then-begins
 items-returns-then-begins t c =

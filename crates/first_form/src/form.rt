@@ -1,10 +1,11 @@
 //! The first form of a source: from its tokens to the tree.
 ghost use Rattle.std.specs.Prelude.{◌≡◌, ◌≤◌, ◌<◌, suc, length, IfOk, []};
-ghost use Rattle.sherlog.specs.Form as spec;
-ghost use Rattle.sherlog.specs.Form.{Gives};
+ghost use Rattle.first_form.specs.Form as spec;
+ghost use Rattle.first_form.specs.Form.{Gives};
+ghost use Rattle.c_tree.specs.PlaceTables.{places_of};
 
-use c_lexer::{Keyword, Punctuator, Token, TokenKind};
-use c_tree::{Declaration, Stmt};
+use c_lexer::{Keyword, Punctuator, Token, TokenKind, Tokens};
+use c_tree::{Declaration, Places, Stmt, Unit};
 use bit_words::Bytes;
 use plain_data::{Items, Shared};
 use std::alloc::{AllocError, Global};
@@ -21,7 +22,7 @@ pub enum FormFault {
 
 impl From<AllocError> for FormFault {
     ghost use Rattle.std.specs.Prelude.{◌≡◌};
-    ghost use Rattle.sherlog.specs.declared.form.FormFault.TheVariants.{Memory};
+    ghost use Rattle.first_form.specs.declared.form.FormFault.TheVariants.{Memory};
 
     ghost from_gives = { λ _ e. e ≡ Memory };
 
@@ -404,4 +405,169 @@ fn negative<'a>(
     let rest = expect_word(tokens, Keyword::Else)?;
     let (negative, rest) = stmt(alloc, functions, rest, below)?;
     Ok((Some(Shared::new(alloc, negative)?), rest))
+}
+
+/// `int NAME (`.
+#[tactic(auto, unfolding(crate::specs::Form::head_at))]
+fn head(tokens: &[Token]) -> Result<(Declaration, &[Token]), FormFault>
+    ensures { Gives (λ x. (x.0, x.1.now)) result (spec.head_at tokens.now) }
+{
+    let rest = expect_word(tokens, Keyword::Int)?;
+    let (name, rest) = name(rest)?;
+    let rest = expect(rest, Punctuator::LeftParenthesis)?;
+    Ok((name, rest))
+}
+
+/// `void)`.
+#[tactic(auto, unfolding(crate::specs::Form::no_parameters_at))]
+fn no_parameters(tokens: &[Token]) -> Result<&[Token], FormFault>
+    ensures { Gives (λ x. x.now) result (spec.no_parameters_at tokens.now) }
+{
+    let rest = expect_word(tokens, Keyword::Void)?;
+    expect(rest, Punctuator::RightParenthesis)
+}
+
+/// `const char *, ...)`.
+#[tactic(auto, unfolding(crate::specs::Form::format_parameters_at))]
+fn format_parameters(tokens: &[Token]) -> Result<&[Token], FormFault>
+    ensures { Gives (λ x. x.now) result (spec.format_parameters_at tokens.now) }
+{
+    let rest = expect_word(tokens, Keyword::Const)?;
+    let rest = expect_word(rest, Keyword::Char)?;
+    let rest = expect(rest, Punctuator::Star)?;
+    let rest = expect(rest, Punctuator::Comma)?;
+    let rest = expect(rest, Punctuator::Ellipsis)?;
+    expect(rest, Punctuator::RightParenthesis)
+}
+
+fn parameters<'a>(name: &[u8], tokens: &'a [Token]) -> Result<&'a [Token], FormFault>
+    ensures { Gives (λ x. x.now) result (spec.parameters_at name.now tokens.now) }
+{
+    if is_printf(name) {
+        format_parameters(tokens)
+    } else {
+        no_parameters(tokens)
+    }
+}
+
+fn may_declare(functions: &[Declaration], name: &[u8]) -> bool
+    ensures { result ≡ spec.may_declare functions.now name.now }
+{
+    !is_left_out(name) && !is_declared(functions, name)
+}
+
+fn declared_parameters<'a>(name: &[u8], tokens: &'a [Token]) -> Result<&'a [Token], FormFault>
+    ensures { Gives (λ x. x.now) result (spec.declared_parameters name.now tokens.now) }
+{
+    let rest = parameters(name, tokens)?;
+    expect(rest, Punctuator::Semicolon)
+}
+
+/// The rest of a declaration, behind `int NAME (`.
+#[tactic(auto, unfolding(crate::specs::Form::declared_at))]
+fn declared<'a>(
+    functions: &[Declaration],
+    head: &Declaration,
+    tokens: &'a [Token],
+) -> Result<&'a [Token], FormFault>
+    ensures { Gives (λ x. x.now) result (spec.declared_at functions.now head.now tokens.now) }
+{
+    let name = head.name.get().as_slice();
+    if may_declare(functions, name) {
+        declared_parameters(name, tokens)
+    } else {
+        Err(FormFault::NotYetRead)
+    }
+}
+
+/// Declarations up to `int main (`.
+fn declarations(
+    alloc: Global,
+    tokens: &[Token],
+) -> Result<(Items<Declaration>, &[Token]), FormFault>
+    ensures { Gives (λ x. (x.0, x.1.now)) result (spec.declarations_at (suc (length tokens.now)) [] tokens.now) }
+{
+    let mut functions = Items::new(alloc);
+    let mut rest = tokens;
+    let mut left = tokens.len() + 1;
+    'declarations: while left > 0 {
+        left -= 1;
+        let (head, after) = head(rest)?;
+        if is_main(head.name.get().as_slice()) {
+            return Ok((functions, after));
+        }
+        rest = declared(functions.as_slice(), &head, after)?;
+        functions.push(head)?;
+    }
+    Err(FormFault::NotYetRead)
+}
+
+/// The body of `main` to the end of the source, behind `int main (`.
+#[tactic(auto, unfolding(crate::specs::Form::body_at))]
+fn body(
+    alloc: Global,
+    functions: &[Declaration],
+    tokens: &[Token],
+) -> Result<Items<Shared<Stmt>>, FormFault>
+    ensures { Gives (λ x. x) result (spec.body_at functions.now tokens.now) }
+{
+    let rest = no_parameters(tokens)?;
+    let rest = expect(rest, Punctuator::LeftBrace)?;
+    let (items, rest) = block(alloc, functions, rest, MAX_NESTING)?;
+    at_end(items, rest)
+}
+
+fn at_end(items: Items<Shared<Stmt>>, rest: &[Token]) -> Result<Items<Shared<Stmt>>, FormFault>
+    ensures { Gives (λ x. x) result (spec.alone items rest.now) }
+{
+    match rest {
+        [] => Ok(items),
+        _ => Err(FormFault::NotYetRead),
+    }
+}
+
+fn choices(tokens: &[Token]) -> usize
+    ensures { result ≡ spec.choices tokens.now }
+{
+    tokens
+        .iter()
+        .filter(|token| is_keyword(&token.kind, Keyword::If))
+        .count()
+}
+
+fn is_small(functions: &[Declaration], tokens: &[Token]) -> bool
+    ensures { result ≡ spec.is_small functions.now tokens.now }
+{
+    declares_printf(functions) && choices(tokens) <= MAX_CHOICES
+}
+
+/// The functions and the statements of a program, from its tokens.
+#[tactic(auto, unfolding(crate::specs::Form::program_of))]
+fn program(
+    alloc: Global,
+    tokens: &[Token],
+) -> Result<(Items<Declaration>, Items<Shared<Stmt>>), FormFault>
+    ensures { Gives (λ x. record { functions = x.0; body = x.1 }) result (spec.program_of tokens.now) }
+{
+    let (functions, rest) = declarations(alloc, tokens)?;
+    if !is_small(functions.as_slice(), tokens) {
+        return Err(FormFault::NotYetRead);
+    }
+    let body = body(alloc, functions.as_slice(), rest)?;
+    Ok((functions, body))
+}
+
+/// The tree of a source's tokens. `NotYetRead` comes exactly where the tokens don't have the first form.
+pub fn parse(alloc: Global, tokens: &Tokens) -> Result<Unit, FormFault>
+    ensures tree { Gives (λ unit. record { functions = unit.functions; body = unit.body }) result (spec.program_of tokens.now.tokens) }
+    ensures places { IfOk result (λ unit. unit.places.places ≡ places_of tokens.now.tokens) }
+    ensures files { IfOk result (λ unit. unit.places.files ≡ tokens.now.files) }
+{
+    let (functions, body) = program(alloc, tokens.tokens.as_slice())?;
+    let places = Places::of_tokens(alloc, tokens)?;
+    Ok(Unit {
+        functions,
+        body,
+        places,
+    })
 }

@@ -1,6 +1,6 @@
 use Rattle.std.proofs.Common.{◌+◌, ◌*◌, ◌≡◌, suc, [], length}
-use Rattle.sherlog.specs.Form.{stmt_at, items_at}
-use Rattle.sherlog.proofs.form.+stmt.Given as goal
+use Rattle.first_form.specs.Form.{stmt_at, items_at}
+use Rattle.first_form.proofs.form.+stmt.Given as goal
 
 abbrev pub decreases-stmt : goal.decreases-stmt
 decreases-stmt l = 5 * l.depth

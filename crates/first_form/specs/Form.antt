@@ -16,8 +16,8 @@ use Rattle.c_lexer.specs.declared.token.Token.{Token}
 use Rattle.c_tree.specs.declared.tree.Stmt.{Stmt}
 use Rattle.c_tree.specs.declared.tree.Stmt.TheVariants as stmt
 use Rattle.c_tree.specs.declared.tree.Declaration.{Declaration}
-use Rattle.sherlog.specs.declared.form.FormFault.{FormFault}
-use Rattle.sherlog.specs.declared.form.FormFault.TheVariants as fault
+use Rattle.first_form.specs.declared.form.FormFault.{FormFault}
+use Rattle.first_form.specs.declared.form.FormFault.TheVariants as fault
 
 abbrev pub Reading : Type 0 → Type 0
 Reading A = Option (A × List Token)
@@ -229,16 +229,24 @@ parameters_at name tokens = if is_printf name then format_parameters_at tokens e
 abbrev pub may_declare : List Declaration → List ℕ → Bool
 may_declare functions name = not (is_left_out name) && not (is_declared functions name)
 
+abbrev pub declared_parameters : List ℕ → List Token → Option (List Token)
+declared_parameters name tokens = do
+  rest ← parameters_at name tokens
+  expect mark.Semicolon rest
+
+-- the rest of a declaration, behind `int NAME (`
+unfoldable pub declared_at : List Declaration → Declaration → List Token → Option (List Token)
+declared_at functions head tokens =
+    if may_declare functions head.name then declared_parameters head.name tokens else None
+
 -- declarations up to `int main (`, at most so many more, behind those that were read
 unfoldable pub declarations_at : ℕ → List Declaration → List Token → Reading (List Declaration)
 declarations_at zero functions tokens = None
 declarations_at (suc n) functions tokens = do
   head ← head_at tokens
-  if is_main head.0.name then Some (functions, head.1) else
-      (if may_declare functions head.0.name then (do
-        rest ← parameters_at head.0.name head.1
-        rest ← expect mark.Semicolon rest
-        declarations_at n (functions ++ head.0 ∷ []) rest) else None)
+  if is_main head.0.name then Some (functions, head.1) else (do
+    rest ← declared_at functions head.0 head.1
+    declarations_at n (functions ++ head.0 ∷ []) rest)
 
 -- how deep statements nest, and how many choices there are
 abbrev pub max_nesting : ℕ
@@ -255,23 +263,29 @@ pub record Program : Type 0 where
   pub functions : List Declaration
   pub body : List Stmt
 
-abbrev pub alone : Program → List Token → Option Program
-alone program [] = Some program
-alone program (token ∷ rest) = None
+abbrev pub alone : List Stmt → List Token → Option (List Stmt)
+alone body [] = Some body
+alone body (token ∷ rest) = None
 
 -- the body of `main` to the end of the source, behind `int main (`
-unfoldable pub body_at : List Declaration → List Token → Option Program
+unfoldable pub body_at : List Declaration → List Token → Option (List Stmt)
 body_at functions tokens = do
   rest ← no_parameters_at tokens
   rest ← expect mark.LeftBrace rest
   items ← block_at (stmt_at functions max_nesting) rest
-  alone (record { functions = functions; body = items.0 }) items.1
+  alone items.0 items.1
 
 abbrev pub declares_printf : List Declaration → Bool
 declares_printf functions = list_any (λ one. is_printf one.name) functions
+
+-- `printf` is declared, and there are few enough choices
+abbrev pub is_small : List Declaration → List Token → Bool
+is_small functions tokens = declares_printf functions && nat_le (choices tokens) max_choices
 
 -- the program that tokens are, where they have the form
 unfoldable pub program_of : List Token → Option Program
 program_of tokens = do
   functions ← declarations_at (suc (length tokens)) [] tokens
-  if declares_printf functions.0 && nat_le (choices tokens) max_choices then body_at functions.0 functions.1 else None
+  if is_small functions.0 tokens then (do
+    body ← body_at functions.0 functions.1
+    Some (record { functions = functions.0; body = body })) else None

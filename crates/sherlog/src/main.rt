@@ -1,6 +1,0 @@
-//! The program `sherlog`.
-#![tactic(auto)]
-
-pub mod form;
-
-fn main() {}
