@@ -3,7 +3,7 @@ ghost use Rattle.std.specs.Option.{option_copied};
 ghost use Rattle.std.specs.BTreeMap.{get_by_text};
 ghost use Rattle.sl_io.specs.Gets.{Gets};
 ghost use Rattle.sl_io.specs.Puts.{Puts};
-ghost use Rattle.sl_io.specs.MemoryShelves.{held, shelf_state, no_counts, got_count, Later, IsAnswer, ChangesOnly};
+ghost use Rattle.sl_io.specs.MemoryShelves.{held, shelf_state, no_counts, got_count, put_count, Later, IsAnswer, ChangesOnly};
 
 use crate::faults::{GetFault, PutFault};
 use crate::shelf::Shelf;
@@ -37,6 +37,15 @@ impl ShelfCounts {
                 self.long_reads = self.long_reads.saturating_add(1);
             }
             Err(GetFault::Memory) => {}
+        }
+    }
+
+    fn count_put(&mut self, answer: &Result<(), PutFault>)
+        ensures counts { self.new ≡ put_count self.old answer.now }
+        ensures later { Later self.old self.new }
+    {
+        if let Err(PutFault::Failed) = answer {
+            self.put_faults = self.put_faults.saturating_add(1);
         }
     }
 }
@@ -91,6 +100,22 @@ impl MemShelf {
         ensures { result ≡ self.now.counts }
     {
         self.counts
+    }
+
+    /// Counts a get that fails, and changes nothing else.
+    pub(crate) fn fail_get(&mut self)
+        ensures counted { self.new ≡ record self.old { counts = got_count self.old.counts 0 (Err GetFault.Failed) } }
+        ensures later { Later self.old.counts self.new.counts }
+    {
+        self.counts.count_get(0, &Err(GetFault::Failed));
+    }
+
+    /// Counts a put that fails, and changes nothing else.
+    pub(crate) fn fail_put(&mut self)
+        ensures counted { self.new ≡ record self.old { counts = put_count self.old.counts (Err PutFault.Failed) } }
+        ensures later { Later self.old.counts self.new.counts }
+    {
+        self.counts.count_put(&Err(PutFault::Failed));
     }
 }
 
