@@ -1,0 +1,6 @@
+pub mod Words
+pub mod Inputs
+pub mod Causes
+pub mod Answers
+pub mod Completeness
+pub mod Lines

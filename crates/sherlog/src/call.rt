@@ -1,0 +1,88 @@
+//! The top call.
+ghost use Rattle.std.specs.Prelude.{◌≡◌, ◌↔◌, ◌⊎◌, None, true, false, IfSome, map, string_bytes};
+ghost use Rattle.sl_io.specs.Writes.{Told};
+ghost use Rattle.sherlog.specs.Words.{names_of};
+ghost use Rattle.sherlog.specs.Causes.{Cause, IsUnread};
+ghost use Rattle.sherlog.specs.Answers.{Answered, Refused};
+ghost use Rattle.sherlog.specs.Completeness.{IsNotOfForm, IsAnswerable};
+ghost use Rattle.sherlog.specs.Lines.{line_of, usage_line};
+ghost use Rattle.sherlog.specs.declared.refusal.InputFile.{InputFile as InputFileType};
+
+use crate::refusal::{Refusal, tell_refusal, tell_usage};
+use crate::report::serve_diagnose;
+use crate::words::read_words;
+use sl_io::{Shelf, Sink};
+use std::alloc::Global;
+
+/// Serves a command line, and answers the status. The words are those behind the program's name.
+pub fn run<H: Shelf, O: Sink, E: Sink>(
+    alloc: Global,
+    words: &[String],
+    shelf: &mut H,
+    out: &mut O,
+    err: &mut E,
+) -> u8
+    // 0 and 1 come with a report that is true of every world: 0 where a world fits, 1 where none does.
+    ensures found { result ≡ 0 → IfSome (names_of (map string_bytes words.now)) (λ names.
+        Answered names (H.state shelf.old).files true (O.state out.old) (O.state out.new)) }
+    ensures nothing { result ≡ 1 → IfSome (names_of (map string_bytes words.now)) (λ names.
+        Answered names (H.state shelf.old).files false (O.state out.old) (O.state out.new)) }
+    ensures quiet { (result ≡ 0) ⊎ (result ≡ 1) → E.state err.new ≡ E.state err.old }
+
+    // 2 comes exactly where the words are no command line, and each other refusal by its cause.
+    ensures usage { (result ≡ 2) ↔ (names_of (map string_bytes words.now) ≡ None) }
+    ensures unread { result ≡ 3 → IfSome (names_of (map string_bytes words.now)) (λ names.
+        IsUnread names (H.state shelf.old).files) }
+    ensures fault { result ≡ 6 → IfSome (names_of (map string_bytes words.now)) (λ names.
+        Refused names (H.state shelf.old) (H.state shelf.new) (O.state out.old) (O.state out.new) Refusal.Fault) }
+    ensures long { result ≡ 7 → IfSome (names_of (map string_bytes words.now)) (λ names. (file : InputFileType)
+        × Cause names (H.state shelf.old) (H.state shelf.new) (Refusal.TooLong file)
+        × Told (E.state err.old) (E.state err.new) (line_of names (Refusal.TooLong file))) }
+    ensures statuses { (result ≡ 0) ⊎ ((result ≡ 1) ⊎ ((result ≡ 2) ⊎ ((result ≡ 3)
+        ⊎ ((result ≡ 6) ⊎ ((result ≡ 7) ⊎ (result ≡ 12)))))) }
+
+    // A refusal is told on err.
+    ensures usage_line { result ≡ 2 → Told (E.state err.old) (E.state err.new) usage_line }
+    ensures unread_line { result ≡ 3 → IfSome (names_of (map string_bytes words.now)) (λ names.
+        Told (E.state err.old) (E.state err.new) (line_of names Refusal.NotYetRead)) }
+    ensures fault_line { result ≡ 6 → IfSome (names_of (map string_bytes words.now)) (λ names.
+        Told (E.state err.old) (E.state err.new) (line_of names Refusal.Fault)) }
+    ensures memory_line { result ≡ 12 → IfSome (names_of (map string_bytes words.now)) (λ names.
+        Told (E.state err.old) (E.state err.new) (line_of names Refusal.Memory)) }
+
+    // No file changes, and where there is no report, nothing is written, but on 6 a prefix of it.
+    ensures files { (H.state shelf.new).files ≡ (H.state shelf.old).files }
+    ensures silent { (result ≡ 0) ⊎ ((result ≡ 1) ⊎ ((result ≡ 6) ⊎ (O.state out.new ≡ O.state out.old))) }
+
+    // Where files are told, what they hold decides, but for want of memory.
+    ensures not_of_form { IfSome (names_of (map string_bytes words.now)) (λ names.
+        IsNotOfForm names (H.state shelf.old) (H.state shelf.new) → (result ≡ 3) ⊎ (result ≡ 12)) }
+    ensures complete { IfSome (names_of (map string_bytes words.now)) (λ names.
+        IsAnswerable names (H.state shelf.old) (H.state shelf.new) (O.state out.old) (O.state out.new)
+        → (result ≡ 0) ⊎ ((result ≡ 1) ⊎ (result ≡ 12))) }
+{
+    let Some(request) = read_words(words) else {
+        tell_usage(err);
+        return 2;
+    };
+    match serve_diagnose(alloc, &request, shelf, out) {
+        Ok(true) => 0,
+        Ok(false) => 1,
+        Err(Refusal::NotYetRead) => {
+            tell_refusal(err, &request, Refusal::NotYetRead);
+            3
+        }
+        Err(Refusal::Fault) => {
+            tell_refusal(err, &request, Refusal::Fault);
+            6
+        }
+        Err(Refusal::TooLong(file)) => {
+            tell_refusal(err, &request, Refusal::TooLong(file));
+            7
+        }
+        Err(Refusal::Memory) => {
+            tell_refusal(err, &request, Refusal::Memory);
+            12
+        }
+    }
+}
