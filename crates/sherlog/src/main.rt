@@ -3,8 +3,58 @@
 #![tactic(auto)]
 
 pub mod call;
+pub mod files;
 pub mod refusal;
 pub mod report;
+pub mod streams;
 pub mod words;
 
-fn main() {}
+use call::run;
+use files::FileShelf;
+use refusal::{tell_memory, tell_usage};
+use std::env;
+use std::io::ErrorKind;
+use std::process::ExitCode;
+use streams::StreamSink;
+
+/// Why there are no words.
+#[derive(Clone, Copy, Debug, PartialEq, Eq)]
+enum WordFault {
+    NotText,
+    Memory,
+}
+
+/// The words behind the program's name.
+fn words_of(rt: &HostRuntime) -> Result<Vec<String>, WordFault> {
+    match env::args(rt) {
+        Ok(args) => match args.skip(1).collect(rt.alloc()) {
+            Ok(words) => Ok(words),
+            Err(_) => Err(WordFault::Memory),
+        },
+        Err(error) if error.kind() == ErrorKind::OutOfMemory => Err(WordFault::Memory),
+        Err(_) => Err(WordFault::NotText),
+    }
+}
+
+fn status_of(rt: &HostRuntime) -> u8 {
+    let mut err = StreamSink::new(rt.stderr());
+    match words_of(rt) {
+        Ok(words) => {
+            let mut shelf = FileShelf::new(rt);
+            let mut out = StreamSink::new(rt.stdout());
+            run(rt.alloc(), words.as_slice(), &mut shelf, &mut out, &mut err)
+        }
+        Err(WordFault::NotText) => {
+            tell_usage(&mut err);
+            2
+        }
+        Err(WordFault::Memory) => {
+            tell_memory(&mut err);
+            12
+        }
+    }
+}
+
+fn main(rt: HostRuntime) -> ExitCode {
+    ExitCode::from(status_of(&rt))
+}

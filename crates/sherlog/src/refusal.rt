@@ -2,7 +2,7 @@
 ghost use Rattle.std.specs.Prelude.{◌≡◌};
 ghost use Rattle.sl_io.specs.Writes.{Told};
 ghost use Rattle.sherlog.specs.Inputs.{names_in, limit_of, name_of};
-ghost use Rattle.sherlog.specs.Lines.{line_of, usage_line};
+ghost use Rattle.sherlog.specs.Lines.{line_of, usage_line, memory_line};
 
 use crate::words::Request;
 use c_lexer::MAX_SOURCE;
@@ -71,6 +71,13 @@ pub fn tell_usage<E: Sink>(err: &mut E)
     tell(err, b"sherlog: 2 usage\n");
 }
 
+/// Tells of a want of memory.
+pub fn tell_memory<E: Sink>(err: &mut E)
+    ensures { Told (E.state err.old) (E.state err.new) memory_line }
+{
+    tell(err, b"sherlog: 12 memory\n");
+}
+
 /// Tells of a refusal. A fault of `err` changes nothing else.
 pub fn tell_refusal<E: Sink>(err: &mut E, request: &Request<'_>, refusal: Refusal)
     ensures { Told (E.state err.old) (E.state err.new) (line_of (names_in request.now) refusal) }
@@ -82,6 +89,6 @@ pub fn tell_refusal<E: Sink>(err: &mut E, request: &Request<'_>, refusal: Refusa
             let name = file.name(request).as_bytes();
             let _ = write_pieces(err, &[b"sherlog: 7 ".as_slice(), name, b"\n".as_slice()]);
         }
-        Refusal::Memory => tell(err, b"sherlog: 12 memory\n"),
+        Refusal::Memory => tell_memory(err),
     }
 }

@@ -13,4 +13,4 @@ returns-in-TooLong g c =
     rw c.in-TooLong.is (rw (← c.name.ensures, ← c.as_bytes-name.ensures.value) told)
 
 pub returns-in-Memory : goal.returns-in-Memory
-returns-in-Memory g c = rw c.in-Memory.is c.tell-in-Memory.ensures
+returns-in-Memory g c = rw c.in-Memory.is c.tell_memory.ensures
