@@ -58,3 +58,6 @@ fn status_of(rt: &HostRuntime) -> u8 {
 fn main(rt: HostRuntime) -> ExitCode {
     ExitCode::from(status_of(&rt))
 }
+
+#[cfg(test)]
+mod tests;
