@@ -1,5 +1,5 @@
 -- What a program of the first form does (C99 6.8).
-use Rattle.std.specs.Prelude.{ℕ, pos, ◌+◌, ◌%◌, ◌^◌, ◌==◌, List, [], ◌∷◌, ◌++◌, length, map, sum_by, Bool, true, false, not, if◌then◌else◌, Option, Some, None, unwrap_or, is_some}
+use Rattle.std.specs.Prelude.{ℕ, pos, ◌+◌, ◌%◌, ◌^◌, ◌==◌, List, [], ◌∷◌, ◌++◌, length, map, Bool, true, false, not, if◌then◌else◌, Option, Some, None, unwrap_or, is_some}
 use Rattle.std.specs.List.{take_while}
 use Rattle.bit_words.specs.declared.run.Side.TheVariants.{Yes, No}
 use Rattle.bit_words.specs.declared.run.Happening.{Happening}
@@ -73,11 +73,19 @@ choice at call positive negative = record {
     else negative.run answers (base + (call_room + positive.room)) (tests at call false s);
 }
 
+abbrev pub rooms : List Meaning → ℕ
+rooms [] = 0
+rooms (m ∷ ms) = m.room + rooms ms
+
+abbrev pub all_literals : List Meaning → ℕ
+all_literals [] = 0
+all_literals (m ∷ ms) = m.literals + all_literals ms
+
 abbrev pub meaning_step : Stmt-F Meaning → Meaning
 meaning_step Empty = nothing
 meaning_step (Block items) = record {
-  room = sum_by (λ m. m.room) items;
-  literals = sum_by (λ m. m.literals) items;
+  room = rooms items;
+  literals = all_literals items;
   run = in_turn items;
 }
 meaning_step (If at call callee positive None) = choice at call positive nothing
@@ -90,7 +98,7 @@ meaning s = fold-Stmt Meaning meaning_step s
 
 -- one place for each declared function, for `main` and for each literal stands before those of the statements
 abbrev pub first_place : Program → ℕ
-first_place p = length p.functions + (sum_by (λ s. (meaning s).literals) p.body + 2)
+first_place p = length p.functions + (all_literals (map meaning p.body) + 2)
 
 abbrev pub at_start : Standing
 at_start = record { printed = []; events = []; returned = None }
@@ -99,4 +107,4 @@ at_start = record { printed = []; events = []; returned = None }
 abbrev pub run_of : Program → Answers → Run
 run_of p answers =
     let end = in_turn (map meaning p.body) answers (first_place p) at_start in
-    record { printed = end.printed; events = end.events; finish = finish.Return (pos (unwrap_or end.returned 0)) }
+    record { printed = end.printed; events = end.events; finish = finish.Return (unwrap_or end.returned (pos 0)) }

@@ -5,4 +5,5 @@
 pub mod diagnose;
 pub mod form;
 pub mod meaning;
+pub mod paths;
 pub mod verdict;
