@@ -1,4 +1,4 @@
--- The meaning and the ways of each kind of statement, and induction over statements.
+-- The meaning of each kind of statement, and induction over statements.
 use Rattle.std.proofs.Common.{◌≡◌, ℕ, ℤ, List, [], ◌∷◌, Option, Some, None, sym, ap, ◌∙◌, subst}
 use Rattle.std.specs.Prelude.{map, IfSome}
 use Rattle.c_tree.specs.declared.tree.Stmt.{Stmt, fold-roll-Stmt, ind-Stmt, roll-Stmt, map-Stmt}
@@ -9,7 +9,6 @@ use Rattle.c_tree.specs.declared.tree.Stmt.TheOpen as open_
 use Rattle.c_tree.specs.declared.tree.Stmt.TheVariants as stmt
 use Rattle.c_tree.specs.declared.tree.Stmt.TheVariants.{rolls-Block, rolls-If, rolls-Print, rolls-Return, rolls-Empty}
 use Rattle.first_form.specs.Meaning.{Meaning, meaning, meaning_step, rooms, all_literals}
-use Rattle.first_form.specs.Paths.{Ways, ways, ways_step}
 
 pub meaning-empty : meaning stmt.Empty ≡ meaning_step open_.Empty
 unfolding meaning
@@ -35,31 +34,6 @@ meaning-print call text = ap meaning (sym (rolls-Print call text)) ∙ fold-roll
 pub meaning-return : (value : ℤ) → meaning (stmt.Return value) ≡ meaning_step (open_.Return value)
 unfolding meaning
 meaning-return value = ap meaning (sym (rolls-Return value)) ∙ fold-roll-Stmt Meaning meaning_step (open_.Return value)
-
-pub ways-empty : ways stmt.Empty ≡ ways_step open_.Empty
-unfolding ways
-ways-empty = ap ways (sym rolls-Empty) ∙ fold-roll-Stmt Ways ways_step open_.Empty
-
-pub ways-block : (items : List Stmt) → ways (stmt.Block items) ≡ ways_step (open_.Block (map ways items))
-unfolding ways
-ways-block items = ap ways (sym (rolls-Block items)) ∙ fold-roll-Stmt Ways ways_step (open_.Block items)
-
-pub ways-if : (at call : ℕ) (callee : List ℕ) (positive : Stmt) → ways (stmt.If at call callee positive None) ≡ ways_step (open_.If at call callee (ways positive) None)
-unfolding ways
-ways-if at call callee positive = ap ways (sym (rolls-If at call callee positive None)) ∙ fold-roll-Stmt Ways ways_step (open_.If at call callee positive None)
-
-pub ways-if_else : (at call : ℕ) (callee : List ℕ) (positive negative : Stmt) → ways (stmt.If at call callee positive (Some negative)) ≡ ways_step (open_.If at call callee (ways positive) (Some (ways negative)))
-unfolding ways
-ways-if_else at call callee positive negative =
-    ap ways (sym (rolls-If at call callee positive (Some negative))) ∙ fold-roll-Stmt Ways ways_step (open_.If at call callee positive (Some negative))
-
-pub ways-print : (call : ℕ) (text : List ℕ) → ways (stmt.Print call text) ≡ ways_step (open_.Print call text)
-unfolding ways
-ways-print call text = ap ways (sym (rolls-Print call text)) ∙ fold-roll-Stmt Ways ways_step (open_.Print call text)
-
-pub ways-return : (value : ℤ) → ways (stmt.Return value) ≡ ways_step (open_.Return value)
-unfolding ways
-ways-return value = ap ways (sym (rolls-Return value)) ∙ fold-roll-Stmt Ways ways_step (open_.Return value)
 
 -- each of the list meets P
 abbrev pub Each : (Stmt → Type 0) → List Stmt → Type 0

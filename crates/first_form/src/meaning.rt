@@ -180,13 +180,13 @@ fn answer(world: &World, place: u64) -> bool
     world.word(place) % INT_RANGE != 0
 }
 
-fn beyond(base: u64, room: u64) -> Result<u64, AllocError>
+pub fn beyond(base: u64, room: u64) -> Result<u64, AllocError>
     ensures { IfOk result (λ place. place ≡ base + room) }
 {
     base.checked_add(room).ok_or(AllocError)
 }
 
-fn beyond_stmt(base: u64, stmt: &Stmt) -> Result<u64, AllocError>
+pub fn beyond_stmt(base: u64, stmt: &Stmt) -> Result<u64, AllocError>
     ensures { IfOk result (λ place. place ≡ base + (meaning stmt.now).room) }
 {
     match room(stmt) {
