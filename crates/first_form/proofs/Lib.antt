@@ -1,3 +1,4 @@
 pub mod Reading
 pub mod Cases
 pub mod Ways
+pub mod Cover

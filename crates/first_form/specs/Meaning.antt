@@ -145,8 +145,9 @@ first_place p = length p.functions + (all_literals (map meaning p.body) + 2)
 abbrev pub at_start : Standing
 at_start = record { printed = []; events = []; returned = None }
 
+abbrev pub ending : Standing → Run
+ending end = record { printed = end.printed; events = end.events; finish = finish.Return (unwrap_or end.returned (pos 0)) }
+
 -- the run of `main`, whose `}` returns 0
 abbrev pub run_of : Program → Answers → Run
-run_of p answers =
-    let end = in_turn (map meaning p.body) answers (first_place p) at_start in
-    record { printed = end.printed; events = end.events; finish = finish.Return (unwrap_or end.returned (pos 0)) }
+run_of p answers = ending (in_turn (map meaning p.body) answers (first_place p) at_start)
