@@ -5,3 +5,4 @@ pub mod Facts
 pub mod Verdicts
 pub mod Reports
 pub mod Answers
+pub mod LineTable

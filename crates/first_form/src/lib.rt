@@ -3,6 +3,8 @@
 #![tactic(auto)]
 
 pub mod diagnose;
+pub mod facts;
 pub mod form;
+pub mod lines;
 pub mod meaning;
 pub mod verdict;
