@@ -4,23 +4,13 @@ ghost use Rattle.bit_words.specs.declared.fact.Fact.{Fact};
 ghost use Rattle.bit_words.specs.declared.fact.Fact.TheVariants as fact;
 ghost use Rattle.first_form.specs.Facts as spec;
 ghost use Rattle.first_form.specs.Facts.{stmt_facts, joined, facts_shown};
-ghost use Rattle.first_form.specs.Meaning as meaning;
 
 use crate::lines::LogLines;
+use crate::meaning::text_of;
 use bit_words::{Event, Fact, Finish, Happening, Run, Side};
 use c_tree::Stmt;
 use plain_data::{Items, Shared};
 use std::alloc::{AllocError, Global};
-
-/// The text that a format without conversions spells: it ends at the first NUL.
-fn text_of(literal: &[u8]) -> &[u8]
-    ensures { result.now ≡ meaning.text_of literal.now }
-{
-    match literal.iter().position(|byte| *byte == 0) {
-        Some(end) => &literal[..end],
-        None => literal,
-    }
-}
 
 /// Both sides of a branch, and the call that it tests.
 fn choice_facts(alloc: Global, at: u32, call: u32) -> Result<Items<Fact>, AllocError>
@@ -44,7 +34,8 @@ fn print_facts(
 {
     let mut facts = Items::new(alloc);
     facts.push(Fact::Call { at: call })?;
-    for line in &lines.lines_with(alloc, text)? {
+    let found = lines.lines_with(alloc, text)?;
+    for line in found.as_slice() {
         facts.push(Fact::Print {
             at: call,
             line: *line,

@@ -5,4 +5,4 @@ use Rattle.first_form.specs.Facts.{print_facts}
 use Rattle.first_form.proofs.facts.print_facts.Given as goal
 
 abbrev pub invariant-loop-line : goal.invariant-loop-line
-invariant-loop-line l = ?
+invariant-loop-line l = l.facts ++ map (λ line. fact.Print l.call line) (drop l.line-index l.line-items) ≡ print_facts l.lines l.call l.text
