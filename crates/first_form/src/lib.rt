@@ -3,7 +3,9 @@
 #![tactic(auto)]
 
 pub mod diagnose;
+pub mod facts;
 pub mod form;
+pub mod lines;
 pub mod meaning;
 pub mod paths;
 pub mod verdict;
