@@ -1,2 +1,3 @@
 pub mod Reading
 mod LogLines
+mod FactOrder

@@ -7,4 +7,5 @@ pub mod facts;
 pub mod form;
 pub mod lines;
 pub mod meaning;
+pub mod shown;
 pub mod verdict;
