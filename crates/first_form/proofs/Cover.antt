@@ -226,7 +226,7 @@ stays (m ∷ ms) a base t h = ap (in_turn ms a (base + m.room)) (if_true (is_som
 goes : (m : Meaning) (a : Answers) (base : ℕ) (t : Standing) → IsRunning t → running (m.run a base) t ≡ m.run a base t
 goes m a base t r = if_false (is_some t.returned) _ _ r
 
-frames-turn : (ms : List Meaning) → EachSound ms → Frames (turn ms)
+pub frames-turn : (ms : List Meaning) → EachSound ms → Frames (turn ms)
 frames-turn [] s a b base same t = refl
 frames-turn (m ∷ ms) s a b base same t =
     ap (in_turn ms a (base + m.room)) (ap (λ (y : Standing). if is_some t.returned then t else y) (s.0.frames a b base (λ x l u. same x l (omega arith)) t))
@@ -312,7 +312,7 @@ sound s =
     (λ call text. subst Sound (sym (meaning-print call text)) (sound-print call text))
     (λ value. subst Sound (sym (meaning-return value)) (sound-return value)) s
 
-all_sound : (items : List Stmt) → EachSound (map meaning items)
+pub all_sound : (items : List Stmt) → EachSound (map meaning items)
 all_sound [] = tt
 all_sound (x ∷ xs) = (sound x, all_sound xs)
 

@@ -3,6 +3,7 @@ pub mod Cases
 pub mod Ways
 pub mod Cover
 mod LogLines
+mod FactOrder
 pub mod Worlds
 pub mod Candidates
 pub mod Listings

@@ -1,11 +1,10 @@
 -- The lines of a log: steps of the loops that find them.
-use Rattle.std.proofs.Common.{◌≡◌, ◌≢◌, ◌≤◌, ◌<◌, ◌+◌, ◌-◌, ℕ, zero, suc, List, [], ◌∷◌, ◌++◌, length, take, get_or, Bool, true, false, Some, refl, sym, ap, ◌∙◌, arith, cond, eqb, ltb, not, length-append, ⊎_elim}
+use Rattle.std.proofs.Common.{◌≡◌, ◌≢◌, ◌≤◌, ◌<◌, ◌+◌, ℕ, zero, suc, List, [], ◌∷◌, ◌++◌, length, take, get_or, false, Some, refl, sym, ap, ◌∙◌, arith, not, length-append, ⊎_elim}
 use Rattle.std.proofs.Math.ListN.{get_or-append}
-use Rattle.std.specs.Prelude.{count_by, slice_get}
+use Rattle.std.specs.Prelude.{count_by}
 use Rattle.std.proofs.lemmas.List.{get_or_push}
-use Rattle.std.proofs.lemmas.List.Sums.{count_by-le-length, count_by_more_yes, count_by_more_no}
+use Rattle.std.proofs.lemmas.List.Sums.{count_by_more_yes, count_by_more_no}
 use Rattle.std.proofs.lemmas.Option.{slice_get-get_or}
-use Rattle.std.proofs.lemmas.Grind.{common_steps}
 use Rattle.std.proofs.lemmas.Bool.{cases_lt}
 use Rattle.std.proofs.lemmas.Bool.Decides.{nat_tests}
 use Rattle.first_form.specs.Lines.{is_newline, ends_in_line, and_line, line_of, lines_below, lines_with}
@@ -53,8 +52,8 @@ line_within log k below = grind (arith, nat_tests)
 pushed : (lines log : List ℕ) (line i : ℕ) → i < length log → TableTo lines log line i → (k : ℕ) → k < i + 1 → get_or (lines ++ line ∷ []) k 0 ≡ line_of log k
 pushed lines log line i below so k within =
     ⊎_elim (λ (before : k < i). get_or-append lines (line ∷ []) 0 k (rw so.whole before) ∙ so.each k before)
-           (λ (after : i ≤ k). let same : k ≡ i = omega arith in rw same (get_or_push lines line 0 i so.whole ∙ so.next ∙ sym (line_within log i below)))
-           (cases_lt k i)
+    (λ (after : i ≤ k). let same : k ≡ i = omega arith in rw same (get_or_push lines line 0 i so.whole ∙ so.next ∙ sym (line_within log i below)))
+    (cases_lt k i)
 
 longer : (lines : List ℕ) (line i : ℕ) → length lines ≡ i → length (lines ++ line ∷ []) ≡ i + 1
 longer lines line i e = omega (arith, length-append lines (line ∷ []))
@@ -70,11 +69,11 @@ table_newline lines log line i below is so = record {
 pub table_other : (lines log : List ℕ) (line i : ℕ) → i < length log → get_or log i 0 ≢ 10 → TableTo lines log line i → TableTo (lines ++ line ∷ []) log line (i + 1)
 table_other lines log line i below other so =
     let no : is_newline (get_or log i 0) ≡ false = grind (arith, nat_tests) in record {
-  whole = longer lines line i so.whole;
-  each = pushed lines log line i below so;
-  next = rw (count_by_more_no is_newline log i 0 below no) so.next;
-  low = omega (arith, so.low);
-}
+      whole = longer lines line i so.whole;
+      each = pushed lines log line i below so;
+      next = rw (count_by_more_no is_newline log i 0 below no) so.next;
+      low = omega (arith, so.low);
+    }
 
 pub table_all : (lines log : List ℕ) (line i : ℕ) → i ≡ length log → TableTo lines log line i → IsTable lines log
 table_all lines log line i e so = record {

@@ -1,5 +1,5 @@
 -- Worlds that fit, with the facts that hold over them, and how a diagnosis is taken from them.
-use Rattle.std.specs.Prelude.{◌≡◌, ◌<◌, ◌↔◌, ◌⊎◌, ℕ, List, [], ◌∷◌, ◌++◌, Bool, true, false, not, Option, Some, None, Contains, length, slice_get, map}
+use Rattle.std.specs.Prelude.{◌≡◌, ◌<◌, ◌↔◌, ◌⊎◌, ℕ, List, [], ◌∷◌, ◌++◌, Bool, true, false, not, Option, Some, None, Contains, length, slice_get, remove}
 use Rattle.bit_words.specs.Worlds.{WorldTables}
 use Rattle.bit_words.specs.declared.fact.Fact.{Fact}
 use Rattle.first_form.specs.Among.{Among}
@@ -70,6 +70,13 @@ pub record Grows (old new : Listing) : Type 0 where
   pub more : List Candidate
   pub listed : new.listed ≡ old.listed ++ more
   pub keeps : (p : Program) (log : List ℕ) → IsListing p log old → IsListing p log new
+
+-- the candidate of the pool at this index is listed
+pub record Moves (old new : Listing) (index : ℕ) : Type 0 where
+  pub candidate : Candidate
+  pub at : slice_get old.pool index ≡ Some candidate
+  pub listed : new.listed ≡ old.listed ++ candidate ∷ []
+  pub pool : new.pool ≡ remove old.pool index
 
 -- a listed one, or none of the candidates has it
 abbrev pub FindsListed : Bool → Fact → Listing → Option ℕ → Type 0

@@ -37,7 +37,7 @@ fn world_of(alloc: Global, path: &[u64]) -> Result<World, AllocError>
 }
 
 /// The candidate of a path, where its run prints exactly the log.
-fn candidate(
+fn of_path(
     alloc: Global,
     unit: &Unit,
     lines: &LogLines,
@@ -55,7 +55,7 @@ fn candidate(
 }
 
 /// The candidates of all paths. It fails for want of memory alone.
-pub fn candidates(
+pub fn all_candidates(
     alloc: Global,
     unit: &Unit,
     lines: &LogLines,
@@ -65,7 +65,7 @@ pub fn candidates(
     let paths = list_paths(alloc, unit)?;
     let mut all = Items::new(alloc);
     for path in paths.as_slice() {
-        if let Some(found) = candidate(alloc, unit, lines, path.as_slice())? {
+        if let Some(found) = of_path(alloc, unit, lines, path.as_slice())? {
             all.push(found)?;
         }
     }

@@ -1,13 +1,12 @@
 //! The facts of a source and a log, and those that a run shows.
-ghost use Rattle.std.specs.Prelude.{◌≡◌, map, ◌↔◌, ◌++◌, ◌∷◌, [], IfOk, IsTrue, Contains};
-ghost use Rattle.bit_words.specs.declared.fact.Fact.{Fact};
+ghost use Rattle.std.specs.Prelude.{◌≡◌, map, ◌++◌, ◌∷◌, [], IfOk};
 ghost use Rattle.bit_words.specs.declared.fact.Fact.TheVariants as fact;
 ghost use Rattle.first_form.specs.Facts as spec;
-ghost use Rattle.first_form.specs.Facts.{stmt_facts, joined, facts_shown};
+ghost use Rattle.first_form.specs.Facts.{stmt_facts, joined};
 
 use crate::lines::LogLines;
 use crate::meaning::text_of;
-use bit_words::{Event, Fact, Finish, Happening, Run, Side};
+use bit_words::{Fact, Side};
 use c_tree::Stmt;
 use plain_data::{Items, Shared};
 use std::alloc::{AllocError, Global};
@@ -17,7 +16,10 @@ fn choice_facts(alloc: Global, at: u32, call: u32) -> Result<Items<Fact>, AllocE
     ensures { IfOk result (λ facts. facts ≡ spec.choice_facts at call) }
 {
     let mut facts = Items::new(alloc);
-    facts.push(Fact::Branch { at, side: Side::Yes })?;
+    facts.push(Fact::Branch {
+        at,
+        side: Side::Yes,
+    })?;
     facts.push(Fact::Branch { at, side: Side::No })?;
     facts.push(Fact::Call { at: call })?;
     Ok(facts)

@@ -1,6 +1,6 @@
 //! The worlds that a report lists, found as they are asked for.
-ghost use Rattle.std.specs.Prelude.{◌≡◌, OnOk, IfOk, not};
-ghost use Rattle.first_form.specs.Candidates.{Finds, Grows, FindsListed};
+ghost use Rattle.std.specs.Prelude.{◌≡◌, ◌<◌, length, OnOk, IfOk, not, true, false};
+ghost use Rattle.first_form.specs.Candidates.{Answers, Finds, Grows, FindsListed, Moves};
 
 use crate::candidate::Candidate;
 use bit_words::Fact;
@@ -14,12 +14,19 @@ pub struct Listing {
     pub pool: Items<Candidate>,
 }
 
+fn has(candidate: &Candidate, fact: &Fact) -> bool
+    ensures yes { result ≡ true → Answers true fact.now candidate.now }
+    ensures no { result ≡ false → Answers false fact.now candidate.now }
+{
+    candidate.facts.contains(fact)
+}
+
 /// The index of the first candidate that has the fact, or where `wanted` is not set that lacks it.
 fn first_with(all: &[Candidate], fact: &Fact, wanted: bool) -> Option<usize>
     ensures { Finds wanted fact.now all.now result }
 {
     for (index, candidate) in all.iter().enumerate() {
-        if candidate.facts.contains(fact) == wanted {
+        if has(candidate, fact) == wanted {
             return Some(index);
         }
     }
@@ -27,7 +34,7 @@ fn first_with(all: &[Candidate], fact: &Fact, wanted: bool) -> Option<usize>
 }
 
 /// Lists one more candidate of the pool.
-fn list(listing: &mut Listing, index: usize) -> Result<(), AllocError>
+fn move_up(listing: &mut Listing, index: usize) -> Result<(), AllocError>
     requires { index < length listing.old.pool }
     ensures { OnOk result (Moves listing.old listing.new index) }
 {
@@ -51,7 +58,7 @@ pub fn find(
     match first_with(listing.pool.as_slice(), fact, wanted) {
         None => Ok(None),
         Some(index) => {
-            list(listing, index)?;
+            move_up(listing, index)?;
             Ok(Some(listing.listed.len() - 1))
         }
     }

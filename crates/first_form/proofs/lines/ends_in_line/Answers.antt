@@ -1,4 +1,4 @@
-use Rattle.std.proofs.Common.{arith, ◌-◌, length, sym, suc, ◌≡◌}
+use Rattle.std.proofs.Common.{arith, ◌-◌, length, sym}
 use Rattle.first_form.proofs.LogLines.{ends_by_last}
 use Rattle.first_form.proofs.lines.ends_in_line.Goals as goal
 
