@@ -1,6 +1,6 @@
 -- The candidates of the paths are those of all worlds.
-use Rattle.std.proofs.Common.{◌≡◌, ◌<◌, ◌+◌, ℕ, Bool, true, false, List, [], ◌∷◌, ◌++◌, Option, Some, None, refl, sym, ap, ◌∙◌, subst, inl, inr, ◌⊎◌, ◌↔◌}
-use Rattle.std.specs.Prelude.{Contains}
+use Rattle.std.proofs.Common.{◌≡◌, ◌<◌, ◌+◌, ℕ, Bool, true, false, List, [], ◌∷◌, ◌++◌, Option, Some, None, refl, sym, ap, ◌∙◌, subst, inl, inr, ◌⊎◌, ◌↔◌, append-nil}
+use Rattle.std.specs.Prelude.{Contains, option_to_list}
 use Rattle.bit_words.specs.Worlds.{WorldTables, value_at}
 use Rattle.bit_words.specs.declared.fact.Fact.{Fact}
 use Rattle.bit_words.specs.declared.run.Run.{Run}
@@ -79,3 +79,8 @@ of_all p log all so_far = record {
       facts = λ fact. subst (λ (r : Run). Contains found.0.facts fact ↔ Contains (facts_shown log r) fact) c.2 (found.2 fact);
     };
 }
+
+pub of_next : (p : Program) (log : List ℕ) (paths : List (List ℕ)) (path : List ℕ) (all after : List Candidate) (found : Option Candidate) → OfPaths p log paths all → GivesCandidate p log path found → after ≡ all ++ option_to_list found → OfPaths p log (paths ++ path ∷ []) after
+of_next p log paths path all after None so_far gives is =
+    subst (OfPaths p log (paths ++ path ∷ [])) (sym (is ∙ append-nil all)) (of_no_more p log paths path all so_far gives)
+of_next p log paths path all after (Some c) so_far gives is = subst (OfPaths p log (paths ++ path ∷ [])) (sym is) (of_one_more p log paths path all c so_far gives)

@@ -7,3 +7,4 @@ mod FactOrder
 pub mod Worlds
 pub mod Candidates
 pub mod Listings
+pub mod Weighs

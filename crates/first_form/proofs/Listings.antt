@@ -1,5 +1,8 @@
 -- How listed candidates stand for all.
-use Rattle.std.proofs.Common.{◌≡◌, ◌<◌, ◌≤◌, ◌+◌, ◌-◌, ℕ, zero, suc, Bool, true, false, List, [], ◌∷◌, ◌++◌, take, drop, length, Option, Some, None, refl, sym, ap, ◌∙◌, subst, arith, inl, inr, ◌⊎◌, ◌↔◌, append-nil, append_assoc}
+use Rattle.std.proofs.Common.{◌≡◌, ◌<◌, ◌≤◌, ◌+◌, ◌-◌, ℕ, zero, suc, Bool, true, false, List, [], ◌∷◌, ◌++◌, take, drop, length, Option, Some, None, refl, sym, ap, ◌∙◌, subst, arith, inl, inr, ◌⊎◌, ◌↔◌, append-nil, append_assoc, get_or}
+use Rattle.std.proofs.lemmas.Option.{slice_get-get_or}
+use Rattle.std.proofs.lemmas.List.{length-append}
+use mathlib.Core.Bool.{beq}
 use Rattle.std.specs.Prelude.{Contains, not, map, slice_get, remove}
 use Rattle.bit_words.specs.declared.fact.Fact.{Fact}
 use Rattle.first_form.specs.Among.{Among}
@@ -140,3 +143,41 @@ first_moved wanted fact old new index m none f =
 
 pub none_of_both : (wanted : Bool) (fact : Fact) (l : Listing) → Finds wanted fact l.listed None → Finds wanted fact l.pool None → FindsListed wanted fact l None
 none_of_both wanted fact l listed pool c h = elim (among_cases c l.listed l.pool h) [ inl k ↦ listed c k | inr k ↦ pool c k ]
+
+pub none_listed : (wanted : Bool) (fact : Fact) (all other : List Candidate) → all ≡ other → Finds wanted fact all None → Finds wanted fact other None
+none_listed wanted fact all other e none = subst (λ (l : List Candidate). Finds wanted fact l None) e none
+
+pub first_listed : (wanted : Bool) (fact : Fact) (all other : List Candidate) (index : ℕ) → all ≡ other → IsFirstWith wanted fact all index → IsFirstWith wanted fact other index
+first_listed wanted fact all other index e first = subst (λ (l : List Candidate). IsFirstWith wanted fact l index) e first
+
+pub found_moved : (wanted : Bool) (fact : Fact) (old new : Listing) (index n : ℕ) → Moves old new index → Finds wanted fact old.listed None → IsFirstWith wanted fact old.pool index → n ≡ length new.listed → IsFirstWith wanted fact new.listed (n - 1)
+found_moved wanted fact old new index n m none f e =
+    let long : length new.listed ≡ length old.listed + 1 = ap length m.listed ∙ length-append old.listed (m.candidate ∷ []) in
+    let same : length old.listed ≡ n - 1 = omega arith in
+    subst (IsFirstWith wanted fact new.listed) same (first_moved wanted fact old new index m none f)
+
+-- ---- one test
+
+pub answers_yes : (b wanted : Bool) (fact : Fact) (c : Candidate) → (b ≡ true → Answers true fact c) → (b ≡ false → Answers false fact c) → beq b wanted ≡ true → Answers wanted fact c
+answers_yes true true fact c has lacks e = has refl
+answers_yes true false fact c has lacks e = cc
+answers_yes false true fact c has lacks e = cc
+answers_yes false false fact c has lacks e = lacks refl
+
+pub answers_no : (b wanted : Bool) (fact : Fact) (c : Candidate) → (b ≡ true → Answers true fact c) → (b ≡ false → Answers false fact c) → beq b wanted ≡ false → Answers (not wanted) fact c
+answers_no true true fact c has lacks e = cc
+answers_no true false fact c has lacks e = has refl
+answers_no false true fact c has lacks e = lacks refl
+answers_no false false fact c has lacks e = cc
+
+pub at_index : {X : Type 0} (xs : List X) (i : ℕ) (x : X) → i < length xs → x ≡ get_or xs i x → slice_get xs i ≡ Some x
+at_index xs i x h e = slice_get-get_or xs i x h ∙ ap Some (sym e)
+
+below_or_at : (k i : ℕ) → k < i + 1 → (k < i) ⊎ (k ≡ i)
+below_or_at k i h = grind arith
+
+pub up_to : {X : Type 0} (xs : List X) (i : ℕ) (P : X → Type 0) (x : X) → ((k : ℕ) (y : X) → k < i → slice_get xs k ≡ Some y → P y) → slice_get xs i ≡ Some x → P x → (k : ℕ) (y : X) → k < i + 1 → slice_get xs k ≡ Some y → P y
+up_to xs i P x below at here k y h e = elim (below_or_at k i h) [
+  | inl l ↦ below k y l e
+  | inr s ↦ subst P (some_is x y (sym at ∙ ap (slice_get xs) (sym s) ∙ e)) here
+]

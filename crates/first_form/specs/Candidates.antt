@@ -1,5 +1,6 @@
 -- Worlds that fit, with the facts that hold over them, and how a diagnosis is taken from them.
-use Rattle.std.specs.Prelude.{◌≡◌, ◌<◌, ◌↔◌, ◌⊎◌, ℕ, List, [], ◌∷◌, ◌++◌, Bool, true, false, not, Option, Some, None, Contains, length, slice_get, remove}
+use Rattle.std.specs.Prelude.{◌≡◌, ◌<◌, ◌+◌, ◌↔◌, ◌⊎◌, ℕ, List, [], ◌∷◌, ◌++◌, Bool, true, false, not, Option, Some, None, Contains, length, slice_get, remove, map}
+use Rattle.std.specs.List.{AllZip}
 use Rattle.bit_words.specs.Worlds.{WorldTables}
 use Rattle.bit_words.specs.declared.fact.Fact.{Fact}
 use Rattle.first_form.specs.Among.{Among}
@@ -7,7 +8,9 @@ use Rattle.first_form.specs.Form.{Program}
 use Rattle.first_form.specs.Meaning.{run_of}
 use Rattle.first_form.specs.Paths.{taken}
 use Rattle.first_form.specs.Facts.{facts_shown}
-use Rattle.first_form.specs.Verdicts.{Words, words_of, Fits, Holds}
+use Rattle.first_form.specs.Verdicts.{Words, words_of, Fits, Holds, IsJust}
+use Rattle.first_form.specs.declared.verdict.Verdict.{Verdict}
+use Rattle.first_form.specs.declared.verdict.Verdict.TheVariants.{Must, MustNot, May}
 use Rattle.first_form.specs.declared.candidate.Candidate.{Candidate}
 use Rattle.first_form.specs.declared.listing.Listing.{Listing}
 
@@ -82,3 +85,19 @@ pub record Moves (old new : Listing) (index : ℕ) : Type 0 where
 abbrev pub FindsListed : Bool → Fact → Listing → Option ℕ → Type 0
 FindsListed wanted fact l None = (c : Candidate) → Among c (l.listed ++ l.pool) → Answers (not wanted) fact c
 FindsListed wanted fact l (Some index) = IsFirstWith wanted fact l.listed index
+
+abbrev pub worlds_of : List Candidate → List WorldTables
+worlds_of all = map (λ c. c.world) all
+
+-- a verdict that is just over the worlds that are listed in the end
+abbrev pub IsJustFrom : Listing → Listing → Fact → Verdict → Type 0
+IsJustFrom old new fact verdict = (p : Program) (log : List ℕ) → IsListing p log old → IsJust p log (worlds_of new.listed) fact verdict
+
+abbrev pub AreJustFrom : Listing → Listing → List Fact → List Verdict → Type 0
+AreJustFrom old new facts verdicts = (p : Program) (log : List ℕ) → IsListing p log old → AllZip (IsJust p log (worlds_of new.listed)) facts verdicts
+
+-- must where none lacks the fact, mustnot where none has it, and else may by the first of each
+abbrev pub GivesVerdict : Option ℕ → Option ℕ → Verdict → Type 0
+GivesVerdict having None verdict = verdict ≡ Must
+GivesVerdict None (Some lacking) verdict = verdict ≡ MustNot
+GivesVerdict (Some having) (Some lacking) verdict = verdict ≡ May (having + 1) (lacking + 1)

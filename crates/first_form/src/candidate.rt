@@ -1,5 +1,5 @@
 //! Worlds that fit, each with the facts that hold over it.
-ghost use Rattle.std.specs.Prelude.{◌≡◌, IfOk, ℕ, ◌==◌, nat_eq};
+ghost use Rattle.std.specs.Prelude.{◌≡◌, ◌++◌, IfOk, OnOk, ℕ, option_to_list};
 ghost use Rattle.first_form.specs.Candidates.{GivesCandidate, AreCandidates};
 ghost use Rattle.first_form.specs.Meaning.{answers_of};
 ghost use Rattle.first_form.specs.Paths.{taken};
@@ -54,6 +54,15 @@ fn of_path(
     Ok(Some(Candidate { world, facts }))
 }
 
+fn push_found(all: &mut Items<Candidate>, found: Option<Candidate>) -> Result<(), AllocError>
+    ensures { OnOk result (all.new ≡ all.old ++ option_to_list found) }
+{
+    match found {
+        Some(candidate) => all.push(candidate),
+        None => Ok(()),
+    }
+}
+
 /// The candidates of all paths. It fails for want of memory alone.
 pub fn all_candidates(
     alloc: Global,
@@ -65,9 +74,8 @@ pub fn all_candidates(
     let paths = list_paths(alloc, unit)?;
     let mut all = Items::new(alloc);
     for path in paths.as_slice() {
-        if let Some(found) = of_path(alloc, unit, lines, path.as_slice())? {
-            all.push(found)?;
-        }
+        let found = of_path(alloc, unit, lines, path.as_slice())?;
+        push_found(&mut all, found)?;
     }
     Ok(all)
 }

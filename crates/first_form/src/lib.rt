@@ -12,3 +12,4 @@ pub mod meaning;
 pub mod paths;
 pub mod shown;
 pub mod verdict;
+pub mod weigh;

@@ -34,7 +34,7 @@ fn first_with(all: &[Candidate], fact: &Fact, wanted: bool) -> Option<usize>
 }
 
 /// Lists one more candidate of the pool.
-fn move_up(listing: &mut Listing, index: usize) -> Result<(), AllocError>
+pub fn move_up(listing: &mut Listing, index: usize) -> Result<(), AllocError>
     requires { index < length listing.old.pool }
     ensures { OnOk result (Moves listing.old listing.new index) }
 {
