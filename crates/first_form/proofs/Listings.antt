@@ -19,7 +19,7 @@ among_get [] x h = absurd h
 among_get (y ∷ ys) x (inl e) = (zero, omega arith, ap Some (sym e))
 among_get (y ∷ ys) x (inr h) = let r = among_get ys x h in (suc r.0, omega (arith, r.1), r.2)
 
-some_is : {X : Type 0} (x y : X) → ◌≡◌ {A = Option X} (Some x) (Some y) → x ≡ y
+pub some_is : {X : Type 0} (x y : X) → ◌≡◌ {A = Option X} (Some x) (Some y) → x ≡ y
 some_is x y e = cc
 
 pub among_at : {X : Type 0} (xs : List X) (k : ℕ) (x : X) → slice_get xs k ≡ Some x → Among x xs

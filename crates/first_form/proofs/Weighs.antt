@@ -15,7 +15,9 @@ use Rattle.first_form.specs.declared.verdict.Verdict.{Verdict}
 use Rattle.first_form.specs.declared.verdict.Verdict.TheVariants.{Must, MustNot, May}
 use Rattle.first_form.specs.declared.verdict.Findings.{Findings}
 use Rattle.first_form.proofs.Cover.{among_left}
-use Rattle.first_form.proofs.Listings.{get-append, get_within, among_at, some_is}
+use Rattle.first_form.proofs.Listings.{get-append, get_within, among_at, some_is, grows_both}
+use Rattle.std.proofs.lemmas.List.{take_more}
+use Rattle.std.proofs.lemmas.Option.{get_or_from_slice_get}
 
 -- ---- worlds of candidates
 
@@ -169,3 +171,11 @@ found p log start first last facts verdicts worlds empty are moved one g just al
       verdicts = subst (λ (ws : List WorldTables). AllZip (IsJust p log ws) (facts_of p log) verdicts) (sym same)
         (subst (λ (fs : List Fact). AllZip (IsJust p log (worlds_of last.listed)) fs verdicts) all (just p log is_first));
     }
+
+take_get : {X : Type 0} (xs : List X) (i : ℕ) (x : X) → slice_get xs i ≡ Some x → take (i + 1) xs ≡ take i xs ++ x ∷ []
+take_get xs i x e = take_more xs i x (get_within xs i x e) ∙ ap (λ y. take i xs ++ y ∷ []) (get_or_from_slice_get xs i x x e)
+
+pub one_weighed_at : (start now next : Listing) (facts : List Fact) (index : ℕ) (fact : Fact) (verdicts : List Verdict) (verdict : Verdict) (after : List Verdict) → SoFar start now (take index facts) verdicts → Grows now next → IsJustFrom now next fact verdict → slice_get facts index ≡ Some fact → after ≡ verdicts ++ verdict ∷ [] → SoFar start next (take (index + 1) facts) after
+one_weighed_at start now next facts index fact verdicts verdict after s g j at is =
+    let one = one_weighed start now next (take index facts) verdicts fact verdict s (grows_both start now next s.grows g) g j in
+    subst (λ (fs : List Fact). SoFar start next fs after) (sym (take_get facts index fact at)) (subst (SoFar start next (take index facts ++ fact ∷ [])) (sym is) one)

@@ -1,5 +1,5 @@
 //! Verdicts, taken from the candidates of all paths.
-ghost use Rattle.std.specs.Prelude.{◌≡◌, OnOk, IfOk, map};
+ghost use Rattle.std.specs.Prelude.{◌≡◌, ◌+◌, ◌<◌, length, slice_get, Some, OnOk, IfOk};
 ghost use Rattle.first_form.specs.Candidates.{Grows, IsJustFrom, AreJustFrom, FindsListed, worlds_of, GivesVerdict};
 ghost use Rattle.first_form.specs.Facts as spec;
 ghost use Rattle.first_form.specs.Verdicts.{Diagnoses};
@@ -48,7 +48,15 @@ fn weigh_fact(listing: &mut Listing, fact: &Fact) -> Result<Verdict, AllocError>
 {
     let having = find(listing, fact, true)?;
     let lacking = find(listing, fact, false)?;
-    verdict_from(having, lacking)
+    let verdict = verdict_from(having, lacking)?;
+    Ok(verdict)
+}
+
+fn fact_at(facts: &[Fact], index: usize) -> &Fact
+    requires { index < length facts.now }
+    ensures { slice_get facts.now index ≡ Some result.now }
+{
+    &facts[index]
 }
 
 /// The verdicts on facts, in order.
@@ -61,8 +69,8 @@ fn weigh_all(
     ensures just { IfOk result (λ verdicts. AreJustFrom listing.old listing.new facts.now verdicts) }
 {
     let mut all = Items::new(alloc);
-    for fact in facts {
-        let verdict = weigh_fact(listing, fact)?;
+    for index in 0..facts.len() {
+        let verdict = weigh_fact(listing, fact_at(facts, index))?;
         all.push(verdict)?;
     }
     Ok(all)
