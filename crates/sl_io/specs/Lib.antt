@@ -6,3 +6,5 @@ pub mod Puts
 pub mod Writes
 pub mod MemoryShelves
 pub mod MemorySinks
+pub mod FailingShelves
+pub mod FailingSinks

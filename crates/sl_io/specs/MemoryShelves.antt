@@ -5,12 +5,18 @@ use Rattle.sl_io.specs.Counts.{capped_sum}
 use Rattle.sl_io.specs.ShelfStates.{Files, ShelfState}
 use Rattle.sl_io.specs.declared.faults.GetFault.{GetFault}
 use Rattle.sl_io.specs.declared.faults.GetFault.TheVariants.{Failed, TooLong, Memory}
+use Rattle.sl_io.specs.declared.faults.PutFault.{PutFault}
+use Rattle.sl_io.specs.declared.faults.PutFault.TheVariants as put
 use Rattle.sl_io.specs.declared.mem_shelf.MemShelf.{MemShelf}
 use Rattle.sl_io.specs.declared.mem_shelf.ShelfCounts.{ShelfCounts}
 
 -- the bytes under each name
 abbrev pub held : MemShelf → Files
 held shelf name = get_by_text shelf.files name
+
+-- what it counted
+abbrev pub counted : MemShelf → ShelfCounts
+counted shelf = shelf.counts
 
 -- the files are told, and one number of each kind stands for all names
 abbrev pub told_state : Files → ShelfCounts → ShelfState
@@ -23,7 +29,7 @@ told_state files counts = record {
 }
 
 abbrev pub shelf_state : MemShelf → ShelfState
-shelf_state shelf = told_state (held shelf) shelf.counts
+shelf_state shelf = told_state (held shelf) (counted shelf)
 
 abbrev pub no_counts : ShelfCounts
 no_counts = record { taken = 0; get_faults = 0; put_faults = 0; long_reads = 0 }
@@ -41,6 +47,12 @@ got_count counts limit (Ok bytes) = record counts { taken = capped_sum counts.ta
 got_count counts limit (Err Failed) = record counts { get_faults = capped_sum counts.get_faults 1 }
 got_count counts limit (Err TooLong) = record counts { taken = capped_sum counts.taken (limit + 1); long_reads = capped_sum counts.long_reads 1 }
 got_count counts limit (Err Memory) = counts
+
+-- the counts after a put with this answer
+abbrev pub put_count : ShelfCounts → Result (Unit {0}) PutFault → ShelfCounts
+put_count counts (Ok done) = counts
+put_count counts (Err put.Failed) = record counts { put_faults = capped_sum counts.put_faults 1 }
+put_count counts (Err put.Memory) = counts
 
 -- the answer to a get, where there is memory for it
 abbrev pub answer_of : Option (List ℕ) → ℕ → Result (List ℕ) GetFault

@@ -1,14 +1,21 @@
 //! The traits by which the files and the streams outside are reached, and implementations in memory.
 #![tactic(auto)]
 
+mod fail_shelf;
+mod fail_sink;
 mod faults;
 mod mem_shelf;
 mod mem_sink;
 mod shelf;
 mod sink;
 
+pub use fail_shelf::FailShelf;
+pub use fail_sink::{FailSink, FailedWrite};
 pub use faults::{GetFault, PutFault, SinkFault};
 pub use mem_shelf::{MemShelf, ShelfCounts};
 pub use mem_sink::MemSink;
 pub use shelf::Shelf;
-pub use sink::{Sink, tell};
+pub use sink::{Sink, tell, write_pieces};
+
+#[cfg(test)]
+mod tests;

@@ -1,6 +1,5 @@
 ghost use Rattle.std.specs.Prelude.{◌≡◌, ◌≤◌, ◌<◌, ◌+◌, ◌++◌, [], length, vec_len, vec_capacity, IfOk, OnOk, OnErr};
-ghost use Rattle.sl_io.specs.Counts.{capped_sum};
-ghost use Rattle.sl_io.specs.MemorySinks.{Buffered, sink_state};
+ghost use Rattle.sl_io.specs.MemorySinks.{Buffered, sink_state, IsWritten, failed_after};
 ghost use Rattle.sl_io.specs.Writes.{Writes};
 
 use crate::faults::SinkFault;
@@ -59,6 +58,17 @@ impl MemSink {
     {
         self.room
     }
+
+    /// Writes these bytes where they fit, and fails all the same.
+    pub(crate) fn fail_after(&mut self, front: &[u8]) -> SinkFault
+        ensures written { self.new ≡ failed_after self.old front.now }
+        ensures later { self.old.faults ≤ self.new.faults }
+    {
+        if self.write(front).is_ok() {
+            self.faults = self.faults.saturating_add(1);
+        }
+        SinkFault::Failed
+    }
 }
 
 impl Sink for MemSink {
@@ -66,10 +76,7 @@ impl Sink for MemSink {
 
     fn write(&mut self, piece: &[u8]) -> Result<(), SinkFault>
         ensures meets { Writes (sink_state self.old) (sink_state self.new) piece.now result }
-        ensures ok { OnOk result (self.new ≡ record self.old { bytes = self.old.bytes ++ piece.now }) }
-        ensures fits { OnOk result (length self.old.bytes + length piece.now ≤ self.old.room) }
-        ensures err { OnErr result (self.new ≡ record self.old { faults = capped_sum self.old.faults 1 }) }
-        ensures full { OnErr result (self.old.room < length self.old.bytes + length piece.now) }
+        ensures answer { IsWritten self.old self.new piece.now result }
     {
         if self.room - self.bytes.len() < piece.len() {
             self.faults = self.faults.saturating_add(1);

@@ -1,3 +1,4 @@
+ghost use Rattle.std.specs.List.{flat_map};
 ghost use Rattle.sl_io.specs.SinkStates.{SinkState};
 ghost use Rattle.sl_io.specs.Writes.{Writes, Told};
 
@@ -10,6 +11,16 @@ pub trait Sink {
     /// Writes the whole piece, or fails after a prefix of it.
     fn write(&mut self, piece: &[u8]) -> Result<(), SinkFault>
         ensures { Writes (state self.old) (state self.new) piece.now result };
+}
+
+/// Writes pieces one behind the other, and fails after a prefix of their bytes.
+pub fn write_pieces<O: Sink>(out: &mut O, pieces: &[&[u8]]) -> Result<(), SinkFault>
+    ensures { Writes (O.state out.old) (O.state out.new) (flat_map (λ piece. piece.now) pieces.now) result }
+{
+    for piece in pieces {
+        out.write(piece)?;
+    }
+    Ok(())
 }
 
 /// Writes a piece that nobody waits for: a fault is counted by the sink and changes nothing else.
