@@ -1,5 +1,5 @@
 -- A test of each element of a list, read element by element.
-use Rattle.std.proofs.Common.{◌≡◌, ◌+◌, ℕ, List, Some, Bool, true, false, take, get_or, ap, sym, ◌∙◌}
+use Rattle.std.proofs.Common.{◌≡◌, ◌+◌, ℕ, List, Some, Bool, true, false, take, get_or, ap, ◌∙◌}
 use Rattle.std.specs.List.{slice_get, list_all}
 use Rattle.std.proofs.lemmas.Option.{slice_get_within, get_or_from_slice_get}
 use Rattle.std.proofs.lemmas.List.Folds.{list_all_more, list_all_at}

@@ -1,5 +1,5 @@
 -- Equality of literals is an equivalence.
-use Rattle.std.proofs.Common.{◌≡◌, ℕ, Bool, true, false, ◌&&◌, eqb, refl, sym, ap, ◌∙◌, inl, inr}
+use Rattle.std.proofs.Common.{◌≡◌, Bool, true, false, eqb, refl, sym, ap, ◌∙◌, inl, inr}
 use Rattle.std.specs.Cmp.{IsPartialEquivalence, IsEquivalence}
 use Rattle.std.proofs.lemmas.Bool.{eqb-true, eq-eqb, and_parts, false_from_ne_true, cases_Bool}
 use mathlib.Core.Bool.{beq}

@@ -11,3 +11,5 @@ pub use clause::Clause;
 pub use formula::Formula;
 pub use lit::Lit;
 
+#[cfg(test)]
+mod tests;

@@ -7,3 +7,4 @@ pub mod StepLemmas
 pub mod RoomLemmas
 pub mod FaultLemmas
 pub mod Soundness
+mod Rows

@@ -160,11 +160,7 @@ fn push_variables(variables: &mut Vec<u32>, literals: &[Lit]) -> Result<(), Allo
 }
 
 /// The variables of a formula and of steps in rising order, each once.
-fn rising_variables(
-    alloc: Global,
-    formula: &Formula,
-    steps: &Steps,
-) -> Result<Vec<u32>, AllocError>
+fn rising_variables(alloc: Global, formula: &Formula, steps: &Steps) -> Result<Vec<u32>, AllocError>
     ensures rising { IfOk result (λ v. IsStrictlyIncreasing v.items) }
     ensures all { IfOk result (λ v. (x : ℕ) → Occurs formula.now steps.now x → Contains v.items x) }
     ensures only { IfOk result (λ v. (x : ℕ) → Contains v.items x → Occurs formula.now steps.now x) }

@@ -5,7 +5,6 @@
 mod checker;
 mod fault;
 mod marks;
-
 mod propagation;
 mod steps;
 
@@ -13,3 +12,5 @@ pub use checker::{Checker, RoomFault};
 pub use fault::StepFault;
 pub use steps::{Refutation, Step, Steps, Trail};
 
+#[cfg(test)]
+mod tests;
