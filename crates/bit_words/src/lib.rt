@@ -2,5 +2,12 @@
 #![tactic(auto)]
 
 mod bytes;
+mod width;
+mod words;
 
 pub use bytes::{Bytes, Numbers};
+pub use width::Width;
+pub use words::{
+    add, add_over, ashr, lshr, mul, mul_over, sdiv, shl, shl_over, slt, srem, sub, sub_over,
+    to_signed, udiv, ult, urem, wrap,
+};
