@@ -1,0 +1,9 @@
+//! printf formats, and the texts that they make of arguments (C99 7.19.6.1).
+#![tactic(auto)]
+
+mod parse;
+mod piece;
+mod text;
+
+pub use parse::{FormatFault, parse_format};
+pub use piece::{Arg, Args, Conversion, Flags, Form, Piece, Pieces, Radix, Size};
