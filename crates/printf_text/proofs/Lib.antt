@@ -1,2 +1,4 @@
 pub mod Reading
 pub mod Parsing
+pub mod Digits
+pub mod Writing

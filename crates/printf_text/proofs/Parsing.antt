@@ -100,6 +100,7 @@ step_short left at bytes s h e = by (after 37 bytes) refl e
     counted_rest Percent (suc n) rest k = cc
     counted_rest (Accepted c) zero rest k = absurd (cc)
     counted_rest (Accepted c) (suc n) rest k = cc
+
     plain_short : (bs : List ℕ) → 0 < length bs → after 37 bs ≡ None → length (after_run is_plain bs) < length bs
     plain_short [] k n = absurd (omega arith)
     plain_short (b ∷ bs) k n = tested (b == 37) refl n
@@ -109,6 +110,7 @@ step_short left at bytes s h e = by (after 37 bytes) refl e
         tested false u v =
             let one : prefix_len is_plain (b ∷ bs) ≡ 1 + prefix_len is_plain bs = rw u in
             omega (arith, length-drop (prefix_len is_plain (b ∷ bs)) (b ∷ bs))
+
     by : (o : Option (List ℕ)) → after 37 bytes ≡ o → stepped left at bytes o ≡ Ok s → length s.rest < length bytes
     by (Some rest) a k =
         let r : s.rest ≡ (conversion_at rest).rest = counted_rest (conversion_at rest).part left (conversion_at rest).rest k in
@@ -136,7 +138,7 @@ IsReading-more size whole pieces left rest s r h e = by r.fuel rest r.enough r.w
           fuel = fuel;
           enough = omega arith;
           within = omega arith;
-          whole_is = sym (joined-before pieces s.piece (pieces_from fuel size s.left s.rest)) ∙ sym (ap (λ x. joined pieces (followed (λ left' rest'. pieces_from fuel size left' rest') x)) e) ∙ w
+          whole_is = sym (joined-before pieces s.piece (pieces_from fuel size s.left s.rest)) ∙ sym (ap (λ x. joined pieces (followed (λ left' rest'. pieces_from fuel size left' rest') x)) e) ∙ w;
         }
 
 pub IsReading-fault : (size : ℕ) (whole : Result (List Piece) FormatFault) (pieces : List Piece) (left : ℕ) (rest : List ℕ) (fault : FormatFault)

@@ -45,7 +45,7 @@ flags_of bytes = record {
   plus = list_any (λ b. b == 43) bytes;
   space = list_any (λ b. b == 32) bytes;
   alternate = list_any (λ b. b == 35) bytes;
-  zero = list_any (λ b. b == 48) bytes
+  zero = list_any (λ b. b == 48) bytes;
 }
 
 -- the number that decimal digits write

@@ -47,9 +47,12 @@ form_kind Text = text
 form_kind Pointer = pointer
 
 -- the width's argument, the precision's, and the one that is converted (7.19.6.1p5)
+abbrev pub conversion_kinds : Conversion → List Kind
+conversion_kinds c = size_kinds c.width ++ size_kinds c.precision ++ form_kind c.form ∷ []
+
 abbrev pub piece_kinds : Piece → List Kind
 piece_kinds (Literal bytes) = []
-piece_kinds (Converted c) = size_kinds c.width ++ size_kinds c.precision ++ form_kind c.form ∷ []
+piece_kinds (Converted c) = conversion_kinds c
 
 abbrev pub kinds : List Piece → List Kind
 kinds [] = []
@@ -94,6 +97,11 @@ abbrev pub digits : Radix → ℕ → ℕ → List ℕ
 digits radix least n =
     let written = map (digit radix) (digits_of (base radix) n) in replicate (least - length written) 48 ++ written
 
+-- no zero stands first
+abbrev pub HasNoLeadingZero : List ℕ → Type 0
+HasNoLeadingZero [] = Unit {0}
+HasNoLeadingZero (d ∷ ds) = d ≢ 48
+
 -- ---- the parts of a converted argument's text
 
 pub record Parts : Type 0 where
@@ -135,14 +143,14 @@ abbrev pub signed_parts : Flags → ℤ → ℤ → Parts
 signed_parts flags precision z = record {
   sign = sign_of flags z;
   prefix = [];
-  body = digits Decimal (digits_wanted precision) (unsigned_abs z)
+  body = digits Decimal (digits_wanted precision) (unsigned_abs z);
 }
 
 abbrev pub unsigned_parts : Flags → Radix → ℤ → ℕ → Parts
 unsigned_parts flags radix precision n = record {
   sign = [];
   prefix = prefix_of flags radix n;
-  body = marked flags radix (digits radix (digits_wanted precision) n)
+  body = marked flags radix (digits radix (digits_wanted precision) n);
 }
 
 -- bytes that stand as they are

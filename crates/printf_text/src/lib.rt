@@ -3,7 +3,8 @@
 
 mod parse;
 mod piece;
-mod text;
+mod printing;
 
 pub use parse::{FormatFault, parse_format};
 pub use piece::{Arg, Args, Conversion, Flags, Form, Piece, Pieces, Radix, Size};
+pub use printing::{TextFault, text};

@@ -3,11 +3,10 @@ ghost use Rattle.printf_text.specs.declared.piece.Size.{Size};
 ghost use Rattle.std.specs.List.{prefix_len};
 ghost use Rattle.printf_text.specs.Pieces.{taken, has_accepted_parts, number_or, star_or_number, precision_after, specified, run, after_run, after, is_flag, is_digit, is_plain, flags_of, decimal, width_at, precision_at, length_at, form_of, is_accepted, is_in_limit, conversion_at, specification_at, step_of, format_text, pieces_of};
 
+use crate::piece::{Conversion, Flags, Form, Piece, Pieces, Radix, Size};
 use bit_words::{Bytes, Width};
 use std::alloc::Global;
 use thiserror::Error;
-
-use crate::piece::{Conversion, Flags, Form, Piece, Pieces, Radix, Size};
 
 /// Why a format has no pieces.
 #[derive(Clone, Copy, Debug, PartialEq, Eq, Drop, Error)]
@@ -219,11 +218,19 @@ fn read_specification(bytes: &[u8]) -> (Reading, &[u8])
     let [letter, rest @ ..] = bytes else {
         return (Reading::Cut, bytes);
     };
-    (accepted(flags, width, precision, form_of(size, *letter)), rest)
+    (
+        accepted(flags, width, precision, form_of(size, *letter)),
+        rest,
+    )
 }
 
 /// The conversion of these parts, where it is of an accepted form.
-fn accepted(flags: Flags, width: Option<Size>, precision: Option<Size>, form: Option<Form>) -> Reading
+fn accepted(
+    flags: Flags,
+    width: Option<Size>,
+    precision: Option<Size>,
+    form: Option<Form>,
+) -> Reading
     ensures { (w p : Size) → width ≡ taken w → precision ≡ taken p → result ≡ specified flags w p form }
 {
     if let (Some(width), Some(precision), Some(form)) = (width, precision, form) {
@@ -260,7 +267,12 @@ struct Step<'a> {
 }
 
 /// The first piece of a text that stands at this offset, where so many conversions may come.
-fn first_piece<'a>(alloc: Global, left: u32, at: usize, bytes: &'a [u8]) -> Result<Step<'a>, FormatFault>
+fn first_piece<'a>(
+    alloc: Global,
+    left: u32,
+    at: usize,
+    bytes: &'a [u8],
+) -> Result<Step<'a>, FormatFault>
     ensures ok { IfOk result (λ s. step_of left at bytes.now ≡ Ok (record { piece = s.piece; left = s.left; rest = s.rest.now })) }
     ensures fault { IfErr result (λ e. e ≢ FormatFault.Memory → step_of left at bytes.now ≡ Err e) }
 {
