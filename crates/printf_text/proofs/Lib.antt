@@ -2,3 +2,4 @@ pub mod Reading
 pub mod Parsing
 pub mod Digits
 pub mod Writing
+pub mod KindLemmas

@@ -5,12 +5,13 @@ use Rattle.std.proofs.lemmas.List.{length-append, drop-drop}
 use Rattle.std.proofs.Math.Seq.{take-length}
 use Rattle.std.proofs.lemmas.Int.Digits.{first_digits_of}
 use Rattle.std.proofs.lemmas.Bool.Decides.{nat_tests}
-use Rattle.printf_text.specs.Texts.{Kind, HasKind, HaveKinds, BeginsWithKinds, kinds, piece_kinds, base, digit, HasNoLeadingZero, marked, with_zero, piece_text, text_of}
+use Rattle.printf_text.specs.Texts.{HasKind, HaveKinds, BeginsWithKinds, kinds, piece_kinds, base, digit, HasNoLeadingZero, marked, with_zero, piece_text, text_of}
 use Rattle.printf_text.proofs.Digits.{base_least}
 use Rattle.printf_text.specs.declared.piece.Flags.{Flags}
 use Rattle.printf_text.specs.declared.piece.Radix.{Radix}
 use Rattle.printf_text.specs.declared.piece.Radix.TheVariants.{Decimal, Octal, LowerHex, UpperHex}
 use Rattle.printf_text.specs.declared.piece.Piece.{Piece}
+use Rattle.printf_text.specs.declared.kind.Kind.{Kind}
 use Rattle.printf_text.specs.declared.piece.Arg.{Arg}
 
 -- no digit but that of 0 is written `0`

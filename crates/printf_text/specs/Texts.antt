@@ -15,36 +15,32 @@ use Rattle.printf_text.specs.declared.piece.Form.TheVariants.{Signed, Unsigned, 
 use Rattle.printf_text.specs.declared.piece.Conversion.{Conversion}
 use Rattle.printf_text.specs.declared.piece.Piece.{Piece}
 use Rattle.printf_text.specs.declared.piece.Piece.TheVariants.{Literal, Converted}
+use Rattle.printf_text.specs.declared.kind.Kind.{Kind}
+use Rattle.printf_text.specs.declared.kind.Kind.TheVariants as kind
 use Rattle.printf_text.specs.declared.piece.Arg.{Arg}
 use Rattle.printf_text.specs.declared.piece.Arg.TheVariants as arg
 
 -- ---- what a piece asks of its arguments
 
--- an integer for `d i u o x X c *`, a text for `s`, a pointer for `p`
-pub data Kind : Type 0 where
-  integer : Kind
-  text : Kind
-  pointer : Kind
-
 -- the argument has the kind: a word in its range, a text without a byte 0, a pointer by a number other than 0
 abbrev pub HasKind : Kind → Arg → Type 0
-HasKind integer (arg.Word a width sign) = a < 2 ^ bits width
-HasKind text (arg.Text bytes) = All (λ b. (b ≢ 0) × (b < 256)) bytes
-HasKind pointer arg.Null = Unit {0}
-HasKind pointer (arg.Shown n) = (n ≢ 0) × (n < 2 ^ 64)
+HasKind kind.Integer (arg.Word a width sign) = a < 2 ^ bits width
+HasKind kind.Text (arg.Text bytes) = All (λ b. (b ≢ 0) × (b < 256)) bytes
+HasKind kind.Pointer arg.Null = Unit {0}
+HasKind kind.Pointer (arg.Shown n) = (n ≢ 0) × (n < 2 ^ 64)
 HasKind _ _ = ⊥
 
 abbrev pub size_kinds : Size → List Kind
 size_kinds Omitted = []
 size_kinds (Written n) = []
-size_kinds Star = integer ∷ []
+size_kinds Star = kind.Integer ∷ []
 
 abbrev pub form_kind : Form → Kind
-form_kind (Signed width) = integer
-form_kind (Unsigned radix width) = integer
-form_kind Char = integer
-form_kind Text = text
-form_kind Pointer = pointer
+form_kind (Signed width) = kind.Integer
+form_kind (Unsigned radix width) = kind.Integer
+form_kind Char = kind.Integer
+form_kind Text = kind.Text
+form_kind Pointer = kind.Pointer
 
 -- the width's argument, the precision's, and the one that is converted (7.19.6.1p5)
 abbrev pub conversion_kinds : Conversion → List Kind
@@ -61,14 +57,14 @@ kinds (piece ∷ pieces) = piece_kinds piece ++ kinds pieces
 -- one argument for each kind
 abbrev pub HaveKinds : List Kind → List Arg → Type 0
 HaveKinds [] [] = Unit {0}
-HaveKinds (kind ∷ kinds) (a ∷ args) = HasKind kind a × HaveKinds kinds args
+HaveKinds (k ∷ kinds) (a ∷ args) = HasKind k a × HaveKinds kinds args
 HaveKinds _ _ = ⊥
 
 -- the first arguments have these kinds
 abbrev pub BeginsWithKinds : List Kind → List Arg → Type 0
 BeginsWithKinds [] args = Unit {0}
-BeginsWithKinds (kind ∷ kinds) [] = ⊥
-BeginsWithKinds (kind ∷ kinds) (a ∷ args) = HasKind kind a × BeginsWithKinds kinds args
+BeginsWithKinds (k ∷ kinds) [] = ⊥
+BeginsWithKinds (k ∷ kinds) (a ∷ args) = HasKind k a × BeginsWithKinds kinds args
 
 -- ---- numbers
 

@@ -3,8 +3,9 @@ ghost use Rattle.std.specs.Int.{is_negative};
 ghost use Rattle.bit_words.specs.Words.{bits, word, signed};
 ghost use Rattle.std.specs.Int.Digits.{digits_of};
 ghost use Rattle.printf_text.specs.Written.{parts_of};
-ghost use Rattle.printf_text.specs.Texts.{piece_text, fills_zeros, Kind, HasNoLeadingZero, marked, in_field, digits_wanted, conversion_kinds, integer, text, pointer, HasKind, HaveKinds, BeginsWithKinds, kinds, piece_kinds, size_kinds, form_kind, number_of, size_of, base, digit, sign_of, prefix_of, signed_parts, unsigned_parts, plain, pointer_parts, text_bytes, cut, formed, conversion_text, text_of};
+ghost use Rattle.printf_text.specs.Texts.{piece_text, fills_zeros, HasNoLeadingZero, marked, in_field, digits_wanted, conversion_kinds, HasKind, HaveKinds, BeginsWithKinds, kinds, piece_kinds, size_kinds, form_kind, number_of, size_of, base, digit, sign_of, prefix_of, signed_parts, unsigned_parts, plain, pointer_parts, text_bytes, cut, formed, conversion_text, text_of};
 
+use crate::kind::Kind;
 use crate::piece::{Arg, Args, Conversion, Flags, Form, Piece, Pieces, Radix, Size};
 use bit_words::{Bytes, Width, to_signed, wrap};
 use std::alloc::{AllocError, Global};
@@ -20,7 +21,7 @@ pub enum TextFault {
 
 /// An integer argument's number.
 fn number_of(arg: &Arg) -> i128
-    requires { HasKind integer arg.now }
+    requires { HasKind Kind.Integer arg.now }
     ensures { result ≡ number_of arg.now }
 {
     match arg {
@@ -36,7 +37,7 @@ fn number_of(arg: &Arg) -> i128
 
 /// An integer argument, converted to an unsigned type of this width.
 fn word_of(arg: &Arg, width: Width) -> u64
-    requires { HasKind integer arg.now }
+    requires { HasKind Kind.Integer arg.now }
     ensures value { result ≡ word width (number_of arg.now) }
     ensures within { result < 2 ^ bits width }
 {
@@ -45,7 +46,7 @@ fn word_of(arg: &Arg, width: Width) -> u64
 
 /// An integer argument, converted to a signed type of this width.
 fn signed_of(arg: &Arg, width: Width) -> i64
-    requires { HasKind integer arg.now }
+    requires { HasKind Kind.Integer arg.now }
     ensures { result ≡ signed width (word width (number_of arg.now)) }
 {
     to_signed(word_of(arg, width), width)
@@ -303,7 +304,7 @@ fn write_unsigned(
 
 /// Puts a pointer's text at the end.
 fn write_pointer(out: &mut Bytes, field: Field, arg: &Arg) -> Result<(), AllocError>
-    requires { HasKind pointer arg.now }
+    requires { HasKind Kind.Pointer arg.now }
     ensures { OnOk result (out.new ≡ out.old ++ in_field field.left field.zeros field.width (pointer_parts arg.now)) }
 {
     let Arg::Shown(n) = arg else {
@@ -322,7 +323,7 @@ fn write_pointer(out: &mut Bytes, field: Field, arg: &Arg) -> Result<(), AllocEr
 
 /// The bytes of a text argument that a precision leaves.
 fn cut_text(precision: i64, arg: &Arg) -> &[u8]
-    requires { HasKind text arg.now }
+    requires { HasKind Kind.Text arg.now }
     ensures { result.now ≡ cut precision (text_bytes arg.now) }
 {
     let Arg::Text(bytes) = arg else {
