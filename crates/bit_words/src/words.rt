@@ -1,4 +1,4 @@
-ghost use Rattle.std.specs.Prelude.{◌≡◌, ◌≢◌, ◌-◌, ◌%◌, ◌^◌, ◌<◌, ◌/◌, ◌≤ℤ◌, ◌<ℤ◌, pos, neg_ℤ};
+ghost use Rattle.std.specs.Prelude.{◌≡◌, ◌≢◌, ◌-◌, ◌%◌, ◌^◌, ◌<◌, ◌/◌, ◌↔◌, IsTrue, pos};
 ghost use Rattle.bit_words.specs.Words.{bits, word, signed, is_signed, add, sub, mul, sdiv, srem, shl, lshr, ashr, add_over, sub_over, mul_over, shl_over, ult, slt, IsLeastByMinusOne};
 
 use crate::Width;
@@ -49,7 +49,8 @@ fn fits(value: i128, width: Width) -> bool
 
 /// The number modulo 2^N (C99 6.3.1.3).
 pub fn wrap(value: i128, width: Width) -> u64
-    ensures { result ≡ word width value }
+    ensures value { result ≡ word width value }
+    ensures within { result < 2 ^ bits width }
 {
     match width {
         Width::W8 => value.rem_euclid(0x100) as u64,
@@ -79,7 +80,8 @@ pub fn to_signed(a: u64, width: Width) -> i64
 pub fn add(a: u64, b: u64, width: Width) -> u64
     requires a_in { a < 2 ^ bits width }
     requires b_in { b < 2 ^ bits width }
-    ensures { result ≡ add width a b }
+    ensures value { result ≡ add width a b }
+    ensures within { result < 2 ^ bits width }
 {
     low(u128::from(a) + u128::from(b), width)
 }
@@ -88,7 +90,8 @@ pub fn add(a: u64, b: u64, width: Width) -> u64
 pub fn sub(a: u64, b: u64, width: Width) -> u64
     requires a_in { a < 2 ^ bits width }
     requires b_in { b < 2 ^ bits width }
-    ensures { result ≡ sub width a b }
+    ensures value { result ≡ sub width a b }
+    ensures within { result < 2 ^ bits width }
 {
     low(u128::from(a) + (modulus(width) - u128::from(b)), width)
 }
@@ -97,7 +100,8 @@ pub fn sub(a: u64, b: u64, width: Width) -> u64
 pub fn mul(a: u64, b: u64, width: Width) -> u64
     requires a_in { a < 2 ^ bits width }
     requires b_in { b < 2 ^ bits width }
-    ensures { result ≡ mul width a b }
+    ensures value { result ≡ mul width a b }
+    ensures within { result < 2 ^ bits width }
 {
     low(u128::from(a) * u128::from(b), width)
 }
@@ -107,7 +111,8 @@ pub fn udiv(a: u64, b: u64, width: Width) -> u64
     requires a_in { a < 2 ^ bits width }
     requires b_in { b < 2 ^ bits width }
     requires divisor { b ≢ 0 }
-    ensures { result ≡ a / b }
+    ensures value { result ≡ a / b }
+    ensures within { result < 2 ^ bits width }
 {
     a / b
 }
@@ -117,9 +122,20 @@ pub fn urem(a: u64, b: u64, width: Width) -> u64
     requires a_in { a < 2 ^ bits width }
     requires b_in { b < 2 ^ bits width }
     requires divisor { b ≢ 0 }
-    ensures { result ≡ a % b }
+    ensures value { result ≡ a % b }
+    ensures within { result < 2 ^ bits width }
 {
     a % b
+}
+
+/// Whether signed `a / b` leaves the type: the least number by -1 (C99 6.5.5).
+pub fn div_over(a: u64, b: u64, width: Width) -> bool
+    requires a_in { a < 2 ^ bits width }
+    requires b_in { b < 2 ^ bits width }
+    ensures { IsTrue result ↔ IsLeastByMinusOne width a b }
+{
+    let modulus = modulus(width);
+    u128::from(a) == modulus / 2 && u128::from(b) == modulus - 1
 }
 
 /// `a / b` of signed words, toward zero (C99 6.5.5).
@@ -128,7 +144,8 @@ pub fn sdiv(a: u64, b: u64, width: Width) -> u64
     requires b_in { b < 2 ^ bits width }
     requires divisor { b ≢ 0 }
     requires quotient { ¬ IsLeastByMinusOne width a b }
-    ensures { result ≡ sdiv width a b }
+    ensures value { result ≡ sdiv width a b }
+    ensures within { result < 2 ^ bits width }
 {
     wrap(i128::from(to_signed(a, width) / to_signed(b, width)), width)
 }
@@ -139,7 +156,8 @@ pub fn srem(a: u64, b: u64, width: Width) -> u64
     requires b_in { b < 2 ^ bits width }
     requires divisor { b ≢ 0 }
     requires quotient { ¬ IsLeastByMinusOne width a b }
-    ensures { result ≡ srem width a b }
+    ensures value { result ≡ srem width a b }
+    ensures within { result < 2 ^ bits width }
 {
     wrap(i128::from(to_signed(a, width) % to_signed(b, width)), width)
 }
@@ -148,7 +166,8 @@ pub fn srem(a: u64, b: u64, width: Width) -> u64
 pub fn shl(a: u64, by: u32, width: Width) -> u64
     requires a_in { a < 2 ^ bits width }
     requires by_in { by < bits width }
-    ensures { result ≡ shl width a by }
+    ensures value { result ≡ shl width a by }
+    ensures within { result < 2 ^ bits width }
 {
     low(u128::from(a) << by, width)
 }
@@ -157,7 +176,8 @@ pub fn shl(a: u64, by: u32, width: Width) -> u64
 pub fn lshr(a: u64, by: u32, width: Width) -> u64
     requires a_in { a < 2 ^ bits width }
     requires by_in { by < bits width }
-    ensures { result ≡ lshr a by }
+    ensures value { result ≡ lshr a by }
+    ensures within { result < 2 ^ bits width }
 {
     a >> by
 }
@@ -166,7 +186,8 @@ pub fn lshr(a: u64, by: u32, width: Width) -> u64
 pub fn ashr(a: u64, by: u32, width: Width) -> u64
     requires a_in { a < 2 ^ bits width }
     requires by_in { by < bits width }
-    ensures { result ≡ ashr width a by }
+    ensures value { result ≡ ashr width a by }
+    ensures within { result < 2 ^ bits width }
 {
     wrap(i128::from(to_signed(a, width) >> by), width)
 }
@@ -237,3 +258,6 @@ pub fn slt(a: u64, b: u64, width: Width) -> bool
 {
     to_signed(a, width) < to_signed(b, width)
 }
+
+#[cfg(test)]
+mod tests;
