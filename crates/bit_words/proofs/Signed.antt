@@ -1,11 +1,11 @@
 -- Signed numbers that pass through wider types unchanged, and quotients that fit.
-use Rattle.std.proofs.Common.{◌≡◌, ℕ, zero, suc, ◌+◌, ◌-◌, ◌*◌, ◌/◌, ◌^◌, ◌<◌, ◌≤◌, Bool, ℤ, pos, negsuc, neg_ℤ, ◌-ℤ◌, ◌*ℤ◌, FitsSigned, to_z, of_z, w64, refl, sym, ap, ◌∙◌, arith}
+use Rattle.std.proofs.Common.{◌≡◌, ℕ, zero, suc, ◌-◌, ◌/◌, ◌^◌, ◌<◌, ◌≤◌, Bool, ℤ, pos, negsuc, neg_ℤ, ◌-ℤ◌, ◌*ℤ◌, FitsSigned, to_z, of_z, w64, refl, sym, ap, ◌∙◌, arith}
 use Rattle.std.specs.Int.{w128}
 use Rattle.std.specs.Int.Signed.{mag, mag_rem}
 use Rattle.std.specs.Int.RustNames.{int_div, int_rem, unsigned_abs}
 use Rattle.std.proofs.lemmas.Int.{ints, to_z-of_z, of_z-to_z, fits_signed_mul, quot_is, rem_is}
 use Rattle.std.proofs.Math.Nat.{div-le_self, div-lt_self, div-one}
-use Rattle.bit_words.specs.Words.{bits, word, signed, IsLeastByMinusOne}
+use Rattle.bit_words.specs.Words.{bits, signed, IsLeastByMinusOne}
 use Rattle.bit_words.specs.declared.width.Width.{Width}
 use Rattle.bit_words.specs.declared.width.Width.TheVariants.{W8, W16, W32, W64}
 

@@ -1,9 +1,9 @@
 -- Laws of words: to and from signed numbers, a word of a word, arithmetic, bytes.
-use Rattle.std.proofs.Common.{◌≡◌, ℕ, zero, suc, ◌+◌, ◌-◌, ◌*◌, ◌/◌, ◌%◌, ◌^◌, ◌<◌, ◌≤◌, Bool, true, false, not, ltb, ℤ, pos, negsuc, neg_ℤ, ◌+ℤ◌, ◌-ℤ◌, ◌*ℤ◌, List, [], ◌∷◌, length, All, FitsSigned, to_z, of_z, w8, w32, w64, refl, sym, ap, subst, ◌∙◌, arith}
+use Rattle.std.proofs.Common.{◌≡◌, ℕ, zero, suc, ◌+◌, ◌-◌, ◌*◌, ◌/◌, ◌%◌, ◌^◌, ◌<◌, ◌≤◌, Bool, true, false, not, ℤ, pos, negsuc, neg_ℤ, ◌+ℤ◌, ◌-ℤ◌, ◌*ℤ◌, List, [], ◌∷◌, length, All, FitsSigned, w8, w32, w64, refl, sym, ap, subst, ◌∙◌, arith}
 use Rattle.std.specs.Int.{w16, cast_signed, cast_unsigned, int_rem_euclid, int_wrap}
 use Rattle.std.specs.Int.{Width as Machine}
 use Rattle.std.specs.Int.RustNames.{unsigned_abs}
-use Rattle.std.proofs.lemmas.Int.{ints, of_z-to_z, int_wrap_fits, int_wrap-add_left, int_wrap-add_right, int_wrap-sub_right, int_wrap-mul_left, int_wrap-mul_right, wrapping_add-bits, wrapping_sub-bits, wrapping_mul-bits, int_rem_euclid_is}
+use Rattle.std.proofs.lemmas.Int.{of_z-to_z, int_wrap_fits, int_wrap-add_left, int_wrap-add_right, int_wrap-sub_right, int_wrap-mul_left, int_wrap-mul_right, wrapping_add-bits, wrapping_sub-bits, wrapping_mul-bits}
 use Rattle.std.proofs.lemmas.Bool.Decides.{nat_tests}
 use Rattle.std.proofs.Math.Nat.{mod-lt, mod-add-div', add-mul-mod_self_right, div-lt_iff_lt-mul, mul-pos, pow-suc}
 use Rattle.std.proofs.lemmas.Nat.{mod-mul-add, pow-add}

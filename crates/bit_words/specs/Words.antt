@@ -1,5 +1,5 @@
 -- Machine words: numbers below 2^N, read as unsigned or in two's complement (C99 6.2.6.2).
-use Rattle.std.specs.Prelude.{ℕ, zero, suc, ◌+◌, ◌-◌, ◌*◌, ◌/◌, ◌%◌, ◌^◌, ◌≡◌, ◌≢◌, Bool, true, false, not, ◌||◌, nat_lt, nat_le, ℤ, pos, negsuc, ◌+ℤ◌, ◌-ℤ◌, ◌*ℤ◌, List, [], ◌∷◌, int_lt, int_div, int_rem, unsigned_abs}
+use Rattle.std.specs.Prelude.{ℕ, zero, suc, ◌+◌, ◌-◌, ◌*◌, ◌/◌, ◌%◌, ◌^◌, ◌≡◌, Bool, not, ◌||◌, nat_lt, nat_le, ℤ, pos, negsuc, ◌+ℤ◌, ◌-ℤ◌, ◌*ℤ◌, List, [], ◌∷◌, int_lt, int_div, int_rem, unsigned_abs}
 use Rattle.std.specs.Int.{w8, w16, w32, w64, cast_signed, int_rem_euclid, int_div_euclid}
 use Rattle.std.specs.Int.{Width as Machine}
 use Rattle.bit_words.specs.declared.width.Width.{Width}

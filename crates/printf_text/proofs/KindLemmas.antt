@@ -1,5 +1,5 @@
 -- Kinds in order, and arguments that have them.
-use Rattle.std.proofs.Common.{◌≡◌, ◌≢◌, ℕ, zero, suc, ◌+◌, ◌<◌, ◌≤◌, List, [], ◌∷◌, ◌++◌, length, get_or, drop, append_assoc, add-one, drop-cons, refl, sym, ap, subst, ◌∙◌, arith}
+use Rattle.std.proofs.Common.{◌≡◌, ℕ, suc, ◌+◌, ◌<◌, List, [], ◌∷◌, ◌++◌, length, get_or, drop, append_assoc, add-one, drop-cons, refl, sym, ap, subst, ◌∙◌, arith}
 use Rattle.printf_text.specs.Texts.{HasKind, HaveKinds, kinds, piece_kinds}
 use Rattle.printf_text.proofs.Writing.{next_piece}
 use Rattle.printf_text.specs.declared.kind.Kind.{Kind}

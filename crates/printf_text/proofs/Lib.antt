@@ -3,3 +3,4 @@ pub mod Parsing
 pub mod Digits
 pub mod Writing
 pub mod KindLemmas
+pub mod TextLaws

@@ -1,9 +1,8 @@
 -- The pieces so far, and what remains, are the whole format.
-use Rattle.std.proofs.Common.{◌≡◌, ℕ, zero, suc, ◌+◌, ◌-◌, ◌<◌, ◌≤◌, Bool, true, false, cond, ◌==◌, ◌||◌, List, [], ◌∷◌, ◌++◌, length, take, drop, Option, Some, None, Result, Ok, Err, length-drop, append_assoc, append-nil, refl, sym, ap, subst, ◌∙◌, arith}
+use Rattle.std.proofs.Common.{◌≡◌, ℕ, zero, suc, ◌+◌, ◌-◌, ◌<◌, ◌≤◌, Bool, true, false, cond, ◌==◌, ◌||◌, List, [], ◌∷◌, ◌++◌, length, Option, Some, None, Result, Ok, Err, length-drop, append_assoc, append-nil, refl, sym, ap, ◌∙◌, arith}
 use Rattle.std.specs.List.{prefix_len}
-use Rattle.std.proofs.lemmas.List.Sums.{prefix_len-le-length}
 use Rattle.std.proofs.lemmas.Bool.Decides.{nat_tests}
-use Rattle.printf_text.specs.Pieces.{Part, Step, after, after_run, run, is_flag, is_digit, is_plain, flags_of, star_or_number, number_or, precision_after, once_or_twice, length_at, width_at, precision_at, lettered, specified, specification_at, percent_or, conversion_at, counted, limited, stepped, step_of, piece_before, followed, pieces_from, format_text, pieces_of}
+use Rattle.printf_text.specs.Pieces.{Part, Step, after, after_run, run, is_flag, is_digit, is_plain, flags_of, star_or_number, precision_after, once_or_twice, length_at, width_at, precision_at, lettered, specification_at, percent_or, conversion_at, counted, stepped, step_of, piece_before, followed, pieces_from}
 use Rattle.bit_words.specs.declared.width.Width.{Width}
 use Rattle.printf_text.specs.declared.piece.Flags.{Flags}
 use Rattle.printf_text.specs.declared.piece.Size.{Size}

@@ -1,13 +1,12 @@
 -- What the writer of texts keeps.
-use Rattle.std.proofs.Common.{◌≡◌, ◌≢◌, ℕ, zero, suc, ◌+◌, ◌-◌, ◌<◌, ◌≤◌, Bool, true, false, cond, List, [], ◌∷◌, ◌++◌, length, get_or, map, take, drop, replicate, append_assoc, add-one, drop-cons, length-drop, refl, sym, ap, subst, ◌∙◌, arith}
+use Rattle.std.proofs.Common.{◌≡◌, ◌≢◌, ℕ, zero, suc, ◌+◌, ◌-◌, ◌<◌, ◌≤◌, List, [], ◌∷◌, ◌++◌, length, get_or, map, take, drop, append_assoc, add-one, drop-cons, length-drop, sym, ap, subst, ◌∙◌, arith}
 use Rattle.std.specs.Int.Digits.{digits_of}
 use Rattle.std.proofs.lemmas.List.{length-append, drop-drop}
 use Rattle.std.proofs.Math.Seq.{take-length}
 use Rattle.std.proofs.lemmas.Int.Digits.{first_digits_of}
 use Rattle.std.proofs.lemmas.Bool.Decides.{nat_tests}
-use Rattle.printf_text.specs.Texts.{HasKind, HaveKinds, BeginsWithKinds, kinds, piece_kinds, base, digit, HasNoLeadingZero, marked, with_zero, piece_text, text_of}
+use Rattle.printf_text.specs.Texts.{HasKind, HaveKinds, BeginsWithKinds, kinds, piece_kinds, base, digit, HasNoLeadingZero, piece_text, text_of}
 use Rattle.printf_text.proofs.Digits.{base_least}
-use Rattle.printf_text.specs.declared.piece.Flags.{Flags}
 use Rattle.printf_text.specs.declared.piece.Radix.{Radix}
 use Rattle.printf_text.specs.declared.piece.Radix.TheVariants.{Decimal, Octal, LowerHex, UpperHex}
 use Rattle.printf_text.specs.declared.piece.Piece.{Piece}

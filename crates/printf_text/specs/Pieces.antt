@@ -1,5 +1,5 @@
 -- The pieces that a format spells (C99 7.19.6.1p3 to p8).
-use Rattle.std.specs.Prelude.{ℕ, zero, suc, ◌+◌, ◌-◌, ◌≡◌, Bool, true, false, not, ◌&&◌, ◌||◌, ◌==◌, nat_le, if◌then◌else◌, List, [], ◌∷◌, length, take, drop, map, Option, Some, None, is_none, Result, Ok, Err}
+use Rattle.std.specs.Prelude.{ℕ, zero, suc, ◌-◌, Bool, true, false, not, ◌&&◌, ◌||◌, ◌==◌, nat_le, if◌then◌else◌, List, [], ◌∷◌, length, take, drop, Option, Some, None, is_none, Result, Ok, Err}
 use Rattle.std.specs.List.{prefix_len, list_any}
 use Rattle.std.specs.Str.Parse.{digits_value}
 use Rattle.bit_words.specs.declared.width.Width.{Width}
@@ -7,7 +7,6 @@ use Rattle.bit_words.specs.declared.width.Width.TheVariants.{W8, W16, W32, W64}
 use Rattle.printf_text.specs.declared.piece.Flags.{Flags}
 use Rattle.printf_text.specs.declared.piece.Size.{Size}
 use Rattle.printf_text.specs.declared.piece.Size.TheVariants.{Omitted, Written, Star}
-use Rattle.printf_text.specs.declared.piece.Radix.{Radix}
 use Rattle.printf_text.specs.declared.piece.Radix.TheVariants.{Decimal, Octal, LowerHex, UpperHex}
 use Rattle.printf_text.specs.declared.piece.Form.{Form}
 use Rattle.printf_text.specs.declared.piece.Form.TheVariants.{Signed, Unsigned, Char, Text, Pointer}

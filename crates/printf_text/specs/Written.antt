@@ -1,5 +1,5 @@
 -- The parts of a text as the writer holds them.
-use Rattle.std.specs.Prelude.{ℕ, ◌++◌, replicate}
+use Rattle.std.specs.Prelude.{◌++◌, replicate}
 use Rattle.printf_text.specs.Texts.{Parts}
 use Rattle.printf_text.specs.declared.printing.Parts.{Parts as Held}
 

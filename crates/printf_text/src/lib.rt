@@ -10,3 +10,6 @@ pub use kind::{Kind, Kinds, have_kinds, kinds};
 pub use parse::{FormatFault, parse_format};
 pub use piece::{Arg, Args, Conversion, Flags, Form, Piece, Pieces, Radix, Size};
 pub use printing::{TextFault, text};
+
+#[cfg(test)]
+mod tests;

@@ -1,10 +1,9 @@
+use crate::words::width_of;
 use anyhow::{Result, anyhow};
 use bit_words::{Bytes, wrap};
 use printf_text::{Arg, Args, FormatFault, have_kinds, kinds, parse_format, text};
 use std::alloc::{AllocError, Global};
 use std::str::SplitWhitespace;
-
-use crate::words::width_of;
 
 /// The bytes that hexadecimal digits write.
 fn bytes_of(alloc: Global, digits: &str) -> Result<Bytes> {

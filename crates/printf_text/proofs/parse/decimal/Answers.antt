@@ -1,5 +1,4 @@
-use Rattle.std.proofs.Common.{◌≡◌, ◌+◌, ◌*◌, ◌-◌, ◌<◌, take, get_or, ap, ◌∙◌, sym, refl, arith}
-use Rattle.printf_text.specs.Pieces.{decimal}
+use Rattle.std.proofs.Common.{◌+◌, get_or, refl, arith}
 use Rattle.printf_text.proofs.Reading.{decimal_more, decimal_grows}
 use Rattle.printf_text.proofs.parse.decimal.Goals as goal
 

@@ -1,6 +1,4 @@
-use Rattle.std.proofs.Common.{◌<◌, length, subst, sym}
-use Rattle.printf_text.proofs.Parsing.{IsReading, IsReading-more, IsReading-fault, IsReading-end, step_short, some_left, none_left}
-use Rattle.printf_text.specs.Pieces.{pieces_of}
+use Rattle.printf_text.proofs.Parsing.{IsReading-more, IsReading-fault, IsReading-end, step_short, some_left, none_left}
 use Rattle.printf_text.proofs.parse.parse_format.Goals as goal
 
 pub pieces-smaller : goal.pieces-smaller

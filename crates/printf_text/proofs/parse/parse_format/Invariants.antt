@@ -1,5 +1,5 @@
 use Rattle.std.proofs.Common.{length}
-use Rattle.printf_text.specs.Pieces.{format_text, pieces_of}
+use Rattle.printf_text.specs.Pieces.{pieces_of}
 use Rattle.printf_text.proofs.Parsing.{IsReading}
 use Rattle.printf_text.proofs.parse.parse_format.Given as goal
 
