@@ -1,0 +1,4 @@
+pub mod Words
+pub mod Literals
+pub mod Spelling
+pub mod Lexed

@@ -1,0 +1,68 @@
+ghost use Rattle.std.specs.Prelude.{◌≡◌};
+ghost use Rattle.c_tree.specs.PlaceTables.{place_at, file_at};
+
+use crate::places::Places;
+use bit_words::Bytes;
+use c_lexer::{Name, Place};
+use plain_data::{Items, Shared};
+
+/// A statement (C99 6.8). Each `at` and `call` is the byte offset of a token: of the statement's keyword,
+/// and of a called function's name.
+#[derive(Drop)]
+pub enum Stmt {
+    /// `;`
+    Empty,
+    /// `{` and `}` with statements between them.
+    Block {
+        items: Items<Shared<Stmt>>,
+    },
+    /// `if` on the answer of an outside function.
+    If {
+        at: u32,
+        call: u32,
+        callee: Name,
+        positive: Shared<Stmt>,
+        negative: Option<Shared<Stmt>>,
+    },
+    /// A call of `printf` with a literal, by the bytes that it stands for.
+    Print {
+        call: u32,
+        text: Shared<Bytes>,
+    },
+    /// `return` of a constant.
+    Return {
+        value: i32,
+    },
+}
+
+/// A declared function: its name, and the byte offset of the name.
+#[derive(Drop)]
+pub struct Declaration {
+    pub at: u32,
+    pub name: Name,
+}
+
+/// A source: the functions that are declared before `main`, in order, the statements of `main`, and the
+/// places of all tokens.
+#[derive(Drop)]
+pub struct Unit {
+    pub functions: Items<Declaration>,
+    pub body: Items<Shared<Stmt>>,
+    pub places: Places,
+}
+
+impl Unit {
+    /// The place of the token at a byte offset; at an offset where none begins all its numbers are 0.
+    pub fn place(&self, at: u32) -> Place
+        ensures { result ≡ place_at self.now.places.places at }
+    {
+        self.places.place(at)
+    }
+
+    /// The name of the file that a place names by its number.
+    pub fn file(&self, file: u32) -> &[u8]
+        ensures { result.now ≡ file_at self.now.places.files file }
+    {
+        self.places.file(file)
+    }
+}

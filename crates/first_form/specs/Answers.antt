@@ -1,0 +1,47 @@
+-- What the calls of this crate answer.
+use Rattle.std.specs.Prelude.{◌≡◌, ℕ, List, [], ◌∷◌, Bool, true, false, Option, Some, None, Result, Ok, Err, ⊤}
+use Rattle.c_lexer.specs.declared.token.Token.{Token}
+use Rattle.c_lexer.specs.Spelling.{tokens_of}
+use Rattle.c_tree.specs.PlaceTables.{PlaceTable, places_of}
+use Rattle.c_tree.specs.declared.tree.Unit.{Unit as UnitType}
+use Rattle.first_form.specs.Form.{Program, program_of, ◌>>=◌}
+use Rattle.first_form.specs.Verdicts.{Diagnoses}
+use Rattle.first_form.specs.Reports.{report_of}
+use Rattle.first_form.specs.declared.form.FormFault.{FormFault}
+use Rattle.first_form.specs.declared.form.FormFault.TheVariants.{NotYetRead, Memory}
+use Rattle.first_form.specs.declared.verdict.Diagnosis.{Diagnosis}
+use Rattle.first_form.specs.declared.verdict.Diagnosis.TheVariants.{Found, Nothing}
+use Rattle.first_form.specs.declared.diagnose.Answer.{Answer}
+
+-- the program of a unit
+abbrev pub program_in : UnitType → Program
+program_in unit = record { functions = unit.functions; body = unit.body }
+
+-- the program that a source's bytes spell, where they are of the form
+abbrev pub program_spelled : List ℕ → Option Program
+program_spelled bytes = tokens_of bytes >>= program_of
+
+-- the bytes of a file spell this unit
+pub record IsUnit (name bytes : List ℕ) (unit : UnitType) : Type 0 where
+  pub program : program_spelled bytes ≡ Some (program_in unit)
+  pub tokens : List Token
+  pub spelled : tokens_of bytes ≡ Some tokens
+  pub places : unit.places.places ≡ places_of tokens
+  pub files : unit.places.files ≡ name ∷ []
+
+-- the unit, or the refusal exactly where the bytes spell none; but for want of memory
+abbrev pub ReadsSource : List ℕ → List ℕ → Result UnitType FormFault → Type 0
+ReadsSource name bytes (Ok unit) = IsUnit name bytes unit
+ReadsSource name bytes (Err NotYetRead) = program_spelled bytes ≡ None
+ReadsSource name bytes (Err Memory) = ⊤
+
+abbrev pub is_found : Diagnosis → Bool
+is_found (Found findings) = true
+is_found Nothing = false
+
+-- the report of a diagnosis that is true of every world
+pub record Answers (unit : UnitType) (log : List ℕ) (answer : Answer) : Type 0 where
+  pub diagnosis : Diagnosis
+  pub just : Diagnoses (program_in unit) log diagnosis
+  pub text : answer.text ≡ report_of unit.places (program_in unit) log diagnosis
+  pub found : answer.is_found ≡ is_found diagnosis
