@@ -1,0 +1,11 @@
+//! The lexical grammar of preprocessed C (C99 6.4): a source's bytes divide into white space, comments,
+//! directives and tokens, each the longest that begins at its place.
+#![tactic(auto)]
+
+mod class;
+mod lookup;
+mod number;
+mod table;
+mod token;
+
+pub use token::{IntegerConstant, IntegerType, Keyword, Name, Place, Punctuator, Token, TokenKind};
