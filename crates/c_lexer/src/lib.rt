@@ -3,9 +3,14 @@
 #![tactic(auto)]
 
 mod class;
+mod directive;
+mod fault;
+mod literal;
 mod lookup;
 mod number;
+mod piece;
 mod table;
 mod token;
 
+pub use fault::LexFault;
 pub use token::{IntegerConstant, IntegerType, Keyword, Name, Place, Punctuator, Token, TokenKind};

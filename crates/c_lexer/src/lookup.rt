@@ -1,6 +1,6 @@
 //! Looking a spelling up in a table.
 
-ghost use Rattle.std.specs.Prelude.{◌≡◌, map};
+ghost use Rattle.std.specs.Prelude.{◌≡◌, ◌≤◌, length, map, IfSome};
 ghost use Rattle.c_lexer.specs.Tables as spec;
 
 use crate::table::{PUNCTUATORS, RESERVED, Reserved, SUFFIXES, Suffix};
@@ -33,7 +33,8 @@ pub fn suffix(word: &[u8]) -> Option<Suffix>
 }
 
 fn first_prefix(mut table: &[(&[u8], Punctuator)], text: &[u8]) -> Option<(Punctuator, usize)>
-    ensures { result ≡ spec.first_prefix (map (λ row. (row.0.now, row.1)) table.entry.now) text.now }
+    ensures value { result ≡ spec.first_prefix (map (λ row. (row.0.now, row.1)) table.entry.now) text.now }
+    ensures within { IfSome result (λ p. p.1 ≤ length text.now) }
 {
     while let [row, rest @ ..] = table {
         if text.starts_with(row.0) {
@@ -46,7 +47,8 @@ fn first_prefix(mut table: &[(&[u8], Punctuator)], text: &[u8]) -> Option<(Punct
 
 /// The longest punctuator that a text begins with, and its length.
 pub fn punctuator(text: &[u8]) -> Option<(Punctuator, usize)>
-    ensures { result ≡ spec.punctuator text.now }
+    ensures value { result ≡ spec.punctuator text.now }
+    ensures within { IfSome result (λ p. (1 ≤ p.1) × (p.1 ≤ length text.now)) }
 {
     first_prefix(&PUNCTUATORS, text)
 }
