@@ -5,3 +5,10 @@ pub mod Fault
 pub mod Literal
 pub mod Directive
 pub mod Piece
+pub mod Division
+pub mod Places
+pub mod Meaning
+pub mod Attributes
+pub mod Collected
+pub mod Walks
+pub mod Reading

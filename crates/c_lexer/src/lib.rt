@@ -2,15 +2,20 @@
 //! directives and tokens, each the longest that begins at its place.
 #![tactic(auto)]
 
+mod attribute;
 mod class;
 mod directive;
 mod fault;
 mod literal;
 mod lookup;
+mod meaning;
 mod number;
 mod piece;
 mod table;
 mod token;
+mod walk;
 
 pub use fault::LexFault;
-pub use token::{IntegerConstant, IntegerType, Keyword, Name, Place, Punctuator, Token, TokenKind};
+pub use token::{
+    IntegerConstant, IntegerType, Keyword, Name, Place, Punctuator, Spot, Token, TokenKind, Tokens,
+};

@@ -1,5 +1,8 @@
+ghost use Rattle.std.specs.Prelude.{◌≡◌, slice_get};
+ghost use Rattle.std.specs.Option.{option_copied};
+
 use bit_words::Bytes;
-use plain_data::Shared;
+use plain_data::{Items, Shared};
 
 /// An identifier's bytes. Equal names of one source share one allocation.
 pub type Name = Shared<Bytes>;
@@ -165,4 +168,40 @@ pub struct Token {
     pub start: u32,
     pub end: u32,
     pub place: Place,
+}
+
+/// A source's tokens in order, and the names of its files: the source's own, and then the name of each
+/// line marker.
+#[derive(Debug, Drop)]
+pub struct Tokens {
+    pub files: Items<Name>,
+    pub tokens: Items<Token>,
+}
+
+impl Tokens {
+    /// The tokens in order.
+    pub fn as_slice(&self) -> &[Token]
+        ensures { result.now ≡ self.now.tokens }
+    {
+        self.tokens.as_slice()
+    }
+
+    /// The name of the file that has this number in a token's place.
+    pub fn file(&self, number: u32) -> Option<&[u8]>
+        ensures { option_copied result ≡ slice_get self.now.files number }
+    {
+        match self.files.get(number as usize) {
+            Some(name) => Some(name.get().as_slice()),
+            None => None,
+        }
+    }
+}
+
+/// Where a byte stands: the name of its file, its physical line, and its position in that line, both
+/// counted from 1.
+#[derive(Debug, PartialEq, Drop)]
+pub struct Spot {
+    pub file: Bytes,
+    pub line: u32,
+    pub column: u32,
 }
