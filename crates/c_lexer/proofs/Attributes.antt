@@ -20,7 +20,7 @@ joined-push tokens t (None ∷ words) here (c ∷ cs) nested = joined-push token
 joined-push tokens t (Some word ∷ words) here (c ∷ cs) nested = ap (λ ts. joined ts words c cs) (take-append-le word tokens (t ∷ []) nested.0)
 
 -- no group is closed
-joined-open : (tokens : List Token) (words : List (Option ℕ)) (here : List Token) → joined tokens words here [] ≡ tokens ++ here
+pub joined-open : (tokens : List Token) (words : List (Option ℕ)) (here : List Token) → joined tokens words here [] ≡ tokens ++ here
 joined-open tokens [] here = refl
 joined-open tokens (word ∷ words) here = refl
 
@@ -33,7 +33,7 @@ nested-all : (flag : Bool) (count : ℕ) (words : List (Option ℕ)) → AreNest
 nested-all true count words nested = nested-more (count - 1) count words (omega arith) nested
 nested-all false count words nested = nested
 
-no_group : (flag : Bool) (tokens : List Token) (words : List (Option ℕ)) (rest : Kept) → after_last flag tokens words None rest ≡ joined tokens words rest.here rest.closers
+pub no_group : (flag : Bool) (tokens : List Token) (words : List (Option ℕ)) (rest : Kept) → after_last flag tokens words None rest ≡ joined tokens words rest.here rest.closers
 no_group true tokens words rest = refl
 no_group false tokens words rest = refl
 

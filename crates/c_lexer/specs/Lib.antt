@@ -10,5 +10,5 @@ pub mod Places
 pub mod Meaning
 pub mod Attributes
 pub mod Collected
-pub mod Walks
 pub mod Reading
+pub mod Walks

@@ -7,6 +7,7 @@ use Rattle.c_lexer.specs.Meaning.{Meaning, meaning}
 use Rattle.c_lexer.specs.Attributes.{without_attributes}
 use Rattle.c_lexer.specs.declared.fault.LexFault.{LexFault}
 use Rattle.c_lexer.specs.declared.piece.Lexeme.TheVariants as lexeme
+use Rattle.c_lexer.specs.declared.token.Place.{Place}
 use Rattle.c_lexer.specs.declared.token.Spot.{Spot}
 use Rattle.c_lexer.specs.declared.token.Token.{Token}
 use Rattle.c_lexer.specs.declared.token.TokenKind.{TokenKind}
@@ -21,16 +22,18 @@ abbrev pub named_by : Element → List Text
 named_by (lexeme.Marker line from to, bytes) = slice_range bytes from to ∷ []
 named_by _ = []
 
--- the token of a piece, if it is one, which begins at an offset and a place, in the file of this number
-abbrev pub token_list : ℕ → ℕ → Spot → Text → Option TokenKind → List Token
-token_list file at s bytes None = []
-token_list file at s bytes (Some k) =
-    record { kind = k; start = at; end = at + length bytes; place = record { file = file; line = s.line; column = s.column } } ∷ []
+-- the token of a piece, if it is one, which stands at a place and takes the bytes from `start` to before `end`
+abbrev pub token_at : Place → ℕ → ℕ → Option TokenKind → List Token
+token_at place start end None = []
+token_at place start end (Some k) = record { kind = k; start = start; end = end; place = place } ∷ []
+
+abbrev pub place_at : ℕ → Spot → Place
+place_at file s = record { file = file; line = s.line; column = s.column }
 
 -- what one piece gives, by what it means
 abbrev pub given : ℕ → ℕ → Spot → Element → Meaning → Reading
 given file at s e (Err f) = Err f
-given file at s e (Ok k) = Ok (record { files = named_by e; tokens = token_list file at s e.1 k })
+given file at s e (Ok k) = Ok (record { files = named_by e; tokens = token_at (place_at file s) at (at + length e.1) k })
 
 -- the first fault, or all names and tokens
 abbrev pub followed_by : Reading → Reading → Reading

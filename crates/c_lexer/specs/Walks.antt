@@ -1,9 +1,14 @@
 -- A walk over a source.
-use Rattle.std.specs.Prelude.{◌≡◌, ℕ, ◌+◌, ◌*◌, ◌^◌, ◌<◌, ◌≤◌, length, take, drop}
+use Rattle.std.specs.Prelude.{◌≡◌, ℕ, ◌+◌, ◌-◌, ◌*◌, ◌^◌, ◌<◌, ◌≤◌, List, ◌++◌, length, take, drop, Ok, Err}
 use Rattle.c_lexer.specs.Class.{Text}
 use Rattle.c_lexer.specs.Piece.{piece_at}
-use Rattle.c_lexer.specs.Division.{fresh_after}
+use Rattle.c_lexer.specs.Division.{fresh_after, divide}
 use Rattle.c_lexer.specs.Places.{spot_after}
+use Rattle.c_lexer.specs.Attributes.{keep}
+use Rattle.c_lexer.specs.Collected.{collected, IsNested}
+use Rattle.c_lexer.specs.Reading.{Reading, read}
+use Rattle.c_lexer.specs.declared.attribute.Collected.{Collected}
+use Rattle.c_lexer.specs.declared.lexer.Lexer.{Lexer}
 use Rattle.c_lexer.specs.declared.piece.Lexeme.{Lexeme}
 use Rattle.c_lexer.specs.declared.token.Spot.{Spot}
 use Rattle.c_lexer.specs.declared.walk.Here.{Here}
@@ -31,3 +36,21 @@ pub record IsNext (old : Walk) (lexeme : Lexeme) (bytes : Text) (new : Walk) : T
   pub at_is : new.at ≡ old.at + length bytes
   pub fresh_is : new.fresh ≡ fresh_after old.fresh lexeme
   pub here_is : spot_of new.here ≡ spot_after (spot_of old.here) (lexeme, bytes)
+
+-- ---- names and tokens on the way
+
+-- the names and tokens so far, with those of the rest
+abbrev pub completed : List Text → Collected → Reading → Reading
+completed files c (Err f) = Err f
+completed files c (Ok t) = Ok (record { files = files ++ t.files; tokens = collected c (keep t.tokens) })
+
+-- what the whole source gives, as a lexer stands
+abbrev pub whole : Lexer → Reading
+whole l =
+    completed l.files.items l.collected (read (length l.files.items - 1) l.walk.at (spot_of l.walk.here) (divide 0 l.walk.fresh l.walk.rest.now))
+
+pub record IsValid (l : Lexer) : Type 0 where
+  pub small : IsSmall l.walk
+  pub nested : IsNested l.collected
+  pub some : 1 ≤ length l.files.items
+  pub few : length l.files.items ≤ l.walk.at + 1

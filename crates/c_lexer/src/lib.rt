@@ -6,6 +6,7 @@ mod attribute;
 mod class;
 mod directive;
 mod fault;
+mod lexer;
 mod literal;
 mod lookup;
 mod meaning;
@@ -16,6 +17,7 @@ mod token;
 mod walk;
 
 pub use fault::LexFault;
+pub use lexer::{lex, locate};
 pub use token::{
     IntegerConstant, IntegerType, Keyword, Name, Place, Punctuator, Spot, Token, TokenKind, Tokens,
 };

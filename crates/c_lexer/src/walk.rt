@@ -4,7 +4,7 @@ ghost use Rattle.std.specs.Prelude.{◌≡◌, ℕ, List, ◌<◌, ◌≤◌, �
 ghost use Rattle.c_lexer.specs.Class.{Text};
 ghost use Rattle.c_lexer.specs.Piece.{piece_at, IsNamedWithin};
 ghost use Rattle.c_lexer.specs.Division.{fresh_after};
-ghost use Rattle.c_lexer.specs.Places.{moved, spot_after, beginning};
+ghost use Rattle.c_lexer.specs.Places.{moved, spot_after, beginning, located};
 ghost use Rattle.c_lexer.specs.Walks as spec;
 
 use crate::piece::{Lexeme, piece_at};
@@ -18,6 +18,7 @@ pub struct Here<'a> {
 }
 
 /// What is left of a source, and where it begins.
+#[derive(Clone, Copy)]
 pub struct Walk<'a> {
     pub rest: &'a [u8],
     /// The offset of the first byte that is left.
@@ -131,4 +132,30 @@ impl<'a> Walk<'a> {
         self.here = past_piece(self.here, lexeme, text);
         (lexeme, text)
     }
+}
+
+/// Where the byte at an offset stands, or the end of the source.
+pub fn here_at<'a>(name: &'a [u8], bytes: &'a [u8], at: u32) -> Here<'a>
+    requires short { length bytes.now ≤ 8388608 }
+    requires within { at ≤ length bytes.now }
+    ensures { spec.spot_of result ≡ located name.now bytes.now at }
+{
+    let mut walk = Walk::new(name, bytes);
+    'pieces: while !walk.rest.is_empty() {
+        let before = walk;
+        let (_, text) = walk.step();
+        if at < walk.at {
+            let (line, column) = past_bytes(
+                before.here.line,
+                before.here.column,
+                &text[..(at - before.at) as usize],
+            );
+            return Here {
+                file: before.here.file,
+                line,
+                column,
+            };
+        }
+    }
+    walk.here
 }

@@ -1,0 +1,160 @@
+//! Cutting a source into tokens.
+
+ghost use Rattle.std.specs.Prelude.{◌≡◌, ◌<◌, ◌≤◌, ◌+◌, ◌-◌, ◌^◌, List, ◌++◌, length, OnOk, IfOk, IfErr, IsOkUnless};
+ghost use Rattle.c_lexer.specs.Piece.{IsNamedWithin};
+ghost use Rattle.c_lexer.specs.Attributes.{keep};
+ghost use Rattle.c_lexer.specs.Collected.{collected, IsNested};
+ghost use Rattle.c_lexer.specs.Fault.{Answers, Refused};
+ghost use Rattle.c_lexer.specs.Places.{located};
+ghost use Rattle.c_lexer.specs.Reading as spec;
+ghost use Rattle.c_lexer.specs.declared.token.Token.{Token};
+
+use crate::attribute::Collected;
+use crate::fault::LexFault;
+use crate::meaning::{meaning, name};
+use crate::piece::Lexeme;
+use crate::token::{Name, Place, Spot, Token, TokenKind, Tokens};
+use crate::walk::{Here, Walk, here_at};
+use plain_data::Items;
+use std::alloc::Global;
+
+/// A walk over a source, with the file names and the tokens so far.
+#[derive(Drop)]
+pub struct Lexer<'a> {
+    pub walk: Walk<'a>,
+    pub files: Vec<Name>,
+    pub collected: Collected,
+}
+
+/// Puts a piece's token, if it is one, at the end.
+fn collect(
+    tokens: &mut Collected,
+    place: Place,
+    start: u32,
+    end: u32,
+    kind: Option<TokenKind>,
+) -> Result<(), LexFault>
+    requires nested { IsNested tokens.old }
+    ensures ok { OnOk result ((rest : List Token) → collected tokens.new (keep rest) ≡ collected tokens.old (keep (spec.token_at place start end kind ++ rest))) }
+    ensures nested { OnOk result (IsNested tokens.new) }
+    ensures err { IsOkUnless result LexFault.Memory }
+{
+    match kind {
+        None => Ok(()),
+        Some(kind) => tokens.push(Token {
+            kind,
+            start,
+            end,
+            place,
+        }),
+    }
+}
+
+/// Puts the name that a piece gives to the lines after it, if it is a marker, at the end.
+fn name_file(
+    alloc: Global,
+    files: &mut Vec<Name>,
+    lexeme: Lexeme,
+    text: &[u8],
+) -> Result<(), LexFault>
+    requires named { IsNamedWithin (lexeme, length text.now) }
+    ensures ok { OnOk result (files.new.items ≡ files.old.items ++ spec.named_by (lexeme, text.now)) }
+    ensures err { IsOkUnless result LexFault.Memory }
+{
+    match lexeme {
+        Lexeme::Marker { line: _, from, to } => {
+            files.push(name(alloc, &text[from..to])?)?;
+            Ok(())
+        }
+        _ => Ok(()),
+    }
+}
+
+impl<'a> Lexer<'a> {
+    ghost use Rattle.c_lexer.specs.Walks.{whole, IsValid};
+    ghost use Rattle.c_lexer.specs.Reading.{lexed};
+
+    fn new(alloc: Global, source: &'a [u8], bytes: &'a [u8]) -> Result<Lexer<'a>, LexFault>
+        requires { length bytes.now ≤ 8388608 }
+        ensures ok { IfOk result (λ lexer. whole lexer ≡ lexed source.now bytes.now) }
+        ensures valid { IfOk result (λ lexer. IsValid lexer) }
+        ensures err { IsOkUnless result LexFault.Memory }
+    {
+        let mut files = Vec::new(alloc);
+        files.push(name(alloc, source)?)?;
+        Ok(Lexer {
+            walk: Walk::new(source, bytes),
+            files,
+            collected: Collected::new(alloc),
+        })
+    }
+
+    /// Takes the next piece.
+    fn take(&mut self, alloc: Global) -> Result<(), LexFault>
+        requires some { 0 < length self.old.walk.rest.now }
+        requires valid { IsValid self.old }
+        ensures ok { OnOk result (whole self.new ≡ whole self.old) }
+        ensures err { IfErr result (λ fault. Refused (whole self.old) fault) }
+        ensures valid { OnOk result (IsValid self.new) }
+        ensures shorter { OnOk result (length self.new.walk.rest.now < length self.old.walk.rest.now) }
+    {
+        let start = self.walk.at;
+        let Here {
+            file: _,
+            line,
+            column,
+        } = self.walk.here;
+        let place = Place {
+            file: (self.files.len() - 1) as u32,
+            line,
+            column,
+        };
+        let (lexeme, text) = self.walk.step();
+        let kind = meaning(alloc, start, lexeme, text)?;
+        collect(&mut self.collected, place, start, self.walk.at, kind)?;
+        name_file(alloc, &mut self.files, lexeme, text)?;
+        Ok(())
+    }
+}
+
+/// The tokens that a source spells by C99 6.4, or its first fault. `name` is the file that holds before the
+/// first line marker. A fault is the first in the source, with the offset at which it stands.
+pub fn lex(alloc: Global, name: &str, bytes: &[u8]) -> Result<Tokens, LexFault>
+    requires { length bytes.now ≤ 8388608 }
+    ensures { Answers (λ tokens. tokens) (spec.lexed name.now bytes.now) result }
+{
+    let mut lexer = Lexer::new(alloc, name.as_bytes(), bytes)?;
+    'pieces: while !lexer.walk.rest.is_empty() {
+        lexer.take(alloc)?;
+    }
+    let Lexer {
+        walk: _,
+        files,
+        collected,
+    } = lexer;
+    let Collected {
+        tokens,
+        open_groups: _,
+        after_word: _,
+    } = collected;
+    Ok(Tokens {
+        files: Items::from_vec(files),
+        tokens: Items::from_vec(tokens),
+    })
+}
+
+/// Where the byte at an offset stands, or the end of the source, by the line markers before it. It fails
+/// for want of memory alone.
+pub fn locate(alloc: Global, name: &str, bytes: &[u8], at: u32) -> Result<Spot, LexFault>
+    requires short { length bytes.now ≤ 8388608 }
+    requires within { at ≤ length bytes.now }
+    ensures ok { IfOk result (λ spot. spot ≡ located name.now bytes.now at) }
+    ensures err { IsOkUnless result LexFault.Memory }
+{
+    let here = here_at(name.as_bytes(), bytes, at);
+    Ok(Spot {
+        file: Items::from_slice(alloc, here.file)?,
+        line: here.line,
+        column: here.column,
+    })
+}
