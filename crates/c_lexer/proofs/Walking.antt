@@ -71,35 +71,35 @@ module _ (old : Lexer) (lexeme : Lexeme) (bytes : Text) (walk : Walk) (some : 0 
   -- what the piece gives, and what the rest gives
   unfolded : whole old
       ≡ completed old.files.items old.collected (followed_by (given (length old.files.items - 1) old.walk.at (spot_of old.walk.here) (lexeme, bytes) (meaning old.walk.at (lexeme, bytes)))
-        (read (length old.files.items - 1 + length (named_by (lexeme, bytes))) (old.walk.at + length bytes) (spot_after (spot_of old.walk.here) (lexeme, bytes)) (divide 0 walk.fresh walk.rest.now)))
+      (read (length old.files.items - 1 + length (named_by (lexeme, bytes))) (old.walk.at + length bytes) (spot_after (spot_of old.walk.here) (lexeme, bytes)) (divide 0 walk.fresh walk.rest.now)))
   unfolded = ap (λ es. completed old.files.items old.collected (read (length old.files.items - 1) old.walk.at (spot_of old.walk.here) es)) (divided old.walk lexeme bytes walk some next)
 
   pub take_refused : (f : LexFault) → Refused (meaning old.walk.at (lexeme, bytes)) f → Refused (whole old) f
   take_refused f is =
       rw unfolded
       (refused_first old.files.items old.collected (length old.files.items - 1) old.walk.at (spot_of old.walk.here) (lexeme, bytes) (meaning old.walk.at (lexeme, bytes))
-        (read (length old.files.items - 1 + length (named_by (lexeme, bytes))) (old.walk.at + length bytes) (spot_after (spot_of old.walk.here) (lexeme, bytes)) (divide 0 walk.fresh walk.rest.now)) f is)
+      (read (length old.files.items - 1 + length (named_by (lexeme, bytes))) (old.walk.at + length bytes) (spot_after (spot_of old.walk.here) (lexeme, bytes)) (divide 0 walk.fresh walk.rest.now)) f is)
 
   pub take_whole : (new : Lexer) → new.walk ≡ walk → 1 ≤ length old.files.items → (kind : Option TokenKind) → meaning old.walk.at (lexeme, bytes) ≡ Ok kind →
       new.files.items ≡ old.files.items ++ named_by (lexeme, bytes) →
       ((rest : List Token) → collected new.collected (keep rest)
-        ≡ collected old.collected (keep (token_at (place_at (length old.files.items - 1) (spot_of old.walk.here)) old.walk.at walk.at kind ++ rest))) →
+      ≡ collected old.collected (keep (token_at (place_at (length old.files.items - 1) (spot_of old.walk.here)) old.walk.at walk.at kind ++ rest))) →
       whole new ≡ whole old
   take_whole new moves_to many kind means names tokens =
       let e : Element = (lexeme, bytes) in
       let count : length (old.files.items ++ named_by e) - 1 ≡ length old.files.items - 1 + length (named_by e) = omega (arith, length-append old.files.items (named_by e)) in
       let more = λ (w : Walk). read (length old.files.items - 1 + length (named_by e)) w.at (spot_of w.here) (divide 0 w.fresh w.rest.now) in
       let held : (rest : List Token) → collected new.collected (keep rest) ≡ collected old.collected (keep (token_at (place_at (length old.files.items - 1) (spot_of old.walk.here)) old.walk.at (old.walk.at + length bytes) kind ++ rest))
-        = λ rest. tokens rest ∙ ap (λ end. collected old.collected (keep (token_at (place_at (length old.files.items - 1) (spot_of old.walk.here)) old.walk.at end kind ++ rest))) next.at_is in
+      = λ rest. tokens rest ∙ ap (λ end. collected old.collected (keep (token_at (place_at (length old.files.items - 1) (spot_of old.walk.here)) old.walk.at end kind ++ rest))) next.at_is in
       ap (λ fs. completed fs new.collected (read (length fs - 1) new.walk.at (spot_of new.walk.here) (divide 0 new.walk.fresh new.walk.rest.now))) names
       ∙ ap (λ n. completed (old.files.items ++ named_by e) new.collected (read n new.walk.at (spot_of new.walk.here) (divide 0 new.walk.fresh new.walk.rest.now))) count
       ∙ ap (λ w. completed (old.files.items ++ named_by e) new.collected (more w)) moves_to
       ∙ sym (completed_more old.files.items old.collected new.collected (length old.files.items - 1) old.walk.at (spot_of old.walk.here) e kind (more walk) held)
       ∙ ap (λ m. completed old.files.items old.collected (followed_by (given (length old.files.items - 1) old.walk.at (spot_of old.walk.here) e m) (more walk))) (sym means)
       ∙ ap (λ a. completed old.files.items old.collected (followed_by (given (length old.files.items - 1) old.walk.at (spot_of old.walk.here) e (meaning old.walk.at e))
-        (read (length old.files.items - 1 + length (named_by e)) a (spot_of walk.here) (divide 0 walk.fresh walk.rest.now)))) next.at_is
+      (read (length old.files.items - 1 + length (named_by e)) a (spot_of walk.here) (divide 0 walk.fresh walk.rest.now)))) next.at_is
       ∙ ap (λ s. completed old.files.items old.collected (followed_by (given (length old.files.items - 1) old.walk.at (spot_of old.walk.here) e (meaning old.walk.at e))
-        (read (length old.files.items - 1 + length (named_by e)) (old.walk.at + length bytes) s (divide 0 walk.fresh walk.rest.now)))) next.here_is
+      (read (length old.files.items - 1 + length (named_by e)) (old.walk.at + length bytes) s (divide 0 walk.fresh walk.rest.now)))) next.here_is
       ∙ sym unfolded
 
 -- the place so many bytes on, after this piece

@@ -21,3 +21,6 @@ pub use lexer::{lex, locate};
 pub use token::{
     IntegerConstant, IntegerType, Keyword, Name, Place, Punctuator, Spot, Token, TokenKind, Tokens,
 };
+
+#[cfg(test)]
+mod tests;

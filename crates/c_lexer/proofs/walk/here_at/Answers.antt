@@ -13,11 +13,11 @@ pieces-init c =
     let at = c.args.at in
     record {
       rest =
-      ap (λ k. spot_in (spot_of w.here) (divide 0 w.fresh w.rest.now) (at - k)) c.new-walk.ensures.at
-      ∙ ap (λ k. spot_in (spot_of w.here) (divide 0 w.fresh w.rest.now) k) (omega arith)
-      ∙ ap (λ s. spot_in s (divide 0 w.fresh w.rest.now) at) c.new-walk.ensures.here
-      ∙ ap (λ f. spot_in (beginning c.args.name.now) (divide 0 f w.rest.now) at) c.new-walk.ensures.fresh
-      ∙ ap (λ r. spot_in (beginning c.args.name.now) (divide 0 true r) at) c.new-walk.ensures.rest;
+          ap (λ k. spot_in (spot_of w.here) (divide 0 w.fresh w.rest.now) (at - k)) c.new-walk.ensures.at
+          ∙ ap (λ k. spot_in (spot_of w.here) (divide 0 w.fresh w.rest.now) k) (omega arith)
+          ∙ ap (λ s. spot_in s (divide 0 w.fresh w.rest.now) at) c.new-walk.ensures.here
+          ∙ ap (λ f. spot_in (beginning c.args.name.now) (divide 0 f w.rest.now) at) c.new-walk.ensures.fresh
+          ∙ ap (λ r. spot_in (beginning c.args.name.now) (divide 0 true r) at) c.new-walk.ensures.rest;
       small = c.new-walk.ensures.small;
       within = omega (arith, c.new-walk.ensures.at);
     }
@@ -33,9 +33,9 @@ pieces-preserved c =
     let left : c.args.at - old.at - length bytes ≡ c.args.at - new.at = omega (arith, next.at_is) in
     record {
       rest =
-      ap (λ k. spot_in (spot_of new.here) (divide 0 new.fresh new.rest.now) k) (sym left)
-      ∙ sym (spot_past old c.step.result.0 bytes new some next (c.args.at - old.at) past)
-      ∙ c.pieces.invariant.rest;
+          ap (λ k. spot_in (spot_of new.here) (divide 0 new.fresh new.rest.now) k) (sym left)
+          ∙ sym (spot_past old c.step.result.0 bytes new some next (c.args.at - old.at) past)
+          ∙ c.pieces.invariant.rest;
       small = c.step.ensures.small;
       within = c.if-at-walk.false;
     }

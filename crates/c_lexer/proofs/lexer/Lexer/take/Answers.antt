@@ -15,4 +15,4 @@ returns-clause-ok c =
     (record { walk = new; files = c.name_file.new.files; collected = c.collect.new.tokens }) refl
     c.requires.valid.some c.in_ok-kind.kind c.in_ok-kind.ensures c.in_ok-name_file.ensures.ok
     (λ rest. c.in_ok-collect.ensures.ok rest
-      ∙ ap (λ n. collected old.collected (keep (token_at (record { file = n - 1; line = old.walk.here.line; column = old.walk.here.column }) old.walk.at new.at c.in_ok-kind.kind ++ rest))) count)
+    ∙ ap (λ n. collected old.collected (keep (token_at (record { file = n - 1; line = old.walk.here.line; column = old.walk.here.column }) old.walk.at new.at c.in_ok-kind.kind ++ rest))) count)
