@@ -8,6 +8,7 @@ pub mod Piece
 pub mod Division
 pub mod Places
 pub mod Meaning
+pub mod Words
 pub mod Attributes
 pub mod Collected
 pub mod Reading

@@ -19,6 +19,8 @@ use Rattle.c_lexer.specs.declared.table.Reserved.{Reserved}
 use Rattle.c_lexer.specs.declared.table.Reserved.TheVariants as word
 use Rattle.c_lexer.specs.declared.token.TokenKind.{TokenKind}
 use Rattle.c_lexer.specs.declared.token.TokenKind.TheVariants as kind
+use Rattle.c_lexer.specs.declared.words.Meant.{Meant}
+use Rattle.c_lexer.specs.declared.words.Meant.TheVariants as found
 
 -- what a piece means that begins at an offset: a token's kind, nothing, or a fault
 abbrev pub Meaning : Type 0
@@ -29,6 +31,13 @@ reserved_kind bytes None = Some (kind.Identifier bytes)
 reserved_kind bytes (Some (word.Keyword k)) = Some (kind.Keyword k)
 reserved_kind bytes (Some word.FunctionName) = Some kind.FunctionName
 reserved_kind bytes (Some word.Dropped) = None
+
+-- the same of what was found
+abbrev pub meant_kind : Meant → Option TokenKind
+meant_kind (found.Name name) = Some (kind.Identifier name)
+meant_kind (found.Reserved (word.Keyword k)) = Some (kind.Keyword k)
+meant_kind (found.Reserved word.FunctionName) = Some kind.FunctionName
+meant_kind (found.Reserved word.Dropped) = None
 
 abbrev pub word_kind : Text → Option TokenKind
 word_kind bytes = reserved_kind bytes (reserved bytes)

@@ -5,6 +5,7 @@ use Rattle.c_lexer.specs.Piece.{piece_at}
 use Rattle.c_lexer.specs.Division.{fresh_after, divide}
 use Rattle.c_lexer.specs.Places.{spot_after}
 use Rattle.c_lexer.specs.Attributes.{keep}
+use Rattle.c_lexer.specs.Words.{IsRight}
 use Rattle.c_lexer.specs.Collected.{collected, IsNested}
 use Rattle.c_lexer.specs.Reading.{Reading, read}
 use Rattle.c_lexer.specs.declared.attribute.Collected.{Collected}
@@ -52,5 +53,6 @@ whole l =
 pub record IsValid (l : Lexer) : Type 0 where
   pub small : IsSmall l.walk
   pub nested : IsNested l.collected
+  pub right : IsRight l.words
   pub some : 1 ≤ length l.files.items
   pub few : length l.files.items ≤ l.walk.at + 1

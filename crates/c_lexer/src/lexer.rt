@@ -11,10 +11,11 @@ ghost use Rattle.c_lexer.specs.declared.token.Token.{Token};
 
 use crate::attribute::Collected;
 use crate::fault::LexFault;
-use crate::meaning::{meaning, name};
+use crate::meaning::meaning;
 use crate::piece::Lexeme;
 use crate::token::{Name, Place, Spot, Token, TokenKind, Tokens};
 use crate::walk::{Here, Walk, here_at};
+use crate::words::{Words, name};
 use plain_data::Items;
 use std::alloc::Global;
 
@@ -22,6 +23,7 @@ use std::alloc::Global;
 #[derive(Drop)]
 pub struct Lexer<'a> {
     pub walk: Walk<'a>,
+    pub words: Words<'a>,
     pub files: Vec<Name>,
     pub collected: Collected,
 }
@@ -84,6 +86,7 @@ impl<'a> Lexer<'a> {
         files.push(name(alloc, source)?)?;
         Ok(Lexer {
             walk: Walk::new(source, bytes),
+            words: Words::new(alloc),
             files,
             collected: Collected::new(alloc),
         })
@@ -110,7 +113,7 @@ impl<'a> Lexer<'a> {
             column,
         };
         let (lexeme, text) = self.walk.step();
-        let kind = meaning(alloc, start, lexeme, text)?;
+        let kind = meaning(alloc, &mut self.words, start, lexeme, text)?;
         collect(&mut self.collected, place, start, self.walk.at, kind)?;
         name_file(alloc, &mut self.files, lexeme, text)?;
         Ok(())
@@ -129,6 +132,7 @@ pub fn lex(alloc: Global, name: &str, bytes: &[u8]) -> Result<Tokens, LexFault>
     }
     let Lexer {
         walk: _,
+        words: _,
         files,
         collected,
     } = lexer;

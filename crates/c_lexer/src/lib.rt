@@ -15,6 +15,7 @@ mod piece;
 mod table;
 mod token;
 mod walk;
+mod words;
 
 pub use fault::LexFault;
 pub use lexer::{lex, locate};

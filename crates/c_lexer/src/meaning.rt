@@ -1,40 +1,20 @@
 //! What a piece of a source means.
 
-ghost use Rattle.std.specs.Prelude.{◌≡◌, ◌<◌, ◌≤◌, ◌+◌, ◌^◌, length, IfOk, IsOkUnless};
+ghost use Rattle.std.specs.Prelude.{◌≡◌, ◌<◌, ◌≤◌, ◌+◌, ◌^◌, length, OnOk};
 ghost use Rattle.c_lexer.specs.Fault.{Answers};
 ghost use Rattle.c_lexer.specs.Literal.{unescape};
 ghost use Rattle.c_lexer.specs.Number.{number};
+ghost use Rattle.c_lexer.specs.Words.{IsRight};
 ghost use Rattle.c_lexer.specs.Meaning as spec;
 
 use crate::fault::LexFault;
 use crate::literal::unescape;
-use crate::lookup::reserved;
 use crate::number::{NumberFault, Numeric, number};
 use crate::piece::{Lexeme, Stray};
-use crate::table::Reserved;
-use crate::token::{Name, TokenKind};
+use crate::token::TokenKind;
+use crate::words::Words;
 use plain_data::{Items, Shared};
 use std::alloc::Global;
-
-/// An identifier's name.
-pub fn name(alloc: Global, text: &[u8]) -> Result<Name, LexFault>
-    ensures value { IfOk result (λ name. name ≡ text.now) }
-    ensures err { IsOkUnless result LexFault.Memory }
-{
-    Ok(Shared::new(alloc, Items::from_slice(alloc, text)?)?)
-}
-
-fn word(alloc: Global, text: &[u8]) -> Result<Option<TokenKind>, LexFault>
-    ensures value { IfOk result (λ kind. kind ≡ spec.word_kind text.now) }
-    ensures err { IsOkUnless result LexFault.Memory }
-{
-    match reserved(text) {
-        Some(Reserved::Keyword(keyword)) => Ok(Some(TokenKind::Keyword(keyword))),
-        Some(Reserved::FunctionName) => Ok(Some(TokenKind::FunctionName)),
-        Some(Reserved::Dropped) => Ok(None),
-        None => Ok(Some(TokenKind::Identifier(name(alloc, text)?))),
-    }
-}
 
 fn numeric(at: u32, text: &[u8]) -> Result<Option<TokenKind>, LexFault>
     ensures { result ≡ spec.number_kind at (number text.now) }
@@ -90,17 +70,20 @@ fn stray_fault(at: u32, stray: Stray) -> LexFault
 
 /// What the piece means that has these bytes and begins at an offset: a token's kind, nothing, or a fault.
 #[tactic(auto, unfolding(crate::specs::Meaning::meaning))]
-pub fn meaning(
+pub fn meaning<'a>(
     alloc: Global,
+    words: &mut Words<'a>,
     at: u32,
     lexeme: Lexeme,
-    text: &[u8],
+    text: &'a [u8],
 ) -> Result<Option<TokenKind>, LexFault>
-    requires { at + length text.now + 1 < 2 ^ 32 }
-    ensures { Answers (λ kind. kind) (spec.meaning at (lexeme, text.now)) result }
+    requires short { at + length text.now + 1 < 2 ^ 32 }
+    requires right { IsRight words.old }
+    ensures value { Answers (λ kind. kind) (spec.meaning at (lexeme, text.entry.now)) result }
+    ensures right { OnOk result (IsRight words.new) }
 {
     match lexeme {
-        Lexeme::Word => word(alloc, text),
+        Lexeme::Word => words.kind(alloc, text),
         Lexeme::Punctuator(mark) => Ok(Some(TokenKind::Punctuator(mark))),
         Lexeme::Number => numeric(at, text),
         Lexeme::Character => character(alloc, at, text),

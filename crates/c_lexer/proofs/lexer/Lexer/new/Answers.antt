@@ -10,7 +10,7 @@ use Rattle.c_lexer.proofs.lexer.Lexer.new.Goals as goal
 pub returns-clause-ok : goal.returns-clause-ok
 unfolding lexed
 returns-clause-ok c =
-    let c2 = c.new-2.result in
+    let c2 = c.new-3.result in
     let w = c.new.result in
     let names : c.push.new.self.items ≡ c.args.source.now ∷ [] =
     c.in_ok-push.ensures.items ∙ ap (λ xs. xs ++ c.in_ok-name.field-0 ∷ []) c.new-files.ensures.items ∙ ap (λ x. x ∷ []) c.in_ok-name.ensures.value in
@@ -19,4 +19,4 @@ returns-clause-ok c =
     ∙ ap (λ s. completed (c.args.source.now ∷ []) c2 (read 0 0 s (divide 0 w.fresh w.rest.now))) c.new.ensures.here
     ∙ ap (λ f. completed (c.args.source.now ∷ []) c2 (read 0 0 (beginning c.args.source.now) (divide 0 f w.rest.now))) c.new.ensures.fresh
     ∙ ap (λ r. completed (c.args.source.now ∷ []) c2 (read 0 0 (beginning c.args.source.now) (divide 0 true r))) c.new.ensures.rest
-    ∙ at_first c.args.source.now c2 c.new-2.ensures.tokens c.new-2.ensures.open_groups c.new-2.ensures.after_word (read 0 0 (beginning c.args.source.now) (divide 0 true c.args.bytes.now))
+    ∙ at_first c.args.source.now c2 c.new-3.ensures.tokens c.new-3.ensures.open_groups c.new-3.ensures.after_word (read 0 0 (beginning c.args.source.now) (divide 0 true c.args.bytes.now))
