@@ -27,6 +27,10 @@ drop-cons : (n b : ℕ) (text : Text) → 1 ≤ n → drop (n - 1) text ≡ drop
 drop-cons zero b text h = absurd (omega arith)
 drop-cons (suc n) b text h = let e : suc n - 1 ≡ n = omega arith in ap (λ k. drop k text) e
 
+-- the pieces after the first
+pub divide_rest : (n b : ℕ) (text : Text) (fresh : Bool) → 1 ≤ n → divide (n - 1) fresh text ≡ divide 0 fresh (drop n (b ∷ text))
+divide_rest n b text fresh long = divide-drop (n - 1) fresh text ∙ ap (divide 0 fresh) (drop-cons n b text long)
+
 -- the first piece, and the division of the rest
 pub divide_next : (fresh : Bool) (text : Text) → 0 < length text → 1 ≤ (piece_at fresh text).1 →
     divide 0 fresh text

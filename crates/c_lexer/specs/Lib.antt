@@ -11,5 +11,6 @@ pub mod Meaning
 pub mod Words
 pub mod Attributes
 pub mod Collected
+pub mod Spelling
 pub mod Reading
 pub mod Walks

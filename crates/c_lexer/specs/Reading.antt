@@ -1,7 +1,8 @@
 -- The tokens that a source spells, or its first fault.
-use Rattle.std.specs.Prelude.{ℕ, ◌+◌, true, List, [], ◌∷◌, ◌++◌, length, slice_range, Option, Some, None, Result, Ok, Err}
+use Rattle.std.specs.Prelude.{◌≡◌, ℕ, ◌+◌, true, List, [], ◌∷◌, ◌++◌, length, slice_range, Option, Some, None, Result, Ok, Err}
 use Rattle.c_lexer.specs.Class.{Text}
 use Rattle.c_lexer.specs.Division.{Element, divide}
+use Rattle.c_lexer.specs.Spelling.{Divides}
 use Rattle.c_lexer.specs.Places.{beginning, spot_after}
 use Rattle.c_lexer.specs.Meaning.{Meaning, meaning}
 use Rattle.c_lexer.specs.Attributes.{without_attributes}
@@ -54,3 +55,9 @@ finished name (Ok t) = Ok (record { files = name ∷ t.files; tokens = without_a
 -- the names of a source's files, and its tokens; or its first fault
 unfoldable pub lexed : Text → Text → Reading
 lexed name bytes = finished name (read 0 0 (beginning name) (divide 0 true bytes))
+
+-- a source spells these tokens, under these file names
+pub record Spells (name bytes : Text) (tokens : Tokens) : Type 0 where
+  pub division : List Element
+  pub divides : Divides true bytes division
+  pub reads : finished name (read 0 0 (beginning name) division) ≡ Ok tokens

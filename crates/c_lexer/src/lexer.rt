@@ -1,13 +1,16 @@
 //! Cutting a source into tokens.
 
-ghost use Rattle.std.specs.Prelude.{◌≡◌, ◌<◌, ◌≤◌, ◌+◌, ◌-◌, ◌^◌, List, ◌++◌, length, OnOk, IfOk, IfErr, IsOkUnless};
+ghost use Rattle.std.specs.Prelude.{◌≡◌, ◌≢◌, true, ◌<◌, ◌≤◌, ◌+◌, ◌-◌, ◌^◌, List, ◌++◌, length, OnOk, IfOk, IfErr, IsOkUnless};
 ghost use Rattle.c_lexer.specs.Piece.{IsNamedWithin};
 ghost use Rattle.c_lexer.specs.Attributes.{keep};
 ghost use Rattle.c_lexer.specs.Collected.{collected, IsNested};
 ghost use Rattle.c_lexer.specs.Fault.{Answers, Refused};
 ghost use Rattle.c_lexer.specs.Places.{located};
 ghost use Rattle.c_lexer.specs.Reading as spec;
+ghost use Rattle.c_lexer.specs.Division.{Element};
+ghost use Rattle.c_lexer.specs.Spelling.{Divides};
 ghost use Rattle.c_lexer.specs.declared.token.Token.{Token};
+ghost use Rattle.c_lexer.specs.declared.token.Tokens.{Tokens as TokenList};
 
 use crate::attribute::Collected;
 use crate::fault::LexFault;
@@ -120,9 +123,7 @@ impl<'a> Lexer<'a> {
     }
 }
 
-/// The tokens that a source spells by C99 6.4, or its first fault. `name` is the file that holds before the
-/// first line marker. A fault is the first in the source, with the offset at which it stands.
-pub fn lex(alloc: Global, name: &str, bytes: &[u8]) -> Result<Tokens, LexFault>
+fn tokens_of(alloc: Global, name: &str, bytes: &[u8]) -> Result<Tokens, LexFault>
     requires { length bytes.now ≤ 8388608 }
     ensures { Answers (λ tokens. tokens) (spec.lexed name.now bytes.now) result }
 {
@@ -145,6 +146,21 @@ pub fn lex(alloc: Global, name: &str, bytes: &[u8]) -> Result<Tokens, LexFault>
         files: Items::from_vec(files),
         tokens: Items::from_vec(tokens),
     })
+}
+
+/// The tokens that a source spells by C99 6.4, or its first fault. `name` is the file that holds before the
+/// first line marker. A fault is the first in the source, with the offset at which it stands.
+///
+/// A source divides in one way at most, and what it spells is what is answered; what is refused for another
+/// cause than memory spells no tokens.
+pub fn lex(alloc: Global, name: &str, bytes: &[u8]) -> Result<Tokens, LexFault>
+    requires { length bytes.now ≤ 8388608 }
+    ensures value { Answers (λ tokens. tokens) (spec.lexed name.now bytes.now) result }
+    ensures spelled { IfOk result (λ tokens. spec.Spells name.now bytes.now tokens) }
+    ensures refused { IfErr result (λ fault. fault ≢ LexFault.Memory → (tokens : TokenList) → spec.Spells name.now bytes.now tokens → ⊥) }
+    ensures only { (one other : List Element) → Divides true bytes.now one → Divides true bytes.now other → one ≡ other }
+{
+    tokens_of(alloc, name, bytes)
 }
 
 /// Where the byte at an offset stands, or the end of the source, by the line markers before it. It fails

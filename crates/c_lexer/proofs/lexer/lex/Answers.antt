@@ -1,14 +1,11 @@
-use Rattle.std.proofs.Common.{◌≡◌, length, Ok, sym, ap, arith, ◌∙◌}
-use Rattle.std.proofs.lemmas.Bool.Decides.{nat_tests}
-use Rattle.c_lexer.specs.Reading.{Reading}
-use Rattle.c_lexer.proofs.Walking.{at_last}
+use Rattle.c_lexer.proofs.Unique.{answer_spelled, answer_refused, one_division}
 use Rattle.c_lexer.proofs.lexer.lex.Goals as goal
 
-pub returns : goal.returns
-returns c =
-    let l = c.pieces.lexer in
-    let ended : length l.walk.rest.now ≡ 0 = grind (arith, nat_tests) in
-    sym c.pieces.invariant.whole_is
-    ∙ at_last l ended
-    ∙ ap (λ fs. Ok (record { files = fs; tokens = l.collected.tokens.items })) (sym c.from_vec.ensures)
-    ∙ ap (λ ts. Ok (record { files = c.from_vec.result; tokens = ts })) (sym c.from_vec-2.ensures)
+pub returns-clause-spelled : goal.returns-clause-spelled
+returns-clause-spelled c = answer_spelled c.args.name.now c.args.bytes.now c.tokens_of.result c.tokens_of.ensures
+
+pub returns-clause-refused : goal.returns-clause-refused
+returns-clause-refused c = answer_refused c.args.name.now c.args.bytes.now c.tokens_of.result c.tokens_of.ensures
+
+pub returns-clause-only : goal.returns-clause-only
+returns-clause-only c = one_division c.args.bytes.now

@@ -1,7 +1,7 @@
 use Rattle.std.proofs.Common.{◌≡◌, length}
 use Rattle.c_lexer.specs.Reading.{lexed}
 use Rattle.c_lexer.specs.Walks.{whole, IsValid}
-use Rattle.c_lexer.proofs.lexer.lex.Given as goal
+use Rattle.c_lexer.proofs.lexer.tokens_of.Given as goal
 
 abbrev pub invariant-pieces : goal.invariant-pieces
 invariant-pieces l = record {
