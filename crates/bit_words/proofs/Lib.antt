@@ -1,1 +1,3 @@
+pub mod Signed
+pub mod WordLaws
 pub mod Tables

@@ -1,112 +1,107 @@
--- Tokens as the longest ones that begin at their places, with blanks between them (C99 6.4).
-use Rattle.std.specs.Prelude.{ℕ, zero, suc, ◌+◌, List, [], ◌∷◌, ◌++◌, length, drop, Bool, true, false, ◌==◌, ◌||◌, if◌then◌else◌, Option, Some, None, option_map, codes}
-use Rattle.std.specs.List.{list_any, take_while, starts_with}
-use Rattle.std.specs.Prelude.{nat_eq}
-use Rattle.std.specs.Str.{bytes_eq}
-use Rattle.c_lexer.specs.declared.word.TheConstants.{RESERVED}
-use Rattle.c_lexer.specs.declared.token.TokenKind.{TokenKind}
-use Rattle.c_lexer.specs.declared.token.TokenKind.TheVariants.{Identifier, Keyword, Punctuator, Integer, StringLiteral}
-use Rattle.c_lexer.specs.declared.token.Keyword.{Keyword as KeywordType}
-use Rattle.c_lexer.specs.declared.token.Punctuator.{Punctuator as PunctuatorType}
-use Rattle.c_lexer.specs.declared.token.Punctuator.TheVariants.{LeftParenthesis, RightParenthesis, LeftBrace, RightBrace, Semicolon, Comma, Star, Ellipsis}
-use Rattle.c_lexer.specs.declared.token.Token.{Token}
-use Rattle.c_lexer.specs.Words.{is_letter, is_digit, is_word_byte, keyword_of, constant_of}
-use Rattle.c_lexer.specs.Literals.{literal_of}
+-- What each kind of piece is spelled by (C99 6.4), and the division of a source into pieces, each the longest that begins at its place.
+use Rattle.std.specs.Prelude.{◌≡◌, ◌≢◌, ℕ, ◌<◌, ◌≤◌, Bool, true, false, ◌&&◌, ◌||◌, ◌==◌, ◌⊎◌, List, [], ◌∷◌, ◌++◌, length, map, slice_index, Option, Some, None, IsSome, ⊤}
+use Rattle.c_lexer.specs.Class.{Text, is_in}
+use Rattle.c_lexer.specs.Number.{goes_on}
+use Rattle.c_lexer.specs.Directive.{directive}
+use Rattle.c_lexer.specs.Piece.{begins_number}
+use Rattle.c_lexer.specs.Division.{Element, fresh_after}
+use Rattle.c_lexer.specs.declared.class.Class.{Class}
+use Rattle.c_lexer.specs.declared.class.Class.TheVariants as class
+use Rattle.c_lexer.specs.declared.directive.Directive.TheVariants as says
+use Rattle.c_lexer.specs.declared.piece.Lexeme.{Lexeme}
+use Rattle.c_lexer.specs.declared.piece.Lexeme.TheVariants as lexeme
+use Rattle.c_lexer.specs.declared.table.TheConstants.{PUNCTUATORS}
 
--- what a token means, and how many bytes spell it
-abbrev pub Spelled : Type 0
-Spelled = TokenKind × ℕ
+-- each byte is of a class
+abbrev pub AllIn : Class → Text → Type 0
+AllIn c [] = ⊤
+AllIn c (b ∷ bs) = (is_in c b ≡ true) × AllIn c bs
 
-abbrev pub is_reserved : List ℕ → Bool
-is_reserved word = list_any (λ one. bytes_eq one.now word) RESERVED
+-- an identifier or a keyword (6.4.2.1): a letter, then letters and digits
+abbrev pub IsWord : Text → Type 0
+IsWord [] = ⊥
+IsWord (b ∷ bs) = (is_in class.Letter b ≡ true) × AllIn class.Word bs
 
-abbrev pub kind_of_word : List ℕ → Option KeywordType → Option TokenKind
-kind_of_word word (Some keyword) = Some (Keyword keyword)
-kind_of_word word None = if is_reserved word then None else Some (Identifier word)
+-- each byte goes on the number whose last byte is `previous`
+abbrev pub GoesOn : ℕ → Text → Type 0
+GoesOn previous [] = ⊤
+GoesOn previous (b ∷ bs) = (goes_on previous b ≡ true) × GoesOn b bs
 
-abbrev pub of_length : ℕ → TokenKind → Spelled
-of_length count kind = (kind, count)
+-- a preprocessing number (6.4.8): a digit, or a point and a digit, and what goes on it
+abbrev pub IsNumber : Text → Type 0
+IsNumber [] = ⊥
+IsNumber (b ∷ bs) = (begins_number (b ∷ bs) ≡ true) × GoesOn b bs
 
--- an identifier or a keyword, or an integer constant
-abbrev pub word_token : List ℕ → Option Spelled
-word_token word = option_map (of_length (length word)) (kind_of_word word (keyword_of word))
+-- what stands between the quotes of a literal (6.4.4.4, 6.4.5): any byte but the quote, the backslash and the newline, or a backslash and any byte but a newline
+pub data IsBody (quote : ℕ) : Text → Type 0 where
+  none : IsBody quote []
+  plain : {b : ℕ} {bs : Text} → (b == 10) ≡ false → (b == quote) ≡ false → (b == 92) ≡ false → IsBody quote bs → IsBody quote (b ∷ bs)
+  escaped : {b : ℕ} {bs : Text} → (b == 10) ≡ false → IsBody quote bs → IsBody quote (92 ∷ b ∷ bs)
 
-abbrev pub number_token : List ℕ → Option Spelled
-number_token word = option_map (λ value. (Integer (record { value = value }), length word)) (constant_of word)
+-- a body between quotes
+abbrev pub IsQuoted : ℕ → Text → Type 0
+IsQuoted quote bytes = (body : Text) × IsBody quote body × (bytes ≡ quote ∷ body ++ quote ∷ [])
 
--- a string literal, behind its opening quote
-abbrev pub literal_token : List ℕ → Option Spelled
-literal_token bytes = option_map (λ text. (StringLiteral text.0, text.1 + 1)) (literal_of bytes)
+-- no `*/` stands in the bytes, nor `/` first where a star stands before them
+abbrev pub IsUnclosed : Bool → Text → Type 0
+IsUnclosed after_star [] = ⊤
+IsUnclosed after_star (b ∷ bs) = ((after_star && b == 47) ≡ false) × IsUnclosed (b == 42) bs
 
-abbrev pub single_of : ℕ → Option PunctuatorType
-single_of byte =
-    if byte == 40 then Some LeftParenthesis else
-    (if byte == 41 then Some RightParenthesis else
-    (if byte == 123 then Some LeftBrace else
-    (if byte == 125 then Some RightBrace else
-    (if byte == 59 then Some Semicolon else
-    (if byte == 44 then Some Comma else
-    (if byte == 42 then Some Star else None))))))
+-- whether the last byte is a star, or the byte before where there is none
+abbrev pub ends_in_star : Bool → Text → Bool
+ends_in_star after_star [] = after_star
+ends_in_star after_star (b ∷ bs) = ends_in_star (b == 42) bs
 
-abbrev pub punctuator_token : ℕ → List ℕ → Option Spelled
-punctuator_token byte bytes =
-    if starts_with nat_eq bytes (codes "...") then Some (Punctuator Ellipsis, 3) else
-    option_map (λ mark. (Punctuator mark, 1)) (single_of byte)
+-- `/*`, and a `/` after the first star that it follows (6.4.9)
+abbrev pub IsBlockComment : Text → Type 0
+IsBlockComment bytes = (body : Text) × IsUnclosed false body × (ends_in_star false body ≡ true) × (bytes ≡ 47 ∷ 42 ∷ body ++ 47 ∷ [])
 
--- the token that begins here
-abbrev pub token_at : List ℕ → Option Spelled
-token_at [] = None
-token_at (byte ∷ rest) =
-    if is_letter byte then word_token (take_while is_word_byte (byte ∷ rest)) else
-    (if is_digit byte then number_token (take_while is_word_byte (byte ∷ rest)) else
-    (if byte == 34 then literal_token rest else punctuator_token byte (byte ∷ rest)))
+-- `//`, and what follows on its line (6.4.9)
+abbrev pub IsLineComment : Text → Type 0
+IsLineComment bytes = (more : Text) × AllIn class.Line more × (bytes ≡ 47 ∷ 47 ∷ more)
 
--- where the next byte stands in the source
-pub record Position : Type 0 where
-  pub offset : ℕ
-  pub line : ℕ
-  pub column : ℕ
+-- A quote, a comment's first two bytes and a `#` that is first on its line begin nothing but a literal, a comment and a directive.
+abbrev pub opens : Bool → Text → Bool
+opens fresh text =
+    let b = slice_index text 0 in
+    let next = slice_index text 1 in
+    b == 34 || b == 39 || (b == 76 && (next == 34 || next == 39)) || (b == 47 && (next == 42 || next == 47)) || (b == 35 && fresh)
 
-abbrev pub is_blank : ℕ → Bool
-is_blank byte = byte == 32 || (byte == 9 || (byte == 10))
+-- a row of a table has these bytes and this meaning
+abbrev pub Has : {T : Type 0} → List (Text × T) → Text → T → Type 0
+Has [] bytes t = ⊥
+Has (row ∷ rows) bytes t = ((row.0 ≡ bytes) × (row.1 ≡ t)) ⊎ Has rows bytes t
 
-abbrev pub after_blank : ℕ → Position → Position
-after_blank byte p = record {
-  offset = p.offset + 1;
-  line = if byte == 10 then p.line + 1 else p.line;
-  column = if byte == 10 then 1 else p.column + 1;
-}
+-- a kind of piece is spelled by some bytes, before the rest of a source
+abbrev pub Begins : Bool → Lexeme → Text → Text → Type 0
+Begins fresh lexeme.Blank bytes rest = (bytes ≢ []) × AllIn class.Blank bytes
+Begins fresh lexeme.Newline bytes rest = bytes ≡ 10 ∷ []
+Begins fresh lexeme.Comment bytes rest = IsBlockComment bytes ⊎ IsLineComment bytes
+Begins fresh (lexeme.Marker line from to) bytes rest =
+    (fresh ≡ true) × ((more : Text) × AllIn class.Line more × (bytes ≡ 35 ∷ more ++ 10 ∷ []) × (directive (35 ∷ more) ≡ Some (says.Marker line from to)))
+Begins fresh lexeme.Ignored bytes rest =
+    (fresh ≡ true) × ((more : Text) × AllIn class.Line more
+    × (((bytes ≡ 35 ∷ more ++ 10 ∷ []) × (directive (35 ∷ more) ≡ Some says.Pragma)) ⊎ ((bytes ≡ 35 ∷ more) × (rest ≡ []) × IsSome (directive (35 ∷ more)))))
+Begins fresh lexeme.Word bytes rest = IsWord bytes × (opens fresh (bytes ++ rest) ≡ false)
+Begins fresh lexeme.Number bytes rest = IsNumber bytes
+Begins fresh lexeme.Character bytes rest = IsQuoted 39 bytes
+Begins fresh lexeme.Text bytes rest = IsQuoted 34 bytes
+Begins fresh lexeme.WideCharacter bytes rest = (more : Text) × IsQuoted 39 more × (bytes ≡ 76 ∷ more)
+Begins fresh lexeme.WideText bytes rest = (more : Text) × IsQuoted 34 more × (bytes ≡ 76 ∷ more)
+Begins fresh (lexeme.Punctuator p) bytes rest = Has (map (λ row. (row.0.now, row.1)) PUNCTUATORS) bytes p × (opens fresh (bytes ++ rest) ≡ false)
+Begins fresh (lexeme.Stray s) bytes rest = ⊥
 
-abbrev pub after_token : ℕ → Position → Position
-after_token count p = record { offset = p.offset + count; line = p.line; column = p.column + count }
+-- a piece of a text is the longest that begins there
+pub record IsLongest (fresh : Bool) (text : Text) (kind : Lexeme) (bytes rest : Text) : Type 0 where
+  pub splits : text ≡ bytes ++ rest
+  pub begins : Begins fresh kind bytes rest
+  pub longest : (other : Lexeme) (more less : Text) → text ≡ more ++ less → Begins fresh other more less → length more ≤ length bytes
 
--- a token that is spelled so at this position of the first file
-abbrev pub token_of : Position → Spelled → Token
-token_of p spelled = record {
-  kind = spelled.0;
-  start = p.offset;
-  end = p.offset + spelled.1;
-  place = record { file = 0; line = p.line; column = p.column };
-}
+-- a text divides into pieces, each the longest that begins at its place
+abbrev pub Divides : Bool → Text → List Element → Type 0
+Divides fresh text [] = text ≡ []
+Divides fresh text (e ∷ es) = (rest : Text) × IsLongest fresh text e.0 e.1 rest × Divides (fresh_after fresh e.0) rest es
 
-abbrev pub Scan : Type 0
-Scan = List Token → Position → List ℕ → Option (List Token)
-
-abbrev pub goes_on : Option Spelled → Scan → Scan
-goes_on None go tokens p bytes = None
-goes_on (Some spelled) go tokens p bytes = go (tokens ++ token_of p spelled ∷ []) (after_token spelled.1 p) (drop spelled.1 bytes)
-
--- the tokens of what is left, at most so many tokens and blanks, behind those that were read
-unfoldable pub tokens_from : ℕ → Scan
-tokens_from zero tokens p bytes = None
-tokens_from (suc n) tokens p [] = Some tokens
-tokens_from (suc n) tokens p (byte ∷ rest) =
-    if is_blank byte then tokens_from n tokens (after_blank byte p) rest else
-    goes_on (token_at (byte ∷ rest)) (tokens_from n) tokens p (byte ∷ rest)
-
-abbrev pub start : Position
-start = record { offset = 0; line = 1; column = 1 }
-
--- the tokens that a source spells
-abbrev pub tokens_of : List ℕ → Option (List Token)
-tokens_of bytes = tokens_from (suc (length bytes)) [] start bytes
+-- nothing begins at a text
+abbrev pub IsStray : Bool → Text → Type 0
+IsStray fresh text = (kind : Lexeme) (bytes rest : Text) → text ≡ bytes ++ rest → Begins fresh kind bytes rest → ⊥

@@ -1,198 +1,180 @@
-ghost use Rattle.std.specs.Prelude.{◌≡◌, ◌+◌, ◌≤◌, ◌<◌, IfOk, IfSome, IsNone, None, Some, length, [], ◌∷◌};
-ghost use Rattle.c_lexer.specs.Spelling as spec;
-ghost use Rattle.c_lexer.specs.Lexed.{Lexes, LexesTokens};
+//! Cutting a source into tokens.
 
-use crate::literal::literal_of;
-use crate::token::{IntegerConstant, Place, Punctuator, Token, TokenKind, Tokens};
-use crate::word::{constant_of, is_digit, is_letter, is_reserved, keyword_of, word_length};
-use bit_words::Bytes;
-use plain_data::{Items, Shared};
-use std::alloc::{AllocError, Global};
-use thiserror::Error;
+ghost use Rattle.std.specs.Prelude.{◌≡◌, ◌≢◌, true, ◌<◌, ◌≤◌, ◌+◌, ◌-◌, ◌^◌, List, ◌++◌, length, OnOk, IfOk, IfErr, IsOkUnless};
+ghost use Rattle.c_lexer.specs.Piece.{IsNamedWithin};
+ghost use Rattle.c_lexer.specs.Attributes.{keep};
+ghost use Rattle.c_lexer.specs.Collected.{collected, IsNested};
+ghost use Rattle.c_lexer.specs.Fault.{Answers, Refused};
+ghost use Rattle.c_lexer.specs.Places.{located};
+ghost use Rattle.c_lexer.specs.Reading as spec;
+ghost use Rattle.c_lexer.specs.Division.{Element};
+ghost use Rattle.c_lexer.specs.Spelling.{Divides};
+ghost use Rattle.c_lexer.specs.declared.token.Token.{Token};
+ghost use Rattle.c_lexer.specs.declared.token.Tokens.{Tokens as TokenList};
 
-/// The greatest source, in bytes.
-pub const MAX_SOURCE: usize = 8_388_608;
+use crate::attribute::Collected;
+use crate::fault::LexFault;
+use crate::meaning::meaning;
+use crate::piece::Lexeme;
+use crate::token::{Name, Place, Spot, Token, TokenKind, Tokens};
+use crate::walk::{Here, Walk, here_at};
+use crate::words::{Words, name};
+use plain_data::Items;
+use std::alloc::Global;
 
-/// Why there are no tokens.
-#[derive(Clone, Copy, Debug, PartialEq, Eq, Error)]
-pub enum LexFault {
-    #[error("the bytes are not tokens of the form that is read so far")]
-    NotYetRead,
-    #[error("out of memory")]
-    Memory,
+/// A walk over a source, with the file names and the tokens so far.
+#[derive(Drop)]
+pub struct Lexer<'a> {
+    pub walk: Walk<'a>,
+    pub words: Words<'a>,
+    pub files: Vec<Name>,
+    pub collected: Collected,
 }
 
-impl From<AllocError> for LexFault {
-    ghost use Rattle.std.specs.Prelude.{◌≡◌};
-    ghost use Rattle.c_lexer.specs.declared.lexer.LexFault.TheVariants.{Memory};
-
-    ghost from_gives = { λ _ e. e ≡ Memory };
-
-    fn from(_error: AllocError) -> LexFault {
-        LexFault::Memory
-    }
-}
-
-/// A token's meaning, and how many bytes spell it.
-type Spelled = (TokenKind, usize);
-
-fn word_token(alloc: Global, word: &[u8]) -> Result<Option<Spelled>, AllocError>
-    ensures value { IfOk result (λ found. found ≡ spec.word_token word.now) }
-    ensures within { IfOk result (λ found. IfSome found (λ spelled. spelled.1 ≡ length word.now)) }
+/// Puts a piece's token, if it is one, at the end.
+fn collect(
+    tokens: &mut Collected,
+    place: Place,
+    start: u32,
+    end: u32,
+    kind: Option<TokenKind>,
+) -> Result<(), LexFault>
+    requires nested { IsNested tokens.old }
+    ensures ok { OnOk result ((rest : List Token) → collected tokens.new (keep rest) ≡ collected tokens.old (keep (spec.token_at place start end kind ++ rest))) }
+    ensures nested { OnOk result (IsNested tokens.new) }
+    ensures err { IsOkUnless result LexFault.Memory }
 {
-    if let Some(keyword) = keyword_of(word) {
-        return Ok(Some((TokenKind::Keyword(keyword), word.len())));
-    }
-    if is_reserved(word) {
-        return Ok(None);
-    }
-    let name = Shared::new(alloc, Bytes::from_slice(alloc, word)?)?;
-    Ok(Some((TokenKind::Identifier(name), word.len())))
-}
-
-fn number_token(word: &[u8]) -> Option<Spelled>
-    ensures value { result ≡ spec.number_token word.now }
-    ensures within { IfSome result (λ spelled. spelled.1 ≡ length word.now) }
-{
-    match constant_of(word) {
-        Some(value) => Some((TokenKind::Integer(IntegerConstant { value }), word.len())),
-        None => None,
+    match kind {
+        None => Ok(()),
+        Some(kind) => tokens.push(Token {
+            kind,
+            start,
+            end,
+            place,
+        }),
     }
 }
 
-/// A string literal, behind its opening quote.
-fn literal_token(alloc: Global, bytes: &[u8]) -> Result<Option<Spelled>, AllocError>
-    requires { length bytes.now < usize.MAX }
-    ensures value { IfOk result (λ found. found ≡ spec.literal_token bytes.now) }
-    ensures within { IfOk result (λ found. IfSome found (λ text. text.1 ≤ length bytes.now + 1)) }
+/// Puts the name that a piece gives to the lines after it, if it is a marker, at the end.
+fn name_file(
+    alloc: Global,
+    files: &mut Vec<Name>,
+    lexeme: Lexeme,
+    text: &[u8],
+) -> Result<(), LexFault>
+    requires named { IsNamedWithin (lexeme, length text.now) }
+    ensures ok { OnOk result (files.new.items ≡ files.old.items ++ spec.named_by (lexeme, text.now)) }
+    ensures err { IsOkUnless result LexFault.Memory }
 {
-    match literal_of(alloc, bytes)? {
-        Some((text, used)) => {
-            let text = Shared::new(alloc, text)?;
-            Ok(Some((TokenKind::StringLiteral(text), used + 1)))
+    match lexeme {
+        Lexeme::Marker { line: _, from, to } => {
+            files.push(name(alloc, &text[from..to])?)?;
+            Ok(())
         }
-        None => Ok(None),
+        _ => Ok(()),
     }
 }
 
-fn single_of(byte: u8) -> Option<Punctuator>
-    ensures { result ≡ spec.single_of byte }
+impl<'a> Lexer<'a> {
+    ghost use Rattle.c_lexer.specs.Walks.{whole, IsValid};
+    ghost use Rattle.c_lexer.specs.Reading.{lexed};
+
+    fn new(alloc: Global, source: &'a [u8], bytes: &'a [u8]) -> Result<Lexer<'a>, LexFault>
+        requires { length bytes.now ≤ 8388608 }
+        ensures ok { IfOk result (λ lexer. whole lexer ≡ lexed source.now bytes.now) }
+        ensures valid { IfOk result (λ lexer. IsValid lexer) }
+        ensures err { IsOkUnless result LexFault.Memory }
+    {
+        let mut files = Vec::new(alloc);
+        files.push(name(alloc, source)?)?;
+        Ok(Lexer {
+            walk: Walk::new(source, bytes),
+            words: Words::new(alloc),
+            files,
+            collected: Collected::new(alloc),
+        })
+    }
+
+    /// Takes the next piece.
+    fn take(&mut self, alloc: Global) -> Result<(), LexFault>
+        requires some { 0 < length self.old.walk.rest.now }
+        requires valid { IsValid self.old }
+        ensures ok { OnOk result (whole self.new ≡ whole self.old) }
+        ensures err { IfErr result (λ fault. Refused (whole self.old) fault) }
+        ensures valid { OnOk result (IsValid self.new) }
+        ensures shorter { OnOk result (length self.new.walk.rest.now < length self.old.walk.rest.now) }
+    {
+        let start = self.walk.at;
+        let Here {
+            file: _,
+            line,
+            column,
+        } = self.walk.here;
+        let place = Place {
+            file: (self.files.len() - 1) as u32,
+            line,
+            column,
+        };
+        let (lexeme, text) = self.walk.step();
+        let kind = meaning(alloc, &mut self.words, start, lexeme, text)?;
+        collect(&mut self.collected, place, start, self.walk.at, kind)?;
+        name_file(alloc, &mut self.files, lexeme, text)?;
+        Ok(())
+    }
+}
+
+fn tokens_of(alloc: Global, name: &str, bytes: &[u8]) -> Result<Tokens, LexFault>
+    requires { length bytes.now ≤ 8388608 }
+    ensures { Answers (λ tokens. tokens) (spec.lexed name.now bytes.now) result }
 {
-    if byte == b'(' {
-        Some(Punctuator::LeftParenthesis)
-    } else if byte == b')' {
-        Some(Punctuator::RightParenthesis)
-    } else if byte == b'{' {
-        Some(Punctuator::LeftBrace)
-    } else if byte == b'}' {
-        Some(Punctuator::RightBrace)
-    } else if byte == b';' {
-        Some(Punctuator::Semicolon)
-    } else if byte == b',' {
-        Some(Punctuator::Comma)
-    } else if byte == b'*' {
-        Some(Punctuator::Star)
-    } else {
-        None
+    let mut lexer = Lexer::new(alloc, name.as_bytes(), bytes)?;
+    'pieces: while !lexer.walk.rest.is_empty() {
+        lexer.take(alloc)?;
     }
+    let Lexer {
+        walk: _,
+        words: _,
+        files,
+        collected,
+    } = lexer;
+    let Collected {
+        tokens,
+        open_groups: _,
+        after_word: _,
+    } = collected;
+    Ok(Tokens {
+        files: Items::from_vec(files),
+        tokens: Items::from_vec(tokens),
+    })
 }
 
-fn punctuator_token(byte: u8, bytes: &[u8]) -> Option<Spelled>
-    requires { 0 < length bytes.now }
-    ensures value { result ≡ spec.punctuator_token byte bytes.now }
-    ensures within { IfSome result (λ spelled. spelled.1 ≤ length bytes.now) }
-{
-    if bytes.starts_with(b"...".as_slice()) {
-        return Some((TokenKind::Punctuator(Punctuator::Ellipsis), 3));
-    }
-    match single_of(byte) {
-        Some(mark) => Some((TokenKind::Punctuator(mark), 1)),
-        None => None,
-    }
-}
-
-/// The token that begins at the front.
-fn token_at(alloc: Global, bytes: &[u8]) -> Result<Option<Spelled>, AllocError>
-    requires { length bytes.now < usize.MAX }
-    ensures value { IfOk result (λ found. found ≡ spec.token_at bytes.now) }
-    ensures within { IfOk result (λ found. IfSome found (λ spelled. spelled.1 ≤ length bytes.now)) }
-{
-    let [first, rest @ ..] = bytes else {
-        return Ok(None);
-    };
-    if is_letter(*first) {
-        word_token(alloc, &bytes[..word_length(bytes)])
-    } else if is_digit(*first) {
-        Ok(number_token(&bytes[..word_length(bytes)]))
-    } else if *first == b'"' {
-        literal_token(alloc, rest)
-    } else {
-        Ok(punctuator_token(*first, bytes))
-    }
-}
-
-fn is_blank(byte: u8) -> bool
-    ensures { result ≡ spec.is_blank byte }
-{
-    byte == b' ' || byte == b'\t' || byte == b'\n'
-}
-
-
-fn tokens_of(alloc: Global, bytes: &[u8]) -> Result<Items<Token>, LexFault>
-    requires { length bytes.now ≤ MAX_SOURCE }
-    ensures { Lexes result (spec.tokens_of bytes.now) }
-{
-    let mut tokens = Items::new(alloc);
-    let mut offset = 0usize;
-    let mut line = 1u32;
-    let mut column = 1u32;
-    let mut left = bytes.len() + 1;
-    'tokens: while left > 0 {
-        left -= 1;
-        if offset == bytes.len() {
-            return Ok(tokens);
-        }
-        let byte = bytes[offset];
-        if is_blank(byte) {
-            offset += 1;
-            if byte == b'\n' {
-                line += 1;
-                column = 1;
-            } else {
-                column += 1;
-            }
-        } else {
-            let (_, rest) = bytes.split_at(offset);
-            let (kind, count) = match token_at(alloc, rest)? {
-                None => return Err(LexFault::NotYetRead),
-                Some(spelled) => spelled,
-            };
-            let place = Place {
-                file: 0,
-                line,
-                column,
-            };
-            tokens.push(Token {
-                kind,
-                start: offset as u32,
-                end: (offset + count) as u32,
-                place,
-            })?;
-            offset += count;
-            column += count as u32;
-        }
-    }
-    Err(LexFault::NotYetRead)
-}
-
-/// The tokens of a source; `name` is the name of its file.
+/// The tokens that a source spells by C99 6.4, or its first fault. `name` is the file that holds before the
+/// first line marker. A fault is the first in the source, with the offset at which it stands.
+///
+/// A source divides in one way at most, and what it spells is what is answered; what is refused for another
+/// cause than memory spells no tokens.
 pub fn lex(alloc: Global, name: &str, bytes: &[u8]) -> Result<Tokens, LexFault>
-    requires { length bytes.now ≤ MAX_SOURCE }
-    ensures tokens { LexesTokens result (spec.tokens_of bytes.now) }
-    ensures files { IfOk result (λ found. found.files ≡ name.now ∷ []) }
+    requires { length bytes.now ≤ 8388608 }
+    ensures value { Answers (λ tokens. tokens) (spec.lexed name.now bytes.now) result }
+    ensures spelled { IfOk result (λ tokens. spec.Spells name.now bytes.now tokens) }
+    ensures refused { IfErr result (λ fault. fault ≢ LexFault.Memory → (tokens : TokenList) → spec.Spells name.now bytes.now tokens → ⊥) }
+    ensures only { (one other : List Element) → Divides true bytes.now one → Divides true bytes.now other → one ≡ other }
 {
-    let tokens = tokens_of(alloc, bytes)?;
-    let mut files = Items::new(alloc);
-    files.push(Bytes::from_slice(alloc, name.as_bytes())?)?;
-    Ok(Tokens { files, tokens })
+    tokens_of(alloc, name, bytes)
+}
+
+/// Where the byte at an offset stands, or the end of the source, by the line markers before it. It fails
+/// for want of memory alone.
+pub fn locate(alloc: Global, name: &str, bytes: &[u8], at: u32) -> Result<Spot, LexFault>
+    requires short { length bytes.now ≤ 8388608 }
+    requires within { at ≤ length bytes.now }
+    ensures ok { IfOk result (λ spot. spot ≡ located name.now bytes.now at) }
+    ensures err { IsOkUnless result LexFault.Memory }
+{
+    let here = here_at(name.as_bytes(), bytes, at);
+    Ok(Spot {
+        file: Items::from_slice(alloc, here.file)?,
+        line: here.line,
+        column: here.column,
+    })
 }

@@ -1,13 +1,27 @@
-//! The tokens of a preprocessed C source (C99 6.4), so far of the first form that is read.
+//! The lexical grammar of preprocessed C (C99 6.4): a source's bytes divide into white space, comments,
+//! directives and tokens, each the longest that begins at its place.
 #![tactic(auto)]
 
-
-
+mod attribute;
+mod class;
+mod directive;
+mod fault;
 mod lexer;
 mod literal;
+mod lookup;
+mod meaning;
+mod number;
+mod piece;
+mod table;
 mod token;
-mod word;
+mod walk;
+mod words;
 
-pub use lexer::{LexFault, MAX_SOURCE, lex};
-pub use token::{IntegerConstant, Keyword, Name, Place, Punctuator, Token, TokenKind, Tokens};
+pub use fault::LexFault;
+pub use lexer::{lex, locate};
+pub use token::{
+    IntegerConstant, IntegerType, Keyword, Name, Place, Punctuator, Spot, Token, TokenKind, Tokens,
+};
 
+#[cfg(test)]
+mod tests;

@@ -31,7 +31,7 @@ pub enum Stmt {
     },
     /// `return` of a constant.
     Return {
-        value: u32,
+        value: i32,
     },
 }
 

@@ -1,1 +1,10 @@
 pub mod Reading
+pub mod Cases
+pub mod Ways
+pub mod Cover
+mod LogLines
+mod FactOrder
+pub mod Worlds
+pub mod Candidates
+pub mod Listings
+pub mod Weighs

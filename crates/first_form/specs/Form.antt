@@ -1,6 +1,6 @@
 -- The first form of a source, rule by rule (C99 6.7, 6.8, 6.9): each rule takes its tokens from the front of
 -- a list, and gives its tree and the tokens behind it.
-use Rattle.std.specs.Prelude.{◌≡◌, ◌+◌, ◌≤◌, ℕ, zero, suc, List, [], ◌∷◌, ◌++◌, length, Bool, true, false, ◌&&◌, ◌||◌, not, nat_le, if◌then◌else◌, Option, Some, None, Result, Ok, Err, codes, count_by, option_map, ◌==◌}
+use Rattle.std.specs.Prelude.{◌≡◌, ◌+◌, ◌≤◌, ℕ, ℤ, pos, zero, suc, List, [], ◌∷◌, ◌++◌, length, Bool, true, false, ◌&&◌, ◌||◌, not, nat_le, if◌then◌else◌, Option, Some, None, Result, Ok, Err, codes, count_by, option_map, ◌==◌}
 use Rattle.std.specs.Str.{bytes_eq}
 use Rattle.std.specs.List.{list_any}
 use denote.Enum.Bare.{sameb}
@@ -89,9 +89,10 @@ abbrev pub text_at : List Token → Reading (List ℕ)
 text_at [] = None
 text_at (token ∷ rest) = text_in token.kind >>= (λ text. if has_percent text then None else Some (text, rest))
 
-abbrev pub number_at : List Token → Reading ℕ
+-- an int that isn't negative
+abbrev pub number_at : List Token → Reading ℤ
 number_at [] = None
-number_at (token ∷ rest) = option_map (λ value. (value, rest)) (number_in token.kind)
+number_at (token ∷ rest) = number_in token.kind >>= (λ value. if nat_le value 2147483647 then Some (pos value, rest) else None)
 
 -- ---- names
 

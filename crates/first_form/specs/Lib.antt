@@ -1,7 +1,11 @@
 pub mod Form
 pub mod Meaning
+pub mod Paths
 pub mod Lines
+pub mod LineTable
 pub mod Facts
 pub mod Verdicts
 pub mod Reports
 pub mod Answers
+pub mod Among
+pub mod Candidates

@@ -1,5 +1,5 @@
 -- What a program of the first form does (C99 6.8).
-use Rattle.std.specs.Prelude.{ℕ, pos, ◌+◌, ◌%◌, ◌^◌, ◌==◌, List, [], ◌∷◌, ◌++◌, length, map, sum_by, Bool, true, false, not, if◌then◌else◌, Option, Some, None, unwrap_or, is_some}
+use Rattle.std.specs.Prelude.{ℕ, pos, ◌+◌, ◌%◌, ◌^◌, ◌==◌, List, [], ◌∷◌, ◌++◌, length, map, Bool, true, false, not, if◌then◌else◌, Option, Some, None, unwrap_or, is_some}
 use Rattle.std.specs.List.{take_while}
 use Rattle.bit_words.specs.declared.run.Side.TheVariants.{Yes, No}
 use Rattle.bit_words.specs.declared.run.Happening.{Happening}
@@ -11,6 +11,7 @@ use Rattle.c_tree.specs.declared.tree.Stmt.{Stmt, fold-Stmt}
 use Rattle.c_tree.specs.declared.tree.Stmt.TheOpen.{Stmt-F, Empty, Block, If, Print, Return}
 use Rattle.first_form.specs.Form.{Program}
 use Rattle.first_form.specs.declared.meaning.Standing.{Standing}
+use Rattle.first_form.specs.declared.paths.Ways.{Ways}
 
 -- whether the answer of an outside function, which has its word at a place, is not 0
 abbrev pub Answers : Type 0
@@ -20,12 +21,17 @@ Answers = ℕ → Bool
 abbrev pub answers_of : (ℕ → ℕ) → Answers
 answers_of words place = not (words place % 2 ^ 32 == 0)
 
--- what a statement takes of the places and the literals, and what it does to a run that has come to it, with
--- its places from a number on
+-- paths to one point, each by the places of the answers that are not 0
+abbrev pub Paths : Type 0
+Paths = List (List ℕ)
+
+-- what a statement takes of the places and the literals, what it does to a run that has come to it, and what it
+-- makes of the paths to it, with its places from a number on
 pub record Meaning : Type 0 where
   pub room : ℕ
   pub literals : ℕ
   pub run : Answers → ℕ → Standing → Standing
+  pub ways : ℕ → Paths → Ways
 
 abbrev pub happens : Happening → Standing → Standing
 happens what s = record s { events = s.events ++ record { what = what; printed = length s.printed } ∷ [] }
@@ -56,12 +62,35 @@ abbrev pub in_turn : List Meaning → Answers → ℕ → Standing → Standing
 in_turn [] answers base s = s
 in_turn (m ∷ ms) answers base s = in_turn ms answers (base + m.room) (running (m.run answers base) s)
 
+-- ---- paths
+
+abbrev pub all_going : Paths → Ways
+all_going paths = record { going = paths; returned = [] }
+
+abbrev pub all_returned : Paths → Ways
+all_returned paths = record { going = []; returned = paths }
+
+abbrev pub joined_ways : Ways → Ways → Ways
+joined_ways first second = record { going = first.going ++ second.going; returned = first.returned ++ second.returned }
+
+abbrev pub and_place : ℕ → List ℕ → List ℕ
+and_place place path = path ++ place ∷ []
+
+abbrev pub ways_in_turn : List Meaning → ℕ → Paths → Ways
+ways_in_turn [] base paths = all_going paths
+ways_in_turn (m ∷ ms) base paths =
+    let first = m.ways base paths in
+    let second = ways_in_turn ms (base + m.room) first.going in
+    record { going = second.going; returned = first.returned ++ second.returned }
+
+-- ---- statements
+
 -- a call by rule takes four places
 abbrev pub call_room : ℕ
 call_room = 4
 
 abbrev pub nothing : Meaning
-nothing = record { room = 0; literals = 0; run = λ answers base s. s }
+nothing = record { room = 0; literals = 0; run = λ answers base s. s; ways = λ base paths. all_going paths }
 
 -- both sides have places, and one of them runs
 abbrev pub choice : ℕ → ℕ → Meaning → Meaning → Meaning
@@ -71,32 +100,54 @@ choice at call positive negative = record {
   run = λ answers base s.
     if answers base then positive.run answers (base + call_room) (tests at call true s)
     else negative.run answers (base + (call_room + positive.room)) (tests at call false s);
+  ways = λ base paths.
+    joined_ways (positive.ways (base + call_room) (map (and_place base) paths)) (negative.ways (base + (call_room + positive.room)) paths);
 }
+
+abbrev pub rooms : List Meaning → ℕ
+rooms [] = 0
+rooms (m ∷ ms) = m.room + rooms ms
+
+abbrev pub all_literals : List Meaning → ℕ
+all_literals [] = 0
+all_literals (m ∷ ms) = m.literals + all_literals ms
 
 abbrev pub meaning_step : Stmt-F Meaning → Meaning
 meaning_step Empty = nothing
 meaning_step (Block items) = record {
-  room = sum_by (λ m. m.room) items;
-  literals = sum_by (λ m. m.literals) items;
+  room = rooms items;
+  literals = all_literals items;
   run = in_turn items;
+  ways = ways_in_turn items;
 }
 meaning_step (If at call callee positive None) = choice at call positive nothing
 meaning_step (If at call callee positive (Some negative)) = choice at call positive negative
-meaning_step (Print call literal) = record { room = call_room; literals = 1; run = λ answers base s. prints call (text_of literal) s }
-meaning_step (Return value) = record { room = 0; literals = 0; run = λ answers base s. record s { returned = Some value } }
+meaning_step (Print call literal) = record {
+  room = call_room;
+  literals = 1;
+  run = λ answers base s. prints call (text_of literal) s;
+  ways = λ base paths. all_going paths;
+}
+meaning_step (Return value) = record {
+  room = 0;
+  literals = 0;
+  run = λ answers base s. record s { returned = Some value };
+  ways = λ base paths. all_returned paths;
+}
 
 unfoldable pub meaning : Stmt → Meaning
 meaning s = fold-Stmt Meaning meaning_step s
 
 -- one place for each declared function, for `main` and for each literal stands before those of the statements
 abbrev pub first_place : Program → ℕ
-first_place p = length p.functions + (sum_by (λ s. (meaning s).literals) p.body + 2)
+first_place p = length p.functions + (all_literals (map meaning p.body) + 2)
 
 abbrev pub at_start : Standing
 at_start = record { printed = []; events = []; returned = None }
 
+abbrev pub ending : Standing → Run
+ending end = record { printed = end.printed; events = end.events; finish = finish.Return (unwrap_or end.returned (pos 0)) }
+
 -- the run of `main`, whose `}` returns 0
 abbrev pub run_of : Program → Answers → Run
-run_of p answers =
-    let end = in_turn (map meaning p.body) answers (first_place p) at_start in
-    record { printed = end.printed; events = end.events; finish = finish.Return (pos (unwrap_or end.returned 0)) }
+run_of p answers = ending (in_turn (map meaning p.body) answers (first_place p) at_start)

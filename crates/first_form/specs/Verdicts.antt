@@ -1,8 +1,9 @@
 -- What a diagnosis says, of every world.
 use Rattle.std.specs.Prelude.{◌≡◌, ◌≤◌, ◌<◌, ◌+◌, ◌-◌, ℕ, List, Some, Contains, length, slice_get}
-use Rattle.std.specs.List.{All, AllZip}
+use Rattle.std.specs.List.{AllZip}
 use Rattle.bit_words.specs.Worlds.{WorldTables, value_at}
 use Rattle.bit_words.specs.declared.fact.Fact.{Fact}
+use Rattle.first_form.specs.Among.{Among}
 use Rattle.first_form.specs.Form.{Program}
 use Rattle.first_form.specs.Meaning.{answers_of, run_of}
 use Rattle.first_form.specs.Facts.{facts_of, facts_shown}
@@ -45,7 +46,7 @@ IsJust p log worlds fact (May having lacking) =
 pub record AreJust (p : Program) (log : List ℕ) (findings : Findings) : Type 0 where
   pub some : 0 < length findings.worlds
   -- each listed world fits
-  pub fit : All (λ world. Fits p log (words_of world)) findings.worlds
+  pub fit : (world : WorldTables) → Among world findings.worlds → Fits p log (words_of world)
   -- each fact has its verdict
   pub verdicts : AllZip (IsJust p log findings.worlds) (facts_of p log) findings.verdicts
 

@@ -34,6 +34,9 @@ impl From<AllocError> for FormFault {
 /// How many statements may stand inside one another.
 const MAX_NESTING: u32 = 101;
 
+/// The greatest int.
+const MAX_INT: u32 = 2_147_483_647;
+
 /// How many choices a source may have.
 const MAX_CHOICES: usize = 12;
 
@@ -148,12 +151,18 @@ fn text(tokens: &[Token]) -> Result<(Shared<Bytes>, &[Token]), FormFault>
     }
 }
 
-fn number(tokens: &[Token]) -> Result<(u32, &[Token]), FormFault>
+fn number(tokens: &[Token]) -> Result<(i32, &[Token]), FormFault>
     ensures { Gives (λ x. (x.0, x.1.now)) result (spec.number_at tokens.now) }
 {
     match tokens {
         [token, rest @ ..] => match &token.kind {
-            TokenKind::Integer(constant) => Ok((constant.value, rest)),
+            TokenKind::Integer(constant) => {
+                if constant.value <= MAX_INT {
+                    Ok((constant.value as i32, rest))
+                } else {
+                    Err(FormFault::NotYetRead)
+                }
+            }
             _ => Err(FormFault::NotYetRead),
         },
         [] => Err(FormFault::NotYetRead),

@@ -2,7 +2,14 @@
 //! and followed plainly, path by path; all of this goes as the whole of C takes its place.
 #![tactic(auto)]
 
+pub mod candidate;
 pub mod diagnose;
+pub mod facts;
 pub mod form;
+pub mod lines;
+pub mod listing;
 pub mod meaning;
+pub mod paths;
+pub mod shown;
 pub mod verdict;
+pub mod weigh;

@@ -1,4 +1,4 @@
-use crate::{Items, Shared};
+use crate::{Items, Rows, Shared};
 use std::test::Fail;
 
 #[test]
@@ -31,5 +31,25 @@ fn owners_share_a_value(rt: HostRuntime) -> Result<(), Fail> {
     let second = first.clone()?;
     assert!(rt; first == second);
     assert_eq!(rt; *second.get(), 7);
+    Ok(())
+}
+
+#[test]
+fn rows_are_a_list_of_lists(rt: HostRuntime) -> Result<(), Fail> {
+    let mut rows = Rows::new(rt.alloc());
+    assert!(rt; rows.is_empty());
+    rows.push(&[1u8, 2])?;
+    rows.push(&[])?;
+    rows.push(&[3])?;
+    assert_eq!(rt; rows.len(), 3);
+    assert_eq!(rt; rows.row(0), [1, 2].as_slice());
+    assert_eq!(rt; rows.row(1), [].as_slice());
+    assert_eq!(rt; rows.row(2), [3].as_slice());
+    assert_eq!(rt; rows.items(), [1, 2, 3].as_slice());
+    rows.truncate(1);
+    rows.push(&[4])?;
+    assert_eq!(rt; rows.len(), 2);
+    assert_eq!(rt; rows.row(1), [4].as_slice());
+    assert_eq!(rt; rows.items(), [1, 2, 4].as_slice());
     Ok(())
 }

@@ -1,8 +1,11 @@
 -- The answers of a shelf in memory are those of a shelf.
-use Rattle.std.proofs.Common.{◌≡◌, ◌≤◌, ◌<◌, ◌+◌, ℕ, List, Option, Some, None, Result, Ok, Err, IfOk, length, inl, refl, subst, ap, unwrap_or, arith}
+use Rattle.std.proofs.Common.{◌≡◌, ◌≤◌, ◌<◌, ◌+◌, ℕ, List, Option, Some, None, Result, Ok, Err, IfOk, length, inl, refl, ◌∙◌, subst, ap, unwrap_or, arith}
 use Rattle.sl_io.specs.Counts.{Rose, RoseBy}
 use Rattle.sl_io.specs.ShelfStates.{Files, CountsOn, Holds}
 use Rattle.sl_io.specs.Gets.{Gets, GetsTold}
+use Rattle.sl_io.specs.Puts.{Puts}
+use Rattle.sl_io.specs.declared.faults.PutFault.{PutFault}
+use Rattle.sl_io.specs.declared.faults.PutFault.TheVariants as put
 use Rattle.sl_io.specs.MemoryShelves.{told_state, got_count, IsAnswer, Later}
 use Rattle.sl_io.specs.declared.faults.GetFault.{GetFault}
 use Rattle.sl_io.specs.declared.faults.GetFault.TheVariants.{Failed, TooLong}
@@ -64,3 +67,18 @@ Gets-got files counts name limit r later h =
       told = λ told same. subst (λ (f : Files). GetsTold f (told_state files counts) (told_state files (got_count counts limit r)) name limit r)
           (ap (λ o. unwrap_or o files) same) (GetsTold-got files counts name limit r a);
     }
+
+Err-same : {T : Type 0} {e f : PutFault} → ◌≡◌ {A = Result T PutFault} (Err e) (Err f) → e ≡ f
+Err-same is = cc is
+
+-- a put that changed no file
+pub Puts-kept : {T : Type 0} (files after : Files) (old new : ShelfCounts) (name bytes : List ℕ) (fault : PutFault) → Later old new → after ≡ files
+    → (fault ≡ put.Failed → Rose old.put_faults new.put_faults) → Puts {T = T} (told_state files old) (told_state after new) name bytes (Err fault)
+Puts-kept files after old new name bytes fault later same rose = record {
+  counts = CountsOn-later files after old new later;
+  untold = λ e. absurd (cc e);
+  others = λ held is. (held, ap (λ (f : Files). Some f) same ∙ is, λ other differs. refl);
+  stored = tt;
+  failed = λ e. rose (Err-same e);
+  unchanged = λ e. ap (λ (f : Files). Some f) same;
+}

@@ -1,13 +1,22 @@
 -- Which calls of a shelf fail.
-use Rattle.std.specs.Prelude.{Bool, ◌==◌}
+use Rattle.std.specs.Prelude.{Bool, ℕ, List, ◌==◌}
 use Rattle.std.specs.List.{list_any}
 use Rattle.sl_io.specs.Counts.{capped_sum}
 use Rattle.sl_io.specs.declared.fail_shelf.FailShelf.{FailShelf}
+use Rattle.sl_io.specs.declared.mem_shelf.MemShelf.{MemShelf}
 
--- one more call was made
-abbrev pub counted_call : FailShelf → FailShelf
-counted_call shelf = record shelf { calls = capped_sum shelf.calls 1 }
+-- the files, and what was counted
+abbrev pub inner : FailShelf → MemShelf
+inner shelf = shelf.shelf
+
+-- which calls are to fail
+abbrev pub listed : FailShelf → List ℕ
+listed shelf = shelf.failing
+
+-- how many calls were made
+abbrev pub made : FailShelf → ℕ
+made shelf = shelf.calls
 
 -- the next call is listed
 abbrev pub fails_next : FailShelf → Bool
-fails_next shelf = list_any (λ call. call == capped_sum shelf.calls 1) shelf.failing
+fails_next shelf = list_any (λ call. call == capped_sum (made shelf) 1) (listed shelf)

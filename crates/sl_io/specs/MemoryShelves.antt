@@ -14,6 +14,10 @@ use Rattle.sl_io.specs.declared.mem_shelf.ShelfCounts.{ShelfCounts}
 abbrev pub held : MemShelf → Files
 held shelf name = get_by_text shelf.files name
 
+-- what it counted
+abbrev pub counted : MemShelf → ShelfCounts
+counted shelf = shelf.counts
+
 -- the files are told, and one number of each kind stands for all names
 abbrev pub told_state : Files → ShelfCounts → ShelfState
 told_state files counts = record {
@@ -25,7 +29,7 @@ told_state files counts = record {
 }
 
 abbrev pub shelf_state : MemShelf → ShelfState
-shelf_state shelf = told_state (held shelf) shelf.counts
+shelf_state shelf = told_state (held shelf) (counted shelf)
 
 abbrev pub no_counts : ShelfCounts
 no_counts = record { taken = 0; get_faults = 0; put_faults = 0; long_reads = 0 }

@@ -1,9 +1,10 @@
 ghost use Rattle.std.specs.Prelude.{◌≡◌, ◌≢◌, Err};
 ghost use Rattle.std.specs.Bool.{OnTrue, OnFalse};
+ghost use Rattle.sl_io.specs.Counts.{capped_sum};
 ghost use Rattle.sl_io.specs.Gets.{Gets};
 ghost use Rattle.sl_io.specs.Puts.{Puts};
-ghost use Rattle.sl_io.specs.MemoryShelves.{held, shelf_state, got_count, put_count, IsAnswer};
-ghost use Rattle.sl_io.specs.FailingShelves.{fails_next, counted_call};
+ghost use Rattle.sl_io.specs.MemoryShelves.{held, counted, shelf_state, got_count, put_count, IsAnswer};
+ghost use Rattle.sl_io.specs.FailingShelves.{inner, listed, made, fails_next};
 
 use crate::faults::{GetFault, PutFault};
 use crate::mem_shelf::MemShelf;
@@ -25,7 +26,9 @@ impl FailShelf {
     /// A shelf with these files, none of whose calls was made yet. `failing` lists the calls that
     /// are to fail.
     pub fn new(shelf: MemShelf, failing: Items<u64>) -> FailShelf
-        ensures { result ≡ record { shelf = shelf; failing = failing; calls = 0 } }
+        ensures shelf { inner result ≡ shelf }
+        ensures failing { listed result ≡ failing }
+        ensures calls { made result ≡ 0 }
     {
         FailShelf {
             shelf,
@@ -36,14 +39,14 @@ impl FailShelf {
 
     /// The files, and what was counted.
     pub fn shelf(&self) -> &MemShelf
-        ensures { result.now ≡ self.now.shelf }
+        ensures { result.now ≡ inner self.now }
     {
         &self.shelf
     }
 
     /// How many calls were made.
     pub fn calls(&self) -> u64
-        ensures { result ≡ self.now.calls }
+        ensures { result ≡ made self.now }
     {
         self.calls
     }
@@ -51,7 +54,9 @@ impl FailShelf {
     /// Counts a call, and says whether it is to fail.
     fn next_fails(&mut self) -> bool
         ensures fails { result ≡ fails_next self.old }
-        ensures counted { self.new ≡ counted_call self.old }
+        ensures shelf { inner self.new ≡ inner self.old }
+        ensures failing { listed self.new ≡ listed self.old }
+        ensures calls { made self.new ≡ capped_sum (made self.old) 1 }
     {
         self.calls = self.calls.saturating_add(1);
         self.failing.as_slice().contains(&self.calls)
@@ -59,14 +64,15 @@ impl FailShelf {
 }
 
 impl Shelf for FailShelf {
-    ghost state = { λ s. shelf_state s.shelf };
+    ghost state = { λ s. shelf_state (inner s) };
 
     fn get(&mut self, alloc: Global, name: &str, limit: usize) -> Result<Bytes, GetFault>
-        ensures meets { Gets (shelf_state self.old.shelf) (shelf_state self.new.shelf) name.now limit result }
+        ensures meets { Gets (shelf_state (inner self.old)) (shelf_state (inner self.new)) name.now limit result }
         ensures listed { OnTrue (fails_next self.old) (result ≡ Err GetFault.Failed) }
-        ensures unlisted { OnFalse (fails_next self.old) (IsAnswer (held self.old.shelf name.now) limit result) }
-        ensures counts { self.new.shelf.counts ≡ got_count self.old.shelf.counts limit result }
-        ensures calls { self.new ≡ record (counted_call self.old) { shelf = self.new.shelf } }
+        ensures unlisted { OnFalse (fails_next self.old) (IsAnswer (held (inner self.old) name.now) limit result) }
+        ensures counts { counted (inner self.new) ≡ got_count (counted (inner self.old)) limit result }
+        ensures calls { made self.new ≡ capped_sum (made self.old) 1 }
+        ensures failing { listed self.new ≡ listed self.old }
     {
         if self.next_fails() {
             self.shelf.fail_get();
@@ -76,11 +82,12 @@ impl Shelf for FailShelf {
     }
 
     fn put(&mut self, alloc: Global, name: &str, bytes: &[u8]) -> Result<(), PutFault>
-        ensures meets { Puts (shelf_state self.old.shelf) (shelf_state self.new.shelf) name.now bytes.now result }
-        ensures listed { OnTrue (fails_next self.old) ((result ≡ Err PutFault.Failed) × (held self.new.shelf ≡ held self.old.shelf)) }
+        ensures meets { Puts (shelf_state (inner self.old)) (shelf_state (inner self.new)) name.now bytes.now result }
+        ensures listed { OnTrue (fails_next self.old) ((result ≡ Err PutFault.Failed) × (held (inner self.new) ≡ held (inner self.old))) }
         ensures unlisted { OnFalse (fails_next self.old) (result ≢ Err PutFault.Failed) }
-        ensures counts { self.new.shelf.counts ≡ put_count self.old.shelf.counts result }
-        ensures calls { self.new ≡ record (counted_call self.old) { shelf = self.new.shelf } }
+        ensures counts { counted (inner self.new) ≡ put_count (counted (inner self.old)) result }
+        ensures calls { made self.new ≡ capped_sum (made self.old) 1 }
+        ensures failing { listed self.new ≡ listed self.old }
     {
         if self.next_fails() {
             self.shelf.fail_put();

@@ -1,13 +1,14 @@
 ghost use Rattle.std.specs.Prelude.{◌≡◌, take, None, Err, IfSome};
 ghost use Rattle.sl_io.specs.Counts.{capped_sum};
 ghost use Rattle.sl_io.specs.MemorySinks.{sink_state, failed_after, IsWritten};
-ghost use Rattle.sl_io.specs.FailingSinks.{failure_of as listed_failure, next_failure};
+ghost use Rattle.sl_io.specs.FailingSinks.{FailingSink, failure_of as listed_failure, next_failure};
 ghost use Rattle.sl_io.specs.Writes.{Writes};
 
 use crate::faults::SinkFault;
 use crate::mem_sink::MemSink;
 use crate::sink::Sink;
 use plain_data::Items;
+use std::marker::Model;
 
 /// A write that is to fail.
 #[derive(Clone, Copy, Debug, PartialEq, Eq)]
@@ -25,6 +26,12 @@ pub struct FailSink {
     sink: MemSink,
     failing: Items<FailedWrite>,
     calls: u64,
+}
+
+impl Model for FailSink {
+    ghost Value = { FailingSink };
+
+    ghost view = { λ s. record { sink = s.sink; failing = s.failing; calls = s.calls } };
 }
 
 impl FailSink {

@@ -3,7 +3,7 @@ ghost use Rattle.std.specs.Option.{option_copied};
 ghost use Rattle.std.specs.BTreeMap.{get_by_text};
 ghost use Rattle.sl_io.specs.Gets.{Gets};
 ghost use Rattle.sl_io.specs.Puts.{Puts};
-ghost use Rattle.sl_io.specs.MemoryShelves.{held, shelf_state, no_counts, got_count, put_count, Later, IsAnswer, ChangesOnly};
+ghost use Rattle.sl_io.specs.MemoryShelves.{held, counted, shelf_state, no_counts, got_count, put_count, Later, IsAnswer, ChangesOnly};
 
 use crate::faults::{GetFault, PutFault};
 use crate::shelf::Shelf;
@@ -54,14 +54,14 @@ impl ShelfCounts {
 #[derive(Drop)]
 pub struct MemShelf {
     files: BTreeMap<String, Bytes>,
-    pub(crate) counts: ShelfCounts,
+    counts: ShelfCounts,
 }
 
 impl MemShelf {
     /// A shelf that holds no file. It takes no memory before the first file comes.
     pub fn new(alloc: Global) -> MemShelf
         ensures empty { (name : List ℕ) → held result name ≡ None }
-        ensures counts { result.counts ≡ no_counts }
+        ensures counts { counted result ≡ no_counts }
     {
         MemShelf {
             files: BTreeMap::new(alloc),
@@ -78,7 +78,7 @@ impl MemShelf {
     pub fn add_file(&mut self, alloc: Global, name: &str, bytes: &[u8]) -> Result<(), AllocError>
         ensures ok { OnOk result (ChangesOnly self.old self.new name.now bytes.now) }
         ensures err { OnErr result (held self.new ≡ held self.old) }
-        ensures counts { self.new.counts ≡ self.old.counts }
+        ensures counts { counted self.new ≡ counted self.old }
     {
         let name = String::from_str(alloc, name)?;
         let bytes = Bytes::from_slice(alloc, bytes)?;
@@ -97,23 +97,25 @@ impl MemShelf {
 
     /// What was counted so far.
     pub fn counts(&self) -> ShelfCounts
-        ensures { result ≡ self.now.counts }
+        ensures { result ≡ counted self.now }
     {
         self.counts
     }
 
     /// Counts a get that fails, and changes nothing else.
     pub(crate) fn fail_get(&mut self)
-        ensures counted { self.new ≡ record self.old { counts = got_count self.old.counts 0 (Err GetFault.Failed) } }
-        ensures later { Later self.old.counts self.new.counts }
+        ensures counts { counted self.new ≡ got_count (counted self.old) 0 (Err GetFault.Failed) }
+        ensures later { Later (counted self.old) (counted self.new) }
+        ensures files { held self.new ≡ held self.old }
     {
         self.counts.count_get(0, &Err(GetFault::Failed));
     }
 
     /// Counts a put that fails, and changes nothing else.
     pub(crate) fn fail_put(&mut self)
-        ensures counted { self.new ≡ record self.old { counts = put_count self.old.counts (Err PutFault.Failed) } }
-        ensures later { Later self.old.counts self.new.counts }
+        ensures counts { counted self.new ≡ put_count (counted self.old) (Err PutFault.Failed) }
+        ensures later { Later (counted self.old) (counted self.new) }
+        ensures files { held self.new ≡ held self.old }
     {
         self.counts.count_put(&Err(PutFault::Failed));
     }
@@ -125,7 +127,7 @@ impl Shelf for MemShelf {
     fn get(&mut self, alloc: Global, name: &str, limit: usize) -> Result<Bytes, GetFault>
         ensures meets { Gets (shelf_state self.old) (shelf_state self.new) name.now limit result }
         ensures answer { IsAnswer (held self.old name.now) limit result }
-        ensures counts { self.new.counts ≡ got_count self.old.counts limit result }
+        ensures counts { counted self.new ≡ got_count (counted self.old) limit result }
     {
         let answer = copy_within(alloc, self.file(name), limit);
         self.counts.count_get(limit, &answer);
@@ -135,7 +137,7 @@ impl Shelf for MemShelf {
     fn put(&mut self, alloc: Global, name: &str, bytes: &[u8]) -> Result<(), PutFault>
         ensures meets { Puts (shelf_state self.old) (shelf_state self.new) name.now bytes.now result }
         ensures answer { result ≢ Err PutFault.Failed }
-        ensures counts { self.new.counts ≡ self.old.counts }
+        ensures counts { counted self.new ≡ counted self.old }
     {
         match self.add_file(alloc, name, bytes) {
             Ok(()) => Ok(()),

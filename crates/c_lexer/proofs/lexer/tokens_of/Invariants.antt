@@ -1,8 +1,13 @@
-use Rattle.c_lexer.proofs.Steps.{SoFar}
+use Rattle.std.proofs.Common.{◌≡◌, length}
+use Rattle.c_lexer.specs.Reading.{lexed}
+use Rattle.c_lexer.specs.Walks.{whole, IsValid}
 use Rattle.c_lexer.proofs.lexer.tokens_of.Given as goal
 
-abbrev pub invariant-tokens : goal.invariant-tokens
-invariant-tokens l = SoFar l.left l.tokens l.offset l.line l.column l.bytes
+abbrev pub invariant-pieces : goal.invariant-pieces
+invariant-pieces l = record {
+  whole_is : whole l.lexer ≡ lexed l.name l.bytes;
+  valid : IsValid l.lexer;
+}
 
-abbrev pub decreases-tokens : goal.decreases-tokens
-decreases-tokens l = l.left
+abbrev pub decreases-pieces : goal.decreases-pieces
+decreases-pieces l = length l.lexer.walk.rest.now

@@ -1,0 +1,11 @@
+use Rattle.c_lexer.proofs.Unique.{answer_spelled, answer_refused, one_division}
+use Rattle.c_lexer.proofs.lexer.lex.Goals as goal
+
+pub returns-clause-spelled : goal.returns-clause-spelled
+returns-clause-spelled c = answer_spelled c.args.name.now c.args.bytes.now c.tokens_of.result c.tokens_of.ensures
+
+pub returns-clause-refused : goal.returns-clause-refused
+returns-clause-refused c = answer_refused c.args.name.now c.args.bytes.now c.tokens_of.result c.tokens_of.ensures
+
+pub returns-clause-only : goal.returns-clause-only
+returns-clause-only c = one_division c.args.bytes.now

@@ -1,0 +1,63 @@
+-- The tokens that a source spells, or its first fault.
+use Rattle.std.specs.Prelude.{◌≡◌, ℕ, ◌+◌, true, List, [], ◌∷◌, ◌++◌, length, slice_range, Option, Some, None, Result, Ok, Err}
+use Rattle.c_lexer.specs.Class.{Text}
+use Rattle.c_lexer.specs.Division.{Element, divide}
+use Rattle.c_lexer.specs.Spelling.{Divides}
+use Rattle.c_lexer.specs.Places.{beginning, spot_after}
+use Rattle.c_lexer.specs.Meaning.{Meaning, meaning}
+use Rattle.c_lexer.specs.Attributes.{without_attributes}
+use Rattle.c_lexer.specs.declared.fault.LexFault.{LexFault}
+use Rattle.c_lexer.specs.declared.piece.Lexeme.TheVariants as lexeme
+use Rattle.c_lexer.specs.declared.token.Place.{Place}
+use Rattle.c_lexer.specs.declared.token.Spot.{Spot}
+use Rattle.c_lexer.specs.declared.token.Token.{Token}
+use Rattle.c_lexer.specs.declared.token.TokenKind.{TokenKind}
+use Rattle.c_lexer.specs.declared.token.Tokens.{Tokens}
+
+-- file names and tokens, or a fault
+abbrev pub Reading : Type 0
+Reading = Result Tokens LexFault
+
+-- the file that a piece names
+abbrev pub named_by : Element → List Text
+named_by (lexeme.Marker line from to, bytes) = slice_range bytes from to ∷ []
+named_by _ = []
+
+-- the token of a piece, if it is one, which stands at a place and takes the bytes from `start` to before `end`
+abbrev pub token_at : Place → ℕ → ℕ → Option TokenKind → List Token
+token_at place start end None = []
+token_at place start end (Some k) = record { kind = k; start = start; end = end; place = place } ∷ []
+
+abbrev pub place_at : ℕ → Spot → Place
+place_at file s = record { file = file; line = s.line; column = s.column }
+
+-- what one piece gives, by what it means
+abbrev pub given : ℕ → ℕ → Spot → Element → Meaning → Reading
+given file at s e (Err f) = Err f
+given file at s e (Ok k) = Ok (record { files = named_by e; tokens = token_at (place_at file s) at (at + length e.1) k })
+
+-- the first fault, or all names and tokens
+abbrev pub followed_by : Reading → Reading → Reading
+followed_by (Err f) more = Err f
+followed_by (Ok t) (Err f) = Err f
+followed_by (Ok t) (Ok u) = Ok (record { files = t.files ++ u.files; tokens = t.tokens ++ u.tokens })
+
+-- what pieces give that begin at an offset and a place, in the file of this number
+abbrev pub read : ℕ → ℕ → Spot → List Element → Reading
+read file at s [] = Ok (record { files = []; tokens = [] })
+read file at s (e ∷ es) =
+    followed_by (given file at s e (meaning at e)) (read (file + length (named_by e)) (at + length e.1) (spot_after s e) es)
+
+abbrev pub finished : Text → Reading → Reading
+finished name (Err f) = Err f
+finished name (Ok t) = Ok (record { files = name ∷ t.files; tokens = without_attributes t.tokens })
+
+-- the names of a source's files, and its tokens; or its first fault
+unfoldable pub lexed : Text → Text → Reading
+lexed name bytes = finished name (read 0 0 (beginning name) (divide 0 true bytes))
+
+-- a source spells these tokens, under these file names
+pub record Spells (name bytes : Text) (tokens : Tokens) : Type 0 where
+  pub division : List Element
+  pub divides : Divides true bytes division
+  pub reads : finished name (read 0 0 (beginning name) division) ≡ Ok tokens

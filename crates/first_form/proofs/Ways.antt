@@ -1,0 +1,18 @@
+-- Paths through statements one after another, as far as they are followed.
+use Rattle.std.proofs.Common.{◌≡◌, ◌<◌, ◌≤◌, ◌+◌, ℕ, suc, List, [], ◌∷◌, ◌++◌, length, drop, refl, sym, ap, ◌∙◌, append_assoc, append-nil, arith}
+use Rattle.std.specs.Prelude.{map}
+use Rattle.first_form.specs.Meaning.{Meaning, Paths, ways_in_turn, all_going}
+use Rattle.first_form.specs.declared.paths.Ways.{Ways}
+
+-- these have returned before
+abbrev pub behind : Paths → Ways → Ways
+behind returned ways = record { going = ways.going; returned = returned ++ ways.returned }
+
+pub behind_nothing : (ways : Ways) → behind [] ways ≡ ways
+behind_nothing ways = refl
+
+pub behind_both : (first second : Paths) (ways : Ways) → behind (first ++ second) ways ≡ behind first (behind second ways)
+behind_both first second ways = ap (λ (l : Paths). let w : Ways = record { going = ways.going; returned = l } in w) (append_assoc first second ways.returned)
+
+pub at_end : (returned going : Paths) → behind returned (all_going going) ≡ record { going = going; returned = returned }
+at_end returned going = ap (λ (l : Paths). let w : Ways = record { going = going; returned = l } in w) (append-nil returned)
