@@ -69,7 +69,7 @@ pub record Fetches (names : Names) (file : InputFile) (before after : ShelfState
 -- a source is read
 abbrev pub Reads : Names → List ℕ → Result UnitType Refusal → Type 0
 Reads names source (Ok unit) = IsUnit names.source source unit
-Reads names source (Err NotYetRead) = program_spelled source ≡ None
+Reads names source (Err NotYetRead) = program_spelled names.source source ≡ None
 Reads names source (Err Memory) = ⊤
 Reads names source (Err _) = ⊥
 

@@ -20,7 +20,7 @@ pub record IsRead (names : Names) (files : Option Files) (unit : UnitType) : Typ
 pub record IsUnread (names : Names) (files : Option Files) : Type 0 where
   pub source : List ℕ
   pub input : IsInput names Source files source
-  pub no_program : program_spelled source ≡ None
+  pub no_program : program_spelled names.source source ≡ None
 
 -- what came before the get of this file: the log is got only once the source was read
 abbrev pub Reaches : Names → InputFile → Option Files → Type 0

@@ -21,7 +21,7 @@ pub record IsAtHand (names : Names) (file : InputFile) (before after : ShelfStat
 pub record IsNotOfForm (names : Names) (before after : ShelfState) : Type 0 where
   pub source : List ℕ
   pub at_hand : IsAtHand names Source before after source
-  pub no_program : program_spelled source ≡ None
+  pub no_program : program_spelled names.source source ≡ None
 
 -- both files are at hand, the source is of the form, and no write failed
 pub record IsAnswerable (names : Names) (before after : ShelfState) (old new : SinkState) : Type 0 where
@@ -29,5 +29,5 @@ pub record IsAnswerable (names : Names) (before after : ShelfState) (old new : S
   pub log : List ℕ
   pub source_at_hand : IsAtHand names Source before after source
   pub log_at_hand : IsAtHand names Log before after log
-  pub of_form : program_spelled source ≢ None
+  pub of_form : program_spelled names.source source ≢ None
   pub wrote : ¬ (Rose old.faults new.faults)

@@ -5,7 +5,7 @@ ghost use Rattle.sherlog.specs.Inputs.{names_in, limit_of, name_of};
 ghost use Rattle.sherlog.specs.Lines.{line_of, usage_line, memory_line};
 
 use crate::words::Request;
-use c_lexer::MAX_SOURCE;
+use first_form::diagnose::MAX_SOURCE;
 use sl_io::{Sink, tell, write_pieces};
 use std::alloc::AllocError;
 
