@@ -4,9 +4,12 @@ ghost use Rattle.first_form.specs.Answers.{ReadsSource, Answers};
 
 use crate::form::{FormFault, parse};
 use bit_words::Bytes;
-use c_lexer::{LexFault, MAX_SOURCE, lex};
+use c_lexer::{LexFault, lex};
 use c_tree::Unit;
 use std::alloc::{AllocError, Global};
+
+/// The greatest source, in bytes.
+pub const MAX_SOURCE: usize = 8_388_608;
 
 /// A report, and whether a world was found that fits.
 #[derive(Drop)]
@@ -22,8 +25,8 @@ pub fn read_source(alloc: Global, name: &str, bytes: &[u8]) -> Result<Unit, Form
 {
     match lex(alloc, name, bytes) {
         Ok(tokens) => parse(alloc, &tokens),
-        Err(LexFault::NotYetRead) => Err(FormFault::NotYetRead),
         Err(LexFault::Memory) => Err(FormFault::Memory),
+        Err(_) => Err(FormFault::NotYetRead),
     }
 }
 
