@@ -1,3 +1,5 @@
 pub mod Reading
 mod LogLines
 mod FactOrder
+mod ReportParts
+mod Names

@@ -7,5 +7,7 @@ pub mod facts;
 pub mod form;
 pub mod lines;
 pub mod meaning;
+pub mod report;
 pub mod shown;
+pub mod text;
 pub mod verdict;
