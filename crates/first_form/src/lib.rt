@@ -8,6 +8,8 @@ pub mod form;
 pub mod lines;
 pub mod meaning;
 pub mod report;
+#[cfg(test)]
+mod report_tests;
 pub mod shown;
 pub mod text;
 pub mod verdict;
