@@ -1,8 +1,7 @@
 ghost use Rattle.std.specs.Prelude.{◌≡◌, IfOk};
 ghost use Rattle.c_tree.specs.PlaceTables.{places_of, place_at, file_at};
 
-use bit_words::Bytes;
-use c_lexer::{Place, Token, Tokens};
+use c_lexer::{Name, Place, Token, Tokens};
 use plain_data::Items;
 use std::alloc::{AllocError, Global};
 use std::collections::BTreeMap;
@@ -12,7 +11,7 @@ use std::marker::Model;
 #[derive(Drop)]
 pub struct Places {
     table: BTreeMap<u32, Place>,
-    files: Items<Bytes>,
+    files: Items<Name>,
 }
 
 impl Model for Places {
@@ -39,14 +38,14 @@ fn table_of(alloc: Global, tokens: &[Token]) -> Result<BTreeMap<u32, Place>, All
     Ok(table)
 }
 
-fn copy_of(alloc: Global, files: &[Bytes]) -> Result<Items<Bytes>, AllocError>
-    ensures { IfOk result (λ copy. copy ≡ files.now) }
+fn owners_of(alloc: Global, files: &[Name]) -> Result<Items<Name>, AllocError>
+    ensures { IfOk result (λ owners. owners ≡ files.now) }
 {
-    let mut copy = Items::new(alloc);
+    let mut owners = Items::new(alloc);
     for file in files {
-        copy.push(Bytes::from_slice(alloc, file.as_slice())?)?;
+        owners.push(file.clone()?)?;
     }
-    Ok(copy)
+    Ok(owners)
 }
 
 impl Places {
@@ -55,8 +54,8 @@ impl Places {
         ensures places { IfOk result (λ p. p.places ≡ places_of tokens.now.tokens) }
         ensures files { IfOk result (λ p. p.files ≡ tokens.now.files) }
     {
-        let table = table_of(alloc, tokens.tokens.as_slice())?;
-        let files = copy_of(alloc, tokens.files.as_slice())?;
+        let table = table_of(alloc, tokens.as_slice())?;
+        let files = owners_of(alloc, tokens.files.as_slice())?;
         Ok(Places { table, files })
     }
 
@@ -72,7 +71,7 @@ impl Places {
         ensures { result.now ≡ file_at self.now.files file }
     {
         match self.files.get(file as usize) {
-            Some(name) => name.as_slice(),
+            Some(name) => name.get().as_slice(),
             None => &[],
         }
     }

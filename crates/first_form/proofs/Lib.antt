@@ -8,3 +8,5 @@ pub mod Worlds
 pub mod Candidates
 pub mod Listings
 pub mod Weighs
+mod ReportParts
+mod Names

@@ -1,7 +1,8 @@
 -- What the calls of this crate answer.
 use Rattle.std.specs.Prelude.{◌≡◌, ℕ, List, [], ◌∷◌, Bool, true, false, Option, Some, None, Result, Ok, Err, ⊤}
-use Rattle.c_lexer.specs.declared.token.Token.{Token}
-use Rattle.c_lexer.specs.Spelling.{tokens_of}
+use Rattle.std.specs.Result.{result_ok}
+use Rattle.c_lexer.specs.Reading.{lexed}
+use Rattle.c_lexer.specs.declared.token.Tokens.{Tokens}
 use Rattle.c_tree.specs.PlaceTables.{PlaceTable, places_of}
 use Rattle.c_tree.specs.declared.tree.Unit.{Unit as UnitType}
 use Rattle.first_form.specs.Form.{Program, program_of, ◌>>=◌}
@@ -17,22 +18,26 @@ use Rattle.first_form.specs.declared.diagnose.Answer.{Answer}
 abbrev pub program_in : UnitType → Program
 program_in unit = record { functions = unit.functions; body = unit.body }
 
+-- the tokens of a source, where it has no lexical fault
+abbrev pub tokens_of : List ℕ → List ℕ → Option Tokens
+tokens_of name bytes = result_ok (lexed name bytes)
+
 -- the program that a source's bytes spell, where they are of the form
-abbrev pub program_spelled : List ℕ → Option Program
-program_spelled bytes = tokens_of bytes >>= program_of
+abbrev pub program_spelled : List ℕ → List ℕ → Option Program
+program_spelled name bytes = tokens_of name bytes >>= (λ found. program_of found.tokens)
 
 -- the bytes of a file spell this unit
 pub record IsUnit (name bytes : List ℕ) (unit : UnitType) : Type 0 where
-  pub program : program_spelled bytes ≡ Some (program_in unit)
-  pub tokens : List Token
-  pub spelled : tokens_of bytes ≡ Some tokens
-  pub places : unit.places.places ≡ places_of tokens
-  pub files : unit.places.files ≡ name ∷ []
+  pub program : program_spelled name bytes ≡ Some (program_in unit)
+  pub tokens : Tokens
+  pub spelled : lexed name bytes ≡ Ok tokens
+  pub places : unit.places.places ≡ places_of tokens.tokens
+  pub files : unit.places.files ≡ tokens.files
 
 -- the unit, or the refusal exactly where the bytes spell none; but for want of memory
 abbrev pub ReadsSource : List ℕ → List ℕ → Result UnitType FormFault → Type 0
 ReadsSource name bytes (Ok unit) = IsUnit name bytes unit
-ReadsSource name bytes (Err NotYetRead) = program_spelled bytes ≡ None
+ReadsSource name bytes (Err NotYetRead) = program_spelled name bytes ≡ None
 ReadsSource name bytes (Err Memory) = ⊤
 
 abbrev pub is_found : Diagnosis → Bool

@@ -10,6 +10,9 @@ use Rattle.c_lexer.specs.contracts.token.Keyword.{the_type as keyword_type}
 use Rattle.c_lexer.specs.declared.token.Punctuator.{Punctuator as PunctuatorType}
 use Rattle.c_lexer.specs.declared.token.Punctuator.TheVariants as mark
 use Rattle.c_lexer.specs.contracts.token.Punctuator.{the_type as mark_type}
+use Rattle.c_lexer.specs.declared.token.IntegerConstant.{IntegerConstant}
+use Rattle.c_lexer.specs.declared.token.IntegerType.{IntegerType}
+use Rattle.c_lexer.specs.declared.token.IntegerType.TheVariants.{Int}
 use Rattle.c_lexer.specs.declared.token.TokenKind.{TokenKind}
 use Rattle.c_lexer.specs.declared.token.TokenKind.TheVariants.{Identifier, Keyword, Punctuator, Integer, StringLiteral}
 use Rattle.c_lexer.specs.declared.token.Token.{Token}
@@ -54,8 +57,16 @@ abbrev pub text_in : TokenKind → Option (List ℕ)
 text_in (StringLiteral text) = Some text
 text_in _ = None
 
-abbrev pub number_in : TokenKind → Option ℕ
-number_in (Integer constant) = Some constant.value
+-- the value of a constant of type int
+abbrev pub int_by : IntegerType → ℕ → Option ℤ
+int_by Int value = if nat_le value 2147483647 then Some (pos value) else None
+int_by _ value = None
+
+abbrev pub int_of : IntegerConstant → Option ℤ
+int_of constant = int_by constant.integer_type constant.value
+
+abbrev pub number_in : TokenKind → Option ℤ
+number_in (Integer constant) = int_of constant
 number_in _ = None
 
 -- ---- tokens at the front
@@ -92,7 +103,7 @@ text_at (token ∷ rest) = text_in token.kind >>= (λ text. if has_percent text 
 -- an int that isn't negative
 abbrev pub number_at : List Token → Reading ℤ
 number_at [] = None
-number_at (token ∷ rest) = number_in token.kind >>= (λ value. if nat_le value 2147483647 then Some (pos value, rest) else None)
+number_at (token ∷ rest) = option_map (λ value. (value, rest)) (number_in token.kind)
 
 -- ---- names
 
@@ -121,9 +132,9 @@ Item = List Token → Reading Stmt
 -- `("TEXT");` behind the word `printf` at this offset
 unfoldable pub print_at : ℕ → List Token → Reading Stmt
 print_at call tokens = do
-  rest ← expect mark.LeftParenthesis tokens
+  rest ← expect mark.LeftParen tokens
   text ← text_at rest
-  rest ← expect mark.RightParenthesis text.1
+  rest ← expect mark.RightParen text.1
   rest ← expect mark.Semicolon rest
   Some (stmt.Print call text.0, rest)
 
@@ -140,11 +151,11 @@ outside_callee functions callee rest = if is_outside functions callee.name then 
 -- `(NAME())` behind the word `if`, where NAME is a declared outside function
 unfoldable pub test_at : List Declaration → List Token → Reading Declaration
 test_at functions tokens = do
-  rest ← expect mark.LeftParenthesis tokens
+  rest ← expect mark.LeftParen tokens
   callee ← name_at rest
-  rest ← expect mark.LeftParenthesis callee.1
-  rest ← expect mark.RightParenthesis rest
-  rest ← expect mark.RightParenthesis rest
+  rest ← expect mark.LeftParen callee.1
+  rest ← expect mark.RightParen rest
+  rest ← expect mark.RightParen rest
   outside_callee functions callee.0 rest
 
 -- statements up to a closing brace, at most so many more, behind those that were read
@@ -205,14 +216,14 @@ unfoldable pub head_at : List Token → Reading Declaration
 head_at tokens = do
   rest ← expect_word keyword.Int tokens
   name ← name_at rest
-  rest ← expect mark.LeftParenthesis name.1
+  rest ← expect mark.LeftParen name.1
   Some (name.0, rest)
 
 -- `void)`
 unfoldable pub no_parameters_at : List Token → Option (List Token)
 no_parameters_at tokens = do
   rest ← expect_word keyword.Void tokens
-  expect mark.RightParenthesis rest
+  expect mark.RightParen rest
 
 -- `const char *, ...)`
 unfoldable pub format_parameters_at : List Token → Option (List Token)
@@ -222,7 +233,7 @@ format_parameters_at tokens = do
   rest ← expect mark.Star rest
   rest ← expect mark.Comma rest
   rest ← expect mark.Ellipsis rest
-  expect mark.RightParenthesis rest
+  expect mark.RightParen rest
 
 abbrev pub parameters_at : List ℕ → List Token → Option (List Token)
 parameters_at name tokens = if is_printf name then format_parameters_at tokens else no_parameters_at tokens

@@ -1,14 +1,13 @@
 -- The report, as a function from values to bytes.
-use Rattle.std.specs.Prelude.{ℕ, ◌+◌, ◌==◌, List, [], ◌∷◌, ◌++◌, length, Bool, true, false, fold, codes, count_by, Option, Some, None, map}
+use Rattle.std.specs.Prelude.{ℕ, ◌+◌, List, [], ◌∷◌, ◌++◌, length, Bool, true, false, fold, codes, count_by, Some, None, map}
 use Rattle.std.specs.List.{flat_map}
 use Rattle.std.specs.Fmt.{decimal}
 use Rattle.std.specs.Ordering.{nat_cmp}
 use Rattle.std.specs.Cmp.Lexicographic.{slice_cmp}
-use Rattle.std.specs.Map.{keys_of}
-use Rattle.std.specs.BTreeMap.{insert_entry}
-use Rattle.bit_words.specs.Worlds.{WorldTables, Table}
+use Rattle.std.specs.BTreeSet.{insert_key}
+use Rattle.bit_words.specs.Worlds.{WorldTables}
 use Rattle.bit_words.specs.declared.run.Side.{Side}
-use Rattle.bit_words.specs.declared.run.Side.TheVariants.{Yes, No, Case, Otherwise}
+use Rattle.bit_words.specs.declared.run.Side.TheVariants.{Yes}
 use Rattle.bit_words.specs.declared.fact.Fact.{Fact}
 use Rattle.bit_words.specs.declared.fact.Fact.TheVariants as fact
 use Rattle.c_lexer.specs.declared.token.Place.{Place}
@@ -74,10 +73,17 @@ abbrev pub is_may : Verdict → Bool
 is_may (May having lacking) = true
 is_may _ = false
 
+unfoldable pub count_text : Text → ℕ → Text
+count_text head count = head ++ decimal count
+
+-- how many facts have each kind of verdict
+unfoldable pub total_text : ℕ → ℕ → ℕ → Text
+total_text must mustnot may =
+    count_text (codes "total must ") must ++ (count_text (codes " mustnot ") mustnot ++ (count_text (codes " may ") may
+    ++ codes " unknown 0 values must 0 may 0 unknown 0\n"))
+
 abbrev pub total_line : List Verdict → Text
-total_line verdicts =
-    codes "total must " ++ (decimal (count_by is_must verdicts) ++ (codes " mustnot " ++ (decimal (count_by is_mustnot verdicts)
-    ++ (codes " may " ++ (decimal (count_by is_may verdicts) ++ codes " unknown 0 values must 0 may 0 unknown 0\n")))))
+total_line verdicts = total_text (count_by is_must verdicts) (count_by is_mustnot verdicts) (count_by is_may verdicts)
 
 -- ---- worlds
 
@@ -110,15 +116,9 @@ callees_step (Return value) = []
 unfoldable pub callees : Stmt → List Text
 callees s = fold-Stmt (List Text) callees_step s
 
-abbrev pub with_name : List (Text × Unit {0}) → Text → List (Text × Unit {0})
-with_name set name = insert_entry (slice_cmp nat_cmp) set name tt
-
-abbrev pub name_set : List Text → List (Text × Unit {0})
-name_set names = fold with_name [] names
-
 -- names in the order of their bytes, each once
 abbrev pub by_name : List Text → List Text
-by_name names = keys_of (name_set names)
+by_name names = fold (insert_key (slice_cmp nat_cmp)) [] names
 
 abbrev pub assume_line : Text → Text
 assume_line name = codes "assume outside " ++ (name ++ codes "\n")
@@ -142,5 +142,9 @@ abbrev pub diagnosis_lines : PlaceTable → List Fact → Diagnosis → Text
 diagnosis_lines places facts (Found findings) = found_lines places facts findings
 diagnosis_lines places facts Nothing = codes "execution none within bounds\nend\n"
 
+-- the report over a list of facts
+abbrev pub report_over : PlaceTable → Program → Text → List Fact → Diagnosis → Text
+report_over places p log facts diagnosis = head_lines ++ (assume_lines p ++ (log_line log ++ diagnosis_lines places facts diagnosis))
+
 abbrev pub report_of : PlaceTable → Program → Text → Diagnosis → Text
-report_of places p log diagnosis = head_lines ++ (assume_lines p ++ (log_line log ++ diagnosis_lines places (facts_of p log) diagnosis))
+report_of places p log diagnosis = report_over places p log (facts_of p log) diagnosis

@@ -4,7 +4,7 @@ ghost use Rattle.first_form.specs.Form as spec;
 ghost use Rattle.first_form.specs.Form.{Gives};
 ghost use Rattle.c_tree.specs.PlaceTables.{places_of};
 
-use c_lexer::{Keyword, Punctuator, Token, TokenKind, Tokens};
+use c_lexer::{IntegerConstant, IntegerType, Keyword, Punctuator, Token, TokenKind, Tokens};
 use c_tree::{Declaration, Places, Stmt, Unit};
 use bit_words::Bytes;
 use plain_data::{Items, Shared};
@@ -35,7 +35,7 @@ impl From<AllocError> for FormFault {
 const MAX_NESTING: u32 = 101;
 
 /// The greatest int.
-const MAX_INT: u32 = 2_147_483_647;
+const MAX_INT: u64 = 2_147_483_647;
 
 /// How many choices a source may have.
 const MAX_CHOICES: usize = 12;
@@ -151,18 +151,21 @@ fn text(tokens: &[Token]) -> Result<(Shared<Bytes>, &[Token]), FormFault>
     }
 }
 
+fn int_value(constant: &IntegerConstant) -> Result<i32, FormFault>
+    ensures { Gives (λ x. x) result (spec.int_of constant.now) }
+{
+    match constant.integer_type {
+        IntegerType::Int if constant.value <= MAX_INT => Ok(constant.value as i32),
+        _ => Err(FormFault::NotYetRead),
+    }
+}
+
 fn number(tokens: &[Token]) -> Result<(i32, &[Token]), FormFault>
     ensures { Gives (λ x. (x.0, x.1.now)) result (spec.number_at tokens.now) }
 {
     match tokens {
         [token, rest @ ..] => match &token.kind {
-            TokenKind::Integer(constant) => {
-                if constant.value <= MAX_INT {
-                    Ok((constant.value as i32, rest))
-                } else {
-                    Err(FormFault::NotYetRead)
-                }
-            }
+            TokenKind::Integer(constant) => Ok((int_value(constant)?, rest)),
             _ => Err(FormFault::NotYetRead),
         },
         [] => Err(FormFault::NotYetRead),
@@ -217,9 +220,9 @@ fn declares_printf(functions: &[Declaration]) -> bool
 fn print(call: u32, tokens: &[Token]) -> Result<(Stmt, &[Token]), FormFault>
     ensures { Gives (λ x. (x.0, x.1.now)) result (spec.print_at call tokens.now) }
 {
-    let rest = expect(tokens, Punctuator::LeftParenthesis)?;
+    let rest = expect(tokens, Punctuator::LeftParen)?;
     let (text, rest) = text(rest)?;
-    let rest = expect(rest, Punctuator::RightParenthesis)?;
+    let rest = expect(rest, Punctuator::RightParen)?;
     let rest = expect(rest, Punctuator::Semicolon)?;
     Ok((Stmt::Print { call, text }, rest))
 }
@@ -256,11 +259,11 @@ fn test<'a>(
 ) -> Result<(Declaration, &'a [Token]), FormFault>
     ensures { Gives (λ x. (x.0, x.1.now)) result (spec.test_at functions.now tokens.now) }
 {
-    let rest = expect(tokens, Punctuator::LeftParenthesis)?;
+    let rest = expect(tokens, Punctuator::LeftParen)?;
     let (callee, rest) = name(rest)?;
-    let rest = expect(rest, Punctuator::LeftParenthesis)?;
-    let rest = expect(rest, Punctuator::RightParenthesis)?;
-    let rest = expect(rest, Punctuator::RightParenthesis)?;
+    let rest = expect(rest, Punctuator::LeftParen)?;
+    let rest = expect(rest, Punctuator::RightParen)?;
+    let rest = expect(rest, Punctuator::RightParen)?;
     outside(functions, callee, rest)
 }
 
@@ -423,7 +426,7 @@ fn head(tokens: &[Token]) -> Result<(Declaration, &[Token]), FormFault>
 {
     let rest = expect_word(tokens, Keyword::Int)?;
     let (name, rest) = name(rest)?;
-    let rest = expect(rest, Punctuator::LeftParenthesis)?;
+    let rest = expect(rest, Punctuator::LeftParen)?;
     Ok((name, rest))
 }
 
@@ -433,7 +436,7 @@ fn no_parameters(tokens: &[Token]) -> Result<&[Token], FormFault>
     ensures { Gives (λ x. x.now) result (spec.no_parameters_at tokens.now) }
 {
     let rest = expect_word(tokens, Keyword::Void)?;
-    expect(rest, Punctuator::RightParenthesis)
+    expect(rest, Punctuator::RightParen)
 }
 
 /// `const char *, ...)`.
@@ -446,7 +449,7 @@ fn format_parameters(tokens: &[Token]) -> Result<&[Token], FormFault>
     let rest = expect(rest, Punctuator::Star)?;
     let rest = expect(rest, Punctuator::Comma)?;
     let rest = expect(rest, Punctuator::Ellipsis)?;
-    expect(rest, Punctuator::RightParenthesis)
+    expect(rest, Punctuator::RightParen)
 }
 
 fn parameters<'a>(name: &[u8], tokens: &'a [Token]) -> Result<&'a [Token], FormFault>
@@ -572,7 +575,7 @@ pub fn parse(alloc: Global, tokens: &Tokens) -> Result<Unit, FormFault>
     ensures places { IfOk result (λ unit. unit.places.places ≡ places_of tokens.now.tokens) }
     ensures files { IfOk result (λ unit. unit.places.files ≡ tokens.now.files) }
 {
-    let (functions, body) = program(alloc, tokens.tokens.as_slice())?;
+    let (functions, body) = program(alloc, tokens.as_slice())?;
     let places = Places::of_tokens(alloc, tokens)?;
     Ok(Unit {
         functions,

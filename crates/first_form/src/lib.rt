@@ -10,6 +10,10 @@ pub mod lines;
 pub mod listing;
 pub mod meaning;
 pub mod paths;
+pub mod report;
+#[cfg(test)]
+mod report_tests;
 pub mod shown;
+pub mod text;
 pub mod verdict;
 pub mod weigh;
