@@ -468,3 +468,92 @@ fn reports(rt: HostRuntime) -> Result<(), Fail> {
     }
     Ok(())
 }
+
+/// The report's lines on twelve choices on which nothing depends. World 1 takes all of them, and each further
+/// one all but one.
+fn twelve_free_choices(alloc: Global) -> Result<String, Fail> {
+    let mut lines = String::from_str(
+        alloc,
+        "assume outside ext\nlog lines 0 bytes 0\nexecution found\n",
+    )?;
+    for k in 0..12u32 {
+        let (fact, world, column) = (3 * k + 1, k + 2, 12 * k + 1);
+        let branch = format!(in alloc; "branch p.c:4:{column}")?;
+        lines.push_str(format!(in alloc; "fact {fact} may 1 {world} {branch} true\n")?.as_str())?;
+        let fact = fact + 1;
+        lines.push_str(format!(in alloc; "fact {fact} may {world} 1 {branch} false\n")?.as_str())?;
+        let (fact, column) = (fact + 1, column + 4);
+        lines.push_str(format!(in alloc; "fact {fact} must call p.c:4:{column}\n")?.as_str())?;
+    }
+    lines.push_str("fact 37 must return\n")?;
+    lines.push_str("total must 13 mustnot 0 may 24 unknown 0 values must 0 may 0 unknown 0\n")?;
+    for world in 1..14u32 {
+        lines.push_str(format!(in alloc; "world {world}\n")?.as_str())?;
+        for k in (0..12u32).filter(|k| *k + 2 != world) {
+            let place = 4 * k + 4;
+            lines.push_str(format!(in alloc; "w {place} 1\n")?.as_str())?;
+        }
+    }
+    lines.push_str("end\n")?;
+    Ok(lines)
+}
+
+/// The report's lines on twelve choices that print a letter each, where the log has twelve.
+fn twelve_taken_choices(alloc: Global) -> Result<String, Fail> {
+    let mut lines = String::from_str(
+        alloc,
+        "assume outside ext\nlog lines 1 bytes 12\nexecution found\n",
+    )?;
+    for k in 0..12u32 {
+        let (fact, column) = (5 * k + 1, 23 * k + 1);
+        lines.push_str(format!(in alloc;
+            "fact {fact} must branch p.c:4:{column} true\n"
+        )?.as_str())?;
+        let fact = fact + 1;
+        lines.push_str(format!(in alloc;
+            "fact {fact} mustnot branch p.c:4:{column} false\n"
+        )?.as_str())?;
+        let (fact, column) = (fact + 1, column + 4);
+        lines.push_str(format!(in alloc; "fact {fact} must call p.c:4:{column}\n")?.as_str())?;
+        let (fact, column) = (fact + 1, column + 7);
+        lines.push_str(format!(in alloc; "fact {fact} must call p.c:4:{column}\n")?.as_str())?;
+        let fact = fact + 1;
+        lines.push_str(format!(in alloc;
+            "fact {fact} must print p.c:4:{column} line 1\n"
+        )?.as_str())?;
+    }
+    lines.push_str("fact 61 must return\n")?;
+    lines.push_str(
+        "total must 49 mustnot 12 may 0 unknown 0 values must 0 may 0 unknown 0\nworld 1\n",
+    )?;
+    for k in 0..12u32 {
+        let place = 8 * k + 16;
+        lines.push_str(format!(in alloc; "w {place} 1\n")?.as_str())?;
+    }
+    lines.push_str("end\n")?;
+    Ok(lines)
+}
+
+#[test]
+fn twelve_choices(rt: HostRuntime) -> Result<(), Fail> {
+    let alloc = rt.alloc();
+    let free = "if (ext()) ;".repeat(alloc, 12)?;
+    let printing = "if (ext()) printf(\"x\");".repeat(alloc, 12)?;
+    let all = twelve_free_choices(alloc)?;
+    let one = twelve_taken_choices(alloc)?;
+    let none = "log lines 1 bytes 13\nexecution none within bounds\nend\n";
+    let none = format!(in alloc; "assume outside ext\n{none}")?;
+    let rows = [
+        (free.as_str(), "", 0, all.as_str()),
+        (printing.as_str(), "xxxxxxxxxxxx", 0, one.as_str()),
+        (printing.as_str(), "xxxxxxxxxxxxx", 1, none.as_str()),
+    ];
+    for (body, log, status, lines) in rows {
+        let text = source(alloc, body)?;
+        let report = format!(in alloc; "{HEAD}{lines}")?;
+        let mut outside = Outside::new(alloc, text.as_bytes(), log.as_bytes(), NOTHING)?;
+        assert_eq!(rt; outside.status_of(alloc, DIAGNOSE)?, status);
+        assert_eq!(rt; outside.out(), report.as_bytes());
+    }
+    Ok(())
+}
