@@ -93,7 +93,9 @@ fn main(rt: HostRuntime) -> Result<()> {
     }
     if times {
         let (read, parsed, checked) = (read.as_micros(), parsed.as_micros(), checked.as_micros());
-        eprintln!(rt; "microseconds at the end of reading {read}, parsing {parsed}, checking {checked}")?;
+        eprintln!(rt;
+            "microseconds at the end of reading {read}, parsing {parsed}, checking {checked}"
+        )?;
     }
     Ok(())
 }
