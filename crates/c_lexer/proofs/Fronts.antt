@@ -245,7 +245,7 @@ wide_34 : (fresh : Bool) (text : Text) → Sound fresh (76 ∷ 34 ∷ text) (pie
 unfolding piece_at
 wide_34 fresh text = wide_front fresh lexeme.WideText 34 text (closing 34 false 2 text) refl (λ body rest is. (34 ∷ body ++ 34 ∷ [], (body, is, refl), refl))
 
-shut_76 : (fresh : Bool) (c : ℕ) (text : Text) → eqb c 39 ≡ false → eqb c 34 ≡ false → opens fresh (76 ∷ c ∷ text) ≡ false
+pub shut_76 : (fresh : Bool) (c : ℕ) (text : Text) → eqb c 39 ≡ false → eqb c 34 ≡ false → opens fresh (76 ∷ c ∷ text) ≡ false
 shut_76 fresh c text a q = rw (a, q) refl
 
 sound_76 : (fresh : Bool) (text : Text) → Sound fresh (76 ∷ text) (piece_at fresh (76 ∷ text))
@@ -265,7 +265,7 @@ comment_47 : (fresh : Bool) (text : Text) → Sound fresh (47 ∷ 47 ∷ text) (
 unfolding piece_at other
 comment_47 fresh text sound = line_front fresh text
 
-shut_47 : (fresh : Bool) (c : ℕ) (text : Text) → eqb c 42 ≡ false → eqb c 47 ≡ false → opens fresh (47 ∷ c ∷ text) ≡ false
+pub shut_47 : (fresh : Bool) (c : ℕ) (text : Text) → eqb c 42 ≡ false → eqb c 47 ≡ false → opens fresh (47 ∷ c ∷ text) ≡ false
 shut_47 fresh c text s t = rw (s, t) refl
 
 sound_47 : (fresh : Bool) (text : Text) → Sound fresh (47 ∷ text) (piece_at fresh (47 ∷ text))

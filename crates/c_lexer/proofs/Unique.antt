@@ -23,7 +23,7 @@ use Rattle.c_lexer.proofs.Marks.{mark}
 
 -- ---- one piece
 
-begins_plain : (fresh : Bool) (kind : Lexeme) (bytes rest : Text) → Begins fresh kind bytes rest → is_stray kind ≡ false
+pub begins_plain : (fresh : Bool) (kind : Lexeme) (bytes rest : Text) → Begins fresh kind bytes rest → is_stray kind ≡ false
 begins_plain fresh lexeme.Blank bytes rest b = refl
 begins_plain fresh lexeme.Newline bytes rest b = refl
 begins_plain fresh lexeme.Comment bytes rest b = refl
@@ -55,7 +55,7 @@ begins_some fresh lexeme.WideText rest (more, quoted, is) = cc
 begins_some fresh (lexeme.Punctuator p) rest b = absurd (omega (arith, (mark [] p b.0).some))
 begins_some fresh (lexeme.Stray s) rest b = absurd b
 
-begins_long : (fresh : Bool) (kind : Lexeme) (bytes rest : Text) → Begins fresh kind bytes rest → 1 ≤ length bytes
+pub begins_long : (fresh : Bool) (kind : Lexeme) (bytes rest : Text) → Begins fresh kind bytes rest → 1 ≤ length bytes
 begins_long fresh kind [] rest b = absurd (begins_some fresh kind rest b)
 begins_long fresh kind (x ∷ bytes) rest b = omega arith
 
@@ -64,7 +64,7 @@ covered kind len p (inl c) = omega (arith, c.1)
 covered kind len p (inr c) = omega (arith, c.1)
 
 -- the piece at a place is the longest that begins there
-piece_longest : (fresh : Bool) (text : Text) (f : Front fresh text (piece_at fresh text)) → IsLongest fresh text (piece_at fresh text).0 f.bytes f.rest
+pub piece_longest : (fresh : Bool) (text : Text) (f : Front fresh text (piece_at fresh text)) → IsLongest fresh text (piece_at fresh text).0 f.bytes f.rest
 piece_longest fresh text f = record {
   splits = f.text_is;
   begins = f.begins;
@@ -75,13 +75,13 @@ piece_longest fresh text f = record {
 }
 
 -- and no other is
-record IsPiece (fresh : Bool) (text : Text) (kind : Lexeme) (bytes rest : Text) : Type 0 where
-  kind_is : kind ≡ (piece_at fresh text).0
-  bytes_are : bytes ≡ take (piece_at fresh text).1 text
-  rest_is : rest ≡ drop (piece_at fresh text).1 text
-  some : 1 ≤ (piece_at fresh text).1
+pub record IsPiece (fresh : Bool) (text : Text) (kind : Lexeme) (bytes rest : Text) : Type 0 where
+  pub kind_is : kind ≡ (piece_at fresh text).0
+  pub bytes_are : bytes ≡ take (piece_at fresh text).1 text
+  pub rest_is : rest ≡ drop (piece_at fresh text).1 text
+  pub some : 1 ≤ (piece_at fresh text).1
 
-longest_piece : (fresh : Bool) (text : Text) (kind : Lexeme) (bytes rest : Text) → IsLongest fresh text kind bytes rest → (0 < length text) × IsPiece fresh text kind bytes rest
+pub longest_piece : (fresh : Bool) (text : Text) (kind : Lexeme) (bytes rest : Text) → IsLongest fresh text kind bytes rest → (0 < length text) × IsPiece fresh text kind bytes rest
 longest_piece fresh text kind bytes rest is =
     (nonempty, by_cover (subst (λ t. Covers kind (length bytes) (piece_at fresh t)) (sym is.splits) (covers fresh kind bytes rest is.begins))) where
       long : 1 ≤ length bytes

@@ -1,12 +1,13 @@
 -- The tokens that a source spells, or its first fault.
-use Rattle.std.specs.Prelude.{◌≡◌, ℕ, ◌+◌, true, List, [], ◌∷◌, ◌++◌, length, slice_range, Option, Some, None, Result, Ok, Err}
+use Rattle.std.specs.Prelude.{◌≡◌, ◌≢◌, ℕ, ◌+◌, Bool, true, ◌⊎◌, List, [], ◌∷◌, ◌++◌, length, slice_range, Option, Some, None, Result, Ok, Err, IsOk}
 use Rattle.c_lexer.specs.Class.{Text}
-use Rattle.c_lexer.specs.Division.{Element, divide}
-use Rattle.c_lexer.specs.Spelling.{Divides}
+use Rattle.c_lexer.specs.Division.{Element, divide, fresh_after}
+use Rattle.c_lexer.specs.Spelling.{Divides, IsLongest, IsStray, stray_at}
 use Rattle.c_lexer.specs.Places.{beginning, spot_after}
-use Rattle.c_lexer.specs.Meaning.{Meaning, meaning}
+use Rattle.c_lexer.specs.Meaning.{Meaning, meaning, stray_fault}
 use Rattle.c_lexer.specs.Attributes.{without_attributes}
 use Rattle.c_lexer.specs.declared.fault.LexFault.{LexFault}
+use Rattle.c_lexer.specs.declared.piece.Lexeme.{Lexeme}
 use Rattle.c_lexer.specs.declared.piece.Lexeme.TheVariants as lexeme
 use Rattle.c_lexer.specs.declared.token.Place.{Place}
 use Rattle.c_lexer.specs.declared.token.Spot.{Spot}
@@ -61,3 +62,20 @@ pub record Spells (name bytes : Text) (tokens : Tokens) : Type 0 where
   pub division : List Element
   pub divides : Divides true bytes division
   pub reads : finished name (read 0 0 (beginning name) division) ≡ Ok tokens
+
+-- A fault stands at an offset, where some text begins. Nothing begins there, or the longest piece that does means nothing.
+abbrev pub FaultAt : Bool → ℕ → Text → LexFault → Type 0
+FaultAt fresh at text f =
+    ((text ≢ []) × IsStray fresh text × (f ≡ stray_fault at (stray_at fresh text)))
+    ⊎ ((kind : Lexeme) × (bytes : Text) × (rest : Text) × IsLongest fresh text kind bytes rest × (meaning at (kind, bytes) ≡ Err f))
+
+-- the first fault of a text comes after some pieces, each the longest at its place, which all mean something
+abbrev pub FaultAfter : List Element → Bool → ℕ → Text → LexFault → Type 0
+FaultAfter [] fresh at text f = FaultAt fresh at text f
+FaultAfter (e ∷ es) fresh at text f =
+    (rest : Text) × IsLongest fresh text e.0 e.1 rest × IsOk (meaning at e) × FaultAfter es (fresh_after fresh e.0) (at + length e.1) rest f
+
+-- the first fault of a source
+pub record IsFirstFault (bytes : Text) (f : LexFault) : Type 0 where
+  pub before : List Element
+  pub stands : FaultAfter before true 0 bytes f

@@ -1,5 +1,5 @@
 -- What each kind of piece is spelled by (C99 6.4), and the division of a source into pieces, each the longest that begins at its place.
-use Rattle.std.specs.Prelude.{◌≡◌, ◌≢◌, ℕ, ◌<◌, ◌≤◌, Bool, true, false, ◌&&◌, ◌||◌, ◌==◌, ◌⊎◌, List, [], ◌∷◌, ◌++◌, length, map, slice_index, Option, Some, None, IsSome, ⊤}
+use Rattle.std.specs.Prelude.{◌≡◌, ◌≢◌, ℕ, ◌<◌, ◌≤◌, Bool, true, false, ◌&&◌, ◌||◌, ◌==◌, ◌⊎◌, List, [], ◌∷◌, ◌++◌, length, map, slice_index, Option, Some, None, IsSome, if◌then◌else◌, ⊤}
 use Rattle.c_lexer.specs.Class.{Text, is_in}
 use Rattle.c_lexer.specs.Number.{goes_on}
 use Rattle.c_lexer.specs.Directive.{directive}
@@ -10,6 +10,8 @@ use Rattle.c_lexer.specs.declared.class.Class.TheVariants as class
 use Rattle.c_lexer.specs.declared.directive.Directive.TheVariants as says
 use Rattle.c_lexer.specs.declared.piece.Lexeme.{Lexeme}
 use Rattle.c_lexer.specs.declared.piece.Lexeme.TheVariants as lexeme
+use Rattle.c_lexer.specs.declared.piece.Stray.{Stray}
+use Rattle.c_lexer.specs.declared.piece.Stray.TheVariants as stray
 use Rattle.c_lexer.specs.declared.table.TheConstants.{PUNCTUATORS}
 
 -- each byte is of a class
@@ -105,3 +107,8 @@ Divides fresh text (e ∷ es) = (rest : Text) × IsLongest fresh text e.0 e.1 re
 -- nothing begins at a text
 abbrev pub IsStray : Bool → Text → Type 0
 IsStray fresh text = (kind : Lexeme) (bytes rest : Text) → text ≡ bytes ++ rest → Begins fresh kind bytes rest → ⊥
+
+-- why nothing begins at a text: a directive that is none, a literal or a comment that nothing closes, or a byte that begins nothing
+abbrev pub stray_at : Bool → Text → Stray
+stray_at fresh text =
+    if slice_index text 0 == 35 && fresh then stray.BadDirective else (if opens fresh text then stray.OpenText else stray.BadByte)

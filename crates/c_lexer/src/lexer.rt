@@ -9,6 +9,7 @@ ghost use Rattle.c_lexer.specs.Places.{located};
 ghost use Rattle.c_lexer.specs.Reading as spec;
 ghost use Rattle.c_lexer.specs.Division.{Element};
 ghost use Rattle.c_lexer.specs.Spelling.{Divides};
+ghost use Rattle.c_lexer.specs.declared.fault.LexFault.{LexFault as Fault};
 ghost use Rattle.c_lexer.specs.declared.token.Token.{Token};
 ghost use Rattle.c_lexer.specs.declared.token.Tokens.{Tokens as TokenList};
 
@@ -151,13 +152,15 @@ fn tokens_of(alloc: Global, name: &str, bytes: &[u8]) -> Result<Tokens, LexFault
 /// The tokens that a source spells by C99 6.4, or its first fault. `name` is the file that holds before the
 /// first line marker. A fault is the first in the source, with the offset at which it stands.
 ///
-/// A source divides in one way at most, and what it spells is what is answered; what is refused for another
-/// cause than memory spells no tokens.
+/// A source divides in one way at most, and what that division spells is answered. What is refused for
+/// another cause than memory spells no tokens, and the fault that is answered is the one first fault.
 pub fn lex(alloc: Global, name: &str, bytes: &[u8]) -> Result<Tokens, LexFault>
     requires { length bytes.now ≤ 8388608 }
     ensures value { Answers (λ tokens. tokens) (spec.lexed name.now bytes.now) result }
     ensures spelled { IfOk result (λ tokens. spec.Spells name.now bytes.now tokens) }
     ensures refused { IfErr result (λ fault. fault ≢ LexFault.Memory → (tokens : TokenList) → spec.Spells name.now bytes.now tokens → ⊥) }
+    ensures first { IfErr result (λ fault. fault ≢ LexFault.Memory → spec.IsFirstFault bytes.now fault) }
+    ensures faulty { (fault : Fault) → spec.IsFirstFault bytes.now fault → spec.lexed name.now bytes.now ≡ Err fault }
     ensures only { (one other : List Element) → Divides true bytes.now one → Divides true bytes.now other → one ≡ other }
 {
     tokens_of(alloc, name, bytes)

@@ -1,4 +1,5 @@
 use Rattle.c_lexer.proofs.Unique.{answer_spelled, answer_refused, one_division}
+use Rattle.c_lexer.proofs.Faults.{answer_first, fault_lexed}
 use Rattle.c_lexer.proofs.lexer.lex.Goals as goal
 
 pub returns-clause-spelled : goal.returns-clause-spelled
@@ -9,3 +10,9 @@ returns-clause-refused c = answer_refused c.args.name.now c.args.bytes.now c.tok
 
 pub returns-clause-only : goal.returns-clause-only
 returns-clause-only c = one_division c.args.bytes.now
+
+pub returns-clause-first : goal.returns-clause-first
+returns-clause-first c = answer_first c.args.name.now c.args.bytes.now c.tokens_of.result c.tokens_of.ensures
+
+pub returns-clause-faulty : goal.returns-clause-faulty
+returns-clause-faulty c = fault_lexed c.args.name.now c.args.bytes.now
