@@ -71,13 +71,13 @@ pub of_all : (p : Program) (log : List ℕ) (all : List Candidate) → OfPaths p
 of_all p log all so_far = record {
   each = so_far.each;
   complete = λ words fits.
-    let c = cover p (answers_of words) in
-    let found = so_far.complete c.0 c.1 (ap (λ (r : Run). r.printed) c.2 ∙ fits) in
-    record {
-      candidate = found.0;
-      listed = found.1;
-      facts = λ fact. subst (λ (r : Run). Contains found.0.facts fact ↔ Contains (facts_shown log r) fact) c.2 (found.2 fact);
-    };
+      let c = cover p (answers_of words) in
+      let found = so_far.complete c.0 c.1 (ap (λ (r : Run). r.printed) c.2 ∙ fits) in
+      record {
+        candidate = found.0;
+        listed = found.1;
+        facts = λ fact. subst (λ (r : Run). Contains found.0.facts fact ↔ Contains (facts_shown log r) fact) c.2 (found.2 fact);
+      };
 }
 
 pub of_next : (p : Program) (log : List ℕ) (paths : List (List ℕ)) (path : List ℕ) (all after : List Candidate) (found : Option Candidate) → OfPaths p log paths all → GivesCandidate p log path found → after ≡ all ++ option_to_list found → OfPaths p log (paths ++ path ∷ []) after

@@ -266,7 +266,7 @@ module _ (m : Meaning) (ms : List Meaning) (one : Sound m) (rest : Covers (turn 
         below = λ x l. d.below x (omega arith) ∙ c.below x l;
         above = λ x l. d.above x (omega arith) ∙ c.above x (omega arith);
         runs = λ t r.
-          step m ms (taken d.on) base t r ∙ ap (in_turn ms (taken d.on) (base + m.room)) (first t r) ∙ d.runs (m.run a base t) (all t r) ∙ sym (step m ms a base t r);
+            step m ms (taken d.on) base t r ∙ ap (in_turn ms (taken d.on) (base + m.room)) (first t r) ∙ d.runs (m.run a base t) (all t r) ∙ sym (step m ms a base t r);
         place = elim d.place [
           | inl q ↦ inl (q.0, λ t r. ap (λ (s : Standing). is_some s.returned) (step m ms a base t r) ∙ q.1 (m.run a base t) (all t r))
           | inr q ↦ inr (among_right d.on (m.ways base paths).returned _ q.0, λ t r. ap (λ (s : Standing). is_some s.returned) (step m ms a base t r) ∙ q.1 (m.run a base t) (all t r))

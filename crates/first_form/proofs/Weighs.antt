@@ -56,9 +56,9 @@ module _ (p : Program) (log : List ℕ) (l : Listing) (is : IsListing p log l) (
     listed = subst (λ k. slice_get (worlds_of l.listed) k ≡ Some f.candidate.world) (one_less index) (get-worlds l.listed index f.candidate f.at);
     meets = (exact f.candidate (among_at l.listed index f.candidate f.at)).0 f.answers;
     earlier = λ k other h e holds.
-      let c = of_world l.listed k other e in
-      let lacks = f.earlier k c.0 (omega arith) c.1 in
-      lacks ((exact c.0 (among_at l.listed k c.0 c.1)).1 (subst (λ (w : WorldTables). Holds p log fact (words_of w)) (sym c.2) holds));
+        let c = of_world l.listed k other e in
+        let lacks = f.earlier k c.0 (omega arith) c.1 in
+        lacks ((exact c.0 (among_at l.listed k c.0 c.1)).1 (subst (λ (w : WorldTables). Holds p log fact (words_of w)) (sym c.2) holds));
   }
 
   first_lacking : (index : ℕ) → IsFirstWith false fact l.listed index → IsFirst (λ words. ¬ (Holds p log fact words)) (worlds_of l.listed) (index + 1)
@@ -68,9 +68,9 @@ module _ (p : Program) (log : List ℕ) (l : Listing) (is : IsListing p log l) (
     listed = subst (λ k. slice_get (worlds_of l.listed) k ≡ Some f.candidate.world) (one_less index) (get-worlds l.listed index f.candidate f.at);
     meets = λ holds. f.answers ((exact f.candidate (among_at l.listed index f.candidate f.at)).1 holds);
     earlier = λ k other h e lacks.
-      let c = of_world l.listed k other e in
-      let has = f.earlier k c.0 (omega arith) c.1 in
-      lacks (subst (λ (w : WorldTables). Holds p log fact (words_of w)) c.2 ((exact c.0 (among_at l.listed k c.0 c.1)).0 has));
+        let c = of_world l.listed k other e in
+        let has = f.earlier k c.0 (omega arith) c.1 in
+        lacks (subst (λ (w : WorldTables). Holds p log fact (words_of w)) c.2 ((exact c.0 (among_at l.listed k c.0 c.1)).0 has));
   }
 
   must : FindsListed false fact l None → IsJust p log (worlds_of l.listed) fact Must
@@ -114,9 +114,10 @@ and_one R (a ∷ xs) (b ∷ ys) x y h r = (h.0, and_one R xs ys x y h.1 r)
 may : (p : Program) (log : List ℕ) (mid new : Listing) (fact : Fact) (having lacking : ℕ) → Grows mid new → IsListing p log mid → IsFirstWith true fact mid.listed having → IsFirstWith false fact new.listed lacking → IsJust p log (worlds_of new.listed) fact (May (having + 1) (lacking + 1))
 may p log mid new fact having lacking grows is h l =
     let first = first_having p log mid is fact having h in
-    let same : worlds_of new.listed ≡ worlds_of mid.listed ++ worlds_of grows.more = ap worlds_of grows.listed ∙ worlds-append mid.listed grows.more in
-    (subst (λ (ws : List WorldTables). IsFirst (Holds p log fact) ws (having + 1)) (sym same) (first_among_more _ (worlds_of mid.listed) (worlds_of grows.more) (having + 1) first),
-      first_lacking p log new (grows.keeps p log is) fact lacking l)
+    let same : worlds_of new.listed ≡ worlds_of mid.listed ++ worlds_of grows.more = ap worlds_of grows.listed ∙ worlds-append mid.listed grows.more in (
+      subst (λ (ws : List WorldTables). IsFirst (Holds p log fact) ws (having + 1)) (sym same) (first_among_more _ (worlds_of mid.listed) (worlds_of grows.more) (having + 1) first),
+      first_lacking p log new (grows.keeps p log is) fact lacking l,
+    )
 
 pub weighed : (old mid new : Listing) (fact : Fact) (having lacking : Option ℕ) (verdict : Verdict) → Grows old mid → FindsListed true fact mid having → Grows mid new → FindsListed false fact new lacking → GivesVerdict having lacking verdict → IsJustFrom old new fact verdict
 weighed old mid new fact having None verdict first h second l e p log is =
@@ -139,9 +140,9 @@ pub one_weighed : (start now next : Listing) (facts : List Fact) (verdicts : Lis
 one_weighed start now next facts verdicts fact verdict s whole g j = record {
   grows = whole;
   just = λ p log is.
-    let same : worlds_of next.listed ≡ worlds_of now.listed ++ worlds_of g.more = ap worlds_of g.listed ∙ worlds-append now.listed g.more in
-    let before = subst (λ (ws : List WorldTables). AllZip (IsJust p log ws) facts verdicts) (sym same) (all_more p log (worlds_of now.listed) (worlds_of g.more) facts verdicts (s.just p log is)) in
-    and_one (IsJust p log (worlds_of next.listed)) facts verdicts fact verdict before (j p log (s.grows.keeps p log is));
+      let same : worlds_of next.listed ≡ worlds_of now.listed ++ worlds_of g.more = ap worlds_of g.listed ∙ worlds-append now.listed g.more in
+      let before = subst (λ (ws : List WorldTables). AllZip (IsJust p log ws) facts verdicts) (sym same) (all_more p log (worlds_of now.listed) (worlds_of g.more) facts verdicts (s.just p log is)) in
+      and_one (IsJust p log (worlds_of next.listed)) facts verdicts fact verdict before (j p log (s.grows.keeps p log is));
 }
 
 -- ---- the whole
@@ -166,10 +167,10 @@ found p log start first last facts verdicts worlds empty are moved one g just al
     record {
       some = subst (λ (ws : List WorldTables). 0 < length ws) (sym (same ∙ ap worlds_of long)) (some_world moved.candidate g.more);
       fit = λ w h.
-        let c = of_listed last.listed w (subst (λ (ws : List WorldTables). Among w ws) same h) in
-        subst (λ (v : WorldTables). Fits p log (words_of v)) c.2 (is_last.each c.0 (among_left c.0 last.listed last.pool c.1)).fits;
+          let c = of_listed last.listed w (subst (λ (ws : List WorldTables). Among w ws) same h) in
+          subst (λ (v : WorldTables). Fits p log (words_of v)) c.2 (is_last.each c.0 (among_left c.0 last.listed last.pool c.1)).fits;
       verdicts = subst (λ (ws : List WorldTables). AllZip (IsJust p log ws) (facts_of p log) verdicts) (sym same)
-        (subst (λ (fs : List Fact). AllZip (IsJust p log (worlds_of last.listed)) fs verdicts) all (just p log is_first));
+          (subst (λ (fs : List Fact). AllZip (IsJust p log (worlds_of last.listed)) fs verdicts) all (just p log is_first));
     }
 
 take_get : {X : Type 0} (xs : List X) (i : ℕ) (x : X) → slice_get xs i ≡ Some x → take (i + 1) xs ≡ take i xs ++ x ∷ []

@@ -98,10 +98,10 @@ choice at call positive negative = record {
   room = call_room + (positive.room + negative.room);
   literals = positive.literals + negative.literals;
   run = λ answers base s.
-    if answers base then positive.run answers (base + call_room) (tests at call true s)
-    else negative.run answers (base + (call_room + positive.room)) (tests at call false s);
+      if answers base then positive.run answers (base + call_room) (tests at call true s)
+      else negative.run answers (base + (call_room + positive.room)) (tests at call false s);
   ways = λ base paths.
-    joined_ways (positive.ways (base + call_room) (map (and_place base) paths)) (negative.ways (base + (call_room + positive.room)) paths);
+      joined_ways (positive.ways (base + call_room) (map (and_place base) paths)) (negative.ways (base + (call_room + positive.room)) paths);
 }
 
 abbrev pub rooms : List Meaning → ℕ

@@ -44,11 +44,7 @@ pub fn move_up(listing: &mut Listing, index: usize) -> Result<(), AllocError>
 
 /// The index of the first listed candidate that has the fact, or where `wanted` is not set that lacks it. Where
 /// no listed one does, the first of the pool that does is listed.
-pub fn find(
-    listing: &mut Listing,
-    fact: &Fact,
-    wanted: bool,
-) -> Result<Option<usize>, AllocError>
+pub fn find(listing: &mut Listing, fact: &Fact, wanted: bool) -> Result<Option<usize>, AllocError>
     ensures grows { OnOk result (Grows listing.old listing.new) }
     ensures found { IfOk result (λ index. FindsListed wanted fact.now listing.new index) }
 {

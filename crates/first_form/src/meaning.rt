@@ -220,7 +220,13 @@ fn execute(
             let holds = answer(world, base);
             standing.tests(*at, *call, holds)?;
             if holds {
-                execute(alloc, world, positive.get(), beyond(base, CALL_ROOM)?, standing)
+                execute(
+                    alloc,
+                    world,
+                    positive.get(),
+                    beyond(base, CALL_ROOM)?,
+                    standing,
+                )
             } else {
                 Ok(())
             }

@@ -73,12 +73,7 @@ fn with_place(alloc: Global, paths: &[Path], place: u64) -> Result<Items<Path>, 
 /// What a statement makes of the paths that come to it.
 #[cycle(split)]
 #[tactic(auto, unfolding(crate::specs::Meaning::meaning))]
-fn split(
-    alloc: Global,
-    stmt: &Stmt,
-    base: u64,
-    paths: Items<Path>,
-) -> Result<Ways, AllocError>
+fn split(alloc: Global, stmt: &Stmt, base: u64, paths: Items<Path>) -> Result<Ways, AllocError>
     ensures { IfOk result (λ ways. ways ≡ (meaning stmt.now).ways base paths) }
 {
     match stmt {

@@ -17,4 +17,4 @@ loop-path-preserved c =
 pub returns : goal.returns
 returns c =
     of_all _ _ _ (subst (λ (ps : List (List ℕ)). OfPaths (program_in c.args.unit.now) c.args.lines.now ps c.loop-path.all)
-      (take_all c.loop-path.path-index c.as_slice-path-items.result.now c.loop-path-test.false ∙ c.as_slice-path-items.ensures ∙ c.in_ok-paths.ensures) c.loop-path.invariant)
+    (take_all c.loop-path.path-index c.as_slice-path-items.result.now c.loop-path-test.false ∙ c.as_slice-path-items.ensures ∙ c.in_ok-paths.ensures) c.loop-path.invariant)
