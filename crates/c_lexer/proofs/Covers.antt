@@ -1,17 +1,16 @@
 -- What begins at a text is the piece there, or is shorter.
-use Rattle.std.proofs.Common.{◌≡◌, ◌≢◌, ℕ, zero, suc, ◌+◌, ◌-◌, ◌<◌, ◌≤◌, Bool, true, false, not, cond, ◌&&◌, ◌||◌, eqb, nat_le, List, [], ◌∷◌, ◌++◌, length, get_or, take, drop, slice_index, Option, Some, None, IsSome, refl, ap, sym, subst, ◌∙◌, ◌⊎◌, inl, inr, arith, append_assoc, append-nil, length-append}
+use Rattle.std.proofs.Common.{◌≡◌, ◌≢◌, ℕ, suc, ◌+◌, ◌<◌, ◌≤◌, Bool, true, false, cond, ◌&&◌, ◌||◌, eqb, [], ◌∷◌, ◌++◌, length, take, slice_index, Option, Some, None, IsSome, refl, ap, sym, subst, ◌∙◌, ◌⊎◌, inl, inr, arith, append_assoc, append-nil, length-append}
 use Rattle.std.specs.List.{prefix_len}
 use Rattle.std.proofs.lemmas.Bool.{false≢true, eqb-true, eq-eqb, ne_eqb}
 use Rattle.std.proofs.lemmas.Bool.Decides.{nat_tests, eqb_tells}
 use Rattle.std.proofs.lemmas.List.{take_at}
-use Rattle.c_lexer.specs.Class.{Text, is_in, past}
+use Rattle.c_lexer.specs.Class.{Text, is_in}
 use Rattle.c_lexer.specs.Tables.{punctuator}
-use Rattle.c_lexer.specs.Number.{goes_on, number_more}
+use Rattle.c_lexer.specs.Number.{number_more}
 use Rattle.c_lexer.specs.Literal.{closing}
 use Rattle.c_lexer.specs.Directive.{directive}
-use Rattle.c_lexer.specs.Piece.{Piece, piece_at, other, closed, comment_end, directive_piece, marked, begins_number, punctuation}
+use Rattle.c_lexer.specs.Piece.{Piece, piece_at, other, closed, comment_end, directive_piece, marked, begins_number}
 use Rattle.c_lexer.specs.Spelling.{AllIn, IsBody, IsQuoted, IsBlockComment, IsLineComment, IsWord, IsNumber, Begins, opens, Has}
-use Rattle.c_lexer.specs.declared.class.Class.{Class}
 use Rattle.c_lexer.specs.declared.class.Class.TheVariants as class
 use Rattle.c_lexer.specs.declared.directive.Directive.{Directive}
 use Rattle.c_lexer.specs.declared.directive.Directive.TheVariants as says

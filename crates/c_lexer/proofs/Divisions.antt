@@ -1,15 +1,13 @@
 -- One piece of a division, and the rest.
-use Rattle.std.proofs.Common.{◌≡◌, ℕ, zero, suc, ◌+◌, ◌-◌, ◌<◌, ◌≤◌, Bool, true, false, cond, nat_lt, List, [], ◌∷◌, ◌++◌, length, take, drop, Option, Some, None, Result, Ok, Err, refl, ap, sym, ◌∙◌, arith, append_assoc, length-append}
-use Rattle.std.proofs.lemmas.List.{drop-drop}
+use Rattle.std.proofs.Common.{◌≡◌, ℕ, zero, suc, ◌+◌, ◌-◌, ◌<◌, ◌≤◌, Bool, List, [], ◌∷◌, ◌++◌, length, take, drop, Option, Ok, Err, refl, ap, sym, ◌∙◌, arith, append_assoc}
 use Rattle.c_lexer.specs.Class.{Text}
 use Rattle.c_lexer.specs.Piece.{piece_at}
 use Rattle.c_lexer.specs.Division.{Element, divide, fresh_after}
 use Rattle.c_lexer.specs.Fault.{Refused}
-use Rattle.c_lexer.specs.Meaning.{Meaning, meaning}
+use Rattle.c_lexer.specs.Meaning.{Meaning}
 use Rattle.c_lexer.specs.Attributes.{keep}
 use Rattle.c_lexer.specs.Collected.{collected}
-use Rattle.c_lexer.specs.Places.{spot_after}
-use Rattle.c_lexer.specs.Reading.{Reading, read, followed_by, given, named_by, token_at, place_at}
+use Rattle.c_lexer.specs.Reading.{Reading, followed_by, given, named_by, token_at, place_at}
 use Rattle.c_lexer.specs.Walks.{completed}
 use Rattle.c_lexer.specs.declared.attribute.Collected.{Collected}
 use Rattle.c_lexer.specs.declared.fault.LexFault.{LexFault}

@@ -1,16 +1,16 @@
 -- A text that is refused has one first fault.
-use Rattle.std.proofs.Common.{◌≡◌, ◌≢◌, ℕ, zero, suc, ◌+◌, ◌-◌, ◌<◌, ◌≤◌, Bool, true, false, List, [], ◌∷◌, ◌++◌, length, take, drop, Option, Some, None, Result, Ok, Err, IsOk, refl, ap, sym, subst, ◌∙◌, ◌⊎◌, inl, inr, arith, length-drop}
+use Rattle.std.proofs.Common.{◌≡◌, ◌≢◌, ℕ, zero, suc, ◌+◌, ◌-◌, ◌<◌, ◌≤◌, Bool, true, false, List, [], ◌∷◌, length, take, drop, Ok, Err, IsOk, refl, ap, sym, subst, ◌∙◌, inl, inr, arith, length-drop}
 use Rattle.std.specs.Result.{IfErr}
 use Rattle.std.proofs.lemmas.Bool.{false≢true}
 use Rattle.std.proofs.lemmas.List.{take_at, drop_at}
 use Rattle.c_lexer.specs.Class.{Text}
-use Rattle.c_lexer.specs.Piece.{Piece, piece_at}
+use Rattle.c_lexer.specs.Piece.{piece_at}
 use Rattle.c_lexer.specs.Division.{Element, divide, fresh_after}
 use Rattle.c_lexer.specs.Fault.{Answers, Refused}
 use Rattle.c_lexer.specs.Places.{beginning, spot_after}
 use Rattle.c_lexer.specs.Meaning.{Meaning, meaning, stray_fault}
-use Rattle.c_lexer.specs.Reading.{Reading, read, finished, followed_by, given, named_by, lexed, FaultAt, FaultAfter, IsFirstFault}
-use Rattle.c_lexer.specs.Spelling.{Begins, IsLongest, IsStray, stray_at}
+use Rattle.c_lexer.specs.Reading.{Reading, read, finished, followed_by, given, named_by, lexed, FaultAfter, IsFirstFault}
+use Rattle.c_lexer.specs.Spelling.{IsLongest, IsStray, stray_at}
 use Rattle.c_lexer.specs.declared.fault.LexFault.{LexFault}
 use Rattle.c_lexer.specs.declared.fault.LexFault.TheVariants as fault
 use Rattle.c_lexer.specs.declared.piece.Lexeme.{Lexeme}
@@ -18,7 +18,7 @@ use Rattle.c_lexer.specs.declared.piece.Lexeme.TheVariants as lexeme
 use Rattle.c_lexer.specs.declared.piece.Stray.{Stray}
 use Rattle.c_lexer.specs.declared.token.Spot.{Spot}
 use Rattle.c_lexer.specs.declared.token.Tokens.{Tokens}
-use Rattle.c_lexer.proofs.Fronts.{is_stray, Front, sound}
+use Rattle.c_lexer.proofs.Fronts.{is_stray, sound}
 use Rattle.c_lexer.proofs.Covers.{Covers, covers}
 use Rattle.c_lexer.proofs.Divisions.{divide_next, divide_rest}
 use Rattle.c_lexer.proofs.Strays.{reason}

@@ -1,17 +1,17 @@
 -- The piece at the front of a text is spelled by what it takes.
-use Rattle.std.proofs.Common.{◌≡◌, ◌≢◌, ℕ, zero, suc, ◌+◌, ◌-◌, ◌<◌, ◌≤◌, Bool, true, false, not, cond, ◌&&◌, ◌||◌, eqb, nat_le, List, [], ◌∷◌, ◌++◌, length, get_or, take, drop, slice_index, Option, Some, None, IsSome, refl, ap, sym, subst, ◌∙◌, ◌⊎◌, inl, inr, arith, append_assoc, length-append}
+use Rattle.std.proofs.Common.{◌≡◌, ℕ, suc, ◌+◌, ◌<◌, Bool, true, false, cond, ◌&&◌, ◌||◌, eqb, [], ◌∷◌, ◌++◌, length, get_or, take, drop, Option, Some, None, IsSome, refl, ap, sym, subst, ◌∙◌, inl, inr, arith, append_assoc, length-append}
 use Rattle.std.specs.List.{prefix_len}
 use Rattle.std.proofs.lemmas.Bool.{false≢true, eqb-true, eqb-false}
 use Rattle.std.proofs.lemmas.Bool.Decides.{nat_tests, eqb_tells}
 use Rattle.std.proofs.lemmas.List.{take-append-drop, length-take-le, drop_more, drop_all}
 use Rattle.std.proofs.lemmas.List.Sums.{prefix_len_stops}
-use Rattle.c_lexer.specs.Class.{Text, is_in, past}
+use Rattle.c_lexer.specs.Class.{Text, is_in}
 use Rattle.c_lexer.specs.Tables.{punctuator}
 use Rattle.c_lexer.specs.Number.{goes_on, number_more}
 use Rattle.c_lexer.specs.Literal.{closing}
 use Rattle.c_lexer.specs.Directive.{directive}
-use Rattle.c_lexer.specs.Piece.{Piece, piece_at, other, closed, comment_end, directive_piece, marked, begins_number, punctuation}
-use Rattle.c_lexer.specs.Spelling.{AllIn, IsBody, Begins, opens}
+use Rattle.c_lexer.specs.Piece.{Piece, piece_at, other, closed, comment_end, directive_piece, marked, begins_number}
+use Rattle.c_lexer.specs.Spelling.{IsBody, Begins, opens}
 use Rattle.c_lexer.specs.declared.class.Class.{Class}
 use Rattle.c_lexer.specs.declared.class.Class.TheVariants as class
 use Rattle.c_lexer.specs.declared.directive.Directive.{Directive}

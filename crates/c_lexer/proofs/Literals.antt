@@ -1,5 +1,5 @@
 -- What is meant so far, and what the rest of a literal means.
-use Rattle.std.proofs.Common.{◌≡◌, ℕ, zero, suc, ◌+◌, ◌-◌, ◌≤◌, List, [], ◌∷◌, ◌++◌, drop, length, Option, Some, None, Result, Ok, Err, refl, ap, sym, ◌∙◌, append_assoc, arith}
+use Rattle.std.proofs.Common.{◌≡◌, ℕ, zero, suc, ◌+◌, ◌-◌, ◌≤◌, [], ◌∷◌, ◌++◌, drop, length, Some, None, Result, Ok, Err, refl, ap, sym, ◌∙◌, append_assoc, arith}
 use Rattle.c_lexer.specs.Class.{Text}
 use Rattle.c_lexer.specs.Literal.{unit, unescape, from_unit, before}
 use Rattle.c_lexer.specs.declared.fault.LexFault.{LexFault}

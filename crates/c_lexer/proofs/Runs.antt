@@ -1,12 +1,10 @@
 -- The longest run of a class, of a number and of a literal.
-use Rattle.std.proofs.Common.{◌≡◌, ℕ, zero, suc, ◌+◌, ◌-◌, ◌<◌, ◌≤◌, Bool, true, false, not, cond, ◌&&◌, ◌||◌, eqb, List, [], ◌∷◌, ◌++◌, length, take, drop, Option, Some, None, refl, ap, sym, subst, ◌∙◌, ◌⊎◌, inl, inr, arith}
+use Rattle.std.proofs.Common.{◌≡◌, ℕ, suc, ◌+◌, ◌≤◌, Bool, true, false, cond, eqb, [], ◌∷◌, ◌++◌, length, take, Some, refl, ap, ◌∙◌, arith}
 use Rattle.std.specs.List.{prefix_len}
-use Rattle.std.proofs.lemmas.Bool.{false≢true}
 use Rattle.c_lexer.specs.Class.{Text, is_in}
 use Rattle.c_lexer.specs.Number.{goes_on, number_more}
 use Rattle.c_lexer.specs.Literal.{closing}
-use Rattle.c_lexer.specs.Piece.{comment_end}
-use Rattle.c_lexer.specs.Spelling.{AllIn, GoesOn, IsBody, none, plain, escaped, IsUnclosed, ends_in_star}
+use Rattle.c_lexer.specs.Spelling.{AllIn, GoesOn, IsBody, none, plain, escaped}
 use Rattle.c_lexer.specs.declared.class.Class.{Class}
 
 -- ---- runs of a class

@@ -1,5 +1,5 @@
 -- Why nothing begins at a text.
-use Rattle.std.proofs.Common.{◌≡◌, ℕ, zero, suc, ◌+◌, ◌<◌, ◌≤◌, Bool, true, false, not, cond, ◌&&◌, ◌||◌, eqb, List, [], ◌∷◌, ◌++◌, length, take, drop, slice_index, Option, Some, None, refl, ap, sym, subst, ◌∙◌, arith}
+use Rattle.std.proofs.Common.{◌≡◌, ℕ, suc, ◌+◌, ◌<◌, Bool, true, false, cond, ◌&&◌, eqb, [], ◌∷◌, length, take, slice_index, Option, Some, None, refl, ap, sym, subst, ◌∙◌, arith}
 use Rattle.std.specs.List.{prefix_len}
 use Rattle.std.proofs.lemmas.Bool.{eqb-true}
 use Rattle.c_lexer.specs.Class.{Text, is_in}
@@ -17,7 +17,7 @@ use Rattle.c_lexer.specs.declared.piece.Lexeme.TheVariants as lexeme
 use Rattle.c_lexer.specs.declared.piece.Stray.{Stray}
 use Rattle.c_lexer.specs.declared.piece.Stray.TheVariants as stray
 use Rattle.c_lexer.specs.declared.token.Punctuator.{Punctuator}
-use Rattle.c_lexer.proofs.Fronts.{is_stray, shut_76, shut_47, shut_plain, other_plain}
+use Rattle.c_lexer.proofs.Fronts.{is_stray, shut_plain, other_plain}
 
 -- a piece that is none is so for this reason
 abbrev Reason : Bool → Text → Piece → Type 0

@@ -1,12 +1,12 @@
 -- A text has one division, and it is the one that is read.
-use Rattle.std.proofs.Common.{◌≡◌, ◌≢◌, ℕ, zero, suc, ◌+◌, ◌-◌, ◌<◌, ◌≤◌, Bool, true, false, List, [], ◌∷◌, ◌++◌, length, take, drop, Option, Some, None, Result, Ok, Err, refl, ap, sym, subst, ◌∙◌, ◌⊎◌, inl, inr, arith, length-append, length-drop}
+use Rattle.std.proofs.Common.{◌≡◌, ◌≢◌, ℕ, zero, suc, ◌+◌, ◌-◌, ◌<◌, ◌≤◌, Bool, true, false, List, [], ◌∷◌, length, take, drop, Ok, Err, refl, ap, sym, subst, ◌∙◌, inl, inr, arith, length-append, length-drop}
 use Rattle.std.specs.Result.{IfOk, IfErr}
 use Rattle.std.proofs.lemmas.List.{take_at, drop_at}
 use Rattle.c_lexer.specs.Class.{Text}
 use Rattle.c_lexer.specs.Piece.{Piece, piece_at}
 use Rattle.c_lexer.specs.Division.{Element, divide, fresh_after}
 use Rattle.c_lexer.specs.Places.{beginning, spot_after}
-use Rattle.c_lexer.specs.Meaning.{Meaning, meaning}
+use Rattle.c_lexer.specs.Meaning.{meaning}
 use Rattle.c_lexer.specs.Reading.{Reading, Spells, read, finished, followed_by, given, named_by, lexed}
 use Rattle.c_lexer.specs.Spelling.{Begins, IsLongest, Divides}
 use Rattle.c_lexer.specs.Fault.{Answers, Refused}

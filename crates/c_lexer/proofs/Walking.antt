@@ -1,12 +1,12 @@
 -- What a lexer has and what is left make the whole.
-use Rattle.std.proofs.Common.{◌≡◌, ℕ, ◌+◌, ◌-◌, ◌<◌, ◌≤◌, Bool, true, false, cond, nat_lt, List, [], ◌∷◌, ◌++◌, length, take, drop, reverse, Option, Some, None, Result, Ok, Err, refl, ap, sym, ◌∙◌, arith, append-nil, length-append}
+use Rattle.std.proofs.Common.{◌≡◌, ℕ, ◌+◌, ◌-◌, ◌<◌, ◌≤◌, false, cond, nat_lt, List, [], ◌∷◌, ◌++◌, length, take, drop, reverse, Option, Ok, Err, refl, ap, sym, ◌∙◌, arith, append-nil, length-append}
 use Rattle.std.proofs.lemmas.List.{nil_from_length}
 use Rattle.std.proofs.lemmas.Bool.{le-ltb, lt-ltb}
 use Rattle.c_lexer.specs.Class.{Text}
 use Rattle.c_lexer.specs.Piece.{piece_at}
 use Rattle.c_lexer.specs.Division.{Element, divide, fresh_after}
 use Rattle.c_lexer.specs.Fault.{Refused}
-use Rattle.c_lexer.specs.Meaning.{Meaning, meaning}
+use Rattle.c_lexer.specs.Meaning.{meaning}
 use Rattle.c_lexer.specs.Attributes.{Kept, keep}
 use Rattle.c_lexer.specs.Collected.{collected, joined, after_last}
 use Rattle.c_lexer.specs.Places.{spot_after, spot_in, moved}
@@ -16,7 +16,6 @@ use Rattle.c_lexer.specs.declared.attribute.Collected.{Collected}
 use Rattle.c_lexer.specs.declared.fault.LexFault.{LexFault}
 use Rattle.c_lexer.specs.declared.lexer.Lexer.{Lexer}
 use Rattle.c_lexer.specs.declared.piece.Lexeme.{Lexeme}
-use Rattle.c_lexer.specs.declared.token.Spot.{Spot}
 use Rattle.c_lexer.specs.declared.token.Token.{Token}
 use Rattle.c_lexer.specs.declared.token.TokenKind.{TokenKind}
 use Rattle.c_lexer.specs.declared.walk.Walk.{Walk}

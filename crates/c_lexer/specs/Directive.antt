@@ -1,5 +1,5 @@
 -- Directives (C99 6.10): line markers (6.10.4, and those of GNU C) and pragmas (6.10.6).
-use Rattle.std.specs.Prelude.{◌≡◌, ℕ, ◌+◌, ◌-◌, ◌*◌, ◌^◌, ◌<◌, ◌≤◌, Bool, true, false, not, ◌&&◌, ◌||◌, if◌then◌else◌, ◌==◌, nat_lt, List, [], ◌∷◌, length, drop, slice_index, slice_range, codes, Option, Some, None, ⊤}
+use Rattle.std.specs.Prelude.{ℕ, ◌+◌, ◌-◌, ◌*◌, ◌^◌, ◌<◌, ◌≤◌, Bool, false, not, ◌&&◌, ◌||◌, if◌then◌else◌, ◌==◌, nat_lt, length, drop, slice_index, slice_range, codes, Option, Some, None, ⊤}
 use Rattle.std.specs.Str.{bytes_eq, is_utf8}
 use Rattle.c_lexer.specs.Class.{Text, past}
 use Rattle.c_lexer.specs.Number.{value_of}

@@ -1,5 +1,5 @@
 -- The division of a source into pieces.
-use Rattle.std.specs.Prelude.{ℕ, zero, suc, ◌+◌, ◌-◌, Bool, true, false, List, [], ◌∷◌, take}
+use Rattle.std.specs.Prelude.{ℕ, zero, suc, ◌-◌, Bool, true, false, List, [], ◌∷◌, take}
 use Rattle.c_lexer.specs.Class.{Text}
 use Rattle.c_lexer.specs.Piece.{piece_at}
 use Rattle.c_lexer.specs.declared.piece.Lexeme.{Lexeme}

@@ -1,5 +1,5 @@
 -- Character constants and string literals (C99 6.4.4.4, 6.4.5).
-use Rattle.std.specs.Prelude.{ℕ, zero, suc, ◌+◌, ◌-◌, Bool, true, false, not, ◌&&◌, ◌||◌, if◌then◌else◌, ◌==◌, nat_lt, List, [], ◌∷◌, take, slice_index, slice_range, Option, Some, None, Result, Ok, Err}
+use Rattle.std.specs.Prelude.{ℕ, zero, suc, ◌+◌, ◌-◌, Bool, not, ◌&&◌, ◌||◌, if◌then◌else◌, ◌==◌, nat_lt, [], ◌∷◌, take, slice_index, slice_range, Option, Some, None, Result, Ok, Err}
 use Rattle.c_lexer.specs.Class.{Text, is_in, past}
 use Rattle.c_lexer.specs.Number.{value_of}
 use Rattle.c_lexer.specs.declared.class.Class.TheVariants as class

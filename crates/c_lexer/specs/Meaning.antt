@@ -1,5 +1,5 @@
 -- What the pieces of a source mean.
-use Rattle.std.specs.Prelude.{ℕ, ◌+◌, ◌-◌, if◌then◌else◌, ◌==◌, List, [], ◌∷◌, length, slice_range, Option, Some, None, Result, Ok, Err}
+use Rattle.std.specs.Prelude.{ℕ, ◌+◌, ◌-◌, [], ◌∷◌, length, slice_range, Option, Some, None, Result, Ok, Err}
 use Rattle.std.specs.Int.{cast_signed, w8}
 use Rattle.c_lexer.specs.Class.{Text}
 use Rattle.c_lexer.specs.Tables.{reserved}

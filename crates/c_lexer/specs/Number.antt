@@ -1,6 +1,5 @@
 -- Numeric constants (C99 6.4.4, 6.4.8).
-use Rattle.std.specs.Prelude.{ℕ, ◌+◌, ◌-◌, ◌*◌, ◌^◌, Bool, true, false, not, ◌&&◌, ◌||◌, if◌then◌else◌, ◌==◌, nat_le, nat_lt, List, [], ◌∷◌, take, drop, length, fold, slice_index, slice_range, Option, Some, None, Result, Ok, Err}
-use Rattle.std.specs.Char.{is_ascii_digit}
+use Rattle.std.specs.Prelude.{ℕ, ◌+◌, ◌-◌, ◌*◌, ◌^◌, Bool, true, false, not, ◌&&◌, ◌||◌, if◌then◌else◌, ◌==◌, nat_le, nat_lt, List, [], ◌∷◌, drop, length, fold, slice_index, slice_range, Option, Some, None, Result, Ok, Err}
 use Rattle.c_lexer.specs.Class.{Text, is_in, past}
 use Rattle.c_lexer.specs.Tables.{suffix}
 use Rattle.c_lexer.specs.declared.class.Class.{Class}

@@ -1,5 +1,5 @@
 -- What each kind of piece is spelled by (C99 6.4), and the division of a source into pieces, each the longest that begins at its place.
-use Rattle.std.specs.Prelude.{◌≡◌, ◌≢◌, ℕ, ◌<◌, ◌≤◌, Bool, true, false, ◌&&◌, ◌||◌, ◌==◌, ◌⊎◌, List, [], ◌∷◌, ◌++◌, length, map, slice_index, Option, Some, None, IsSome, if◌then◌else◌, ⊤}
+use Rattle.std.specs.Prelude.{◌≡◌, ◌≢◌, ℕ, ◌≤◌, Bool, true, false, ◌&&◌, ◌||◌, ◌==◌, ◌⊎◌, List, [], ◌∷◌, ◌++◌, length, map, slice_index, Some, IsSome, if◌then◌else◌, ⊤}
 use Rattle.c_lexer.specs.Class.{Text, is_in}
 use Rattle.c_lexer.specs.Number.{goes_on}
 use Rattle.c_lexer.specs.Directive.{directive}

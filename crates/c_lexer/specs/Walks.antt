@@ -1,5 +1,5 @@
 -- A walk over a source.
-use Rattle.std.specs.Prelude.{◌≡◌, ℕ, ◌+◌, ◌-◌, ◌*◌, ◌^◌, ◌<◌, ◌≤◌, List, ◌++◌, length, take, drop, Ok, Err}
+use Rattle.std.specs.Prelude.{◌≡◌, ℕ, ◌+◌, ◌-◌, ◌*◌, ◌^◌, ◌≤◌, List, ◌++◌, length, take, drop, Ok, Err}
 use Rattle.c_lexer.specs.Class.{Text}
 use Rattle.c_lexer.specs.Piece.{piece_at}
 use Rattle.c_lexer.specs.Division.{fresh_after, divide}

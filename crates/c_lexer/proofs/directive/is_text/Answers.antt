@@ -1,7 +1,7 @@
 use Rattle.std.proofs.Common.{sym}
 use Rattle.std.specs.Str.{is_utf8}
 use Rattle.std.proofs.lemmas.Str.{is_utf8-from_IsUtf8, IsUtf8-from_is_utf8}
-use Rattle.c_lexer.proofs.Tests.{false_of}
+use Rattle.c_lexer.proofs.Booleans.{false_of}
 use Rattle.c_lexer.proofs.directive.is_text.Goals as goal
 
 pub returns-in-Ok : goal.returns-in-Ok

@@ -1,6 +1,5 @@
 use Rattle.std.proofs.Common.{◌≡◌, length, Ok, sym, ap, arith, ◌∙◌}
 use Rattle.std.proofs.lemmas.Bool.Decides.{nat_tests}
-use Rattle.c_lexer.specs.Reading.{Reading}
 use Rattle.c_lexer.proofs.Walking.{at_last}
 use Rattle.c_lexer.proofs.lexer.tokens_of.Goals as goal
 

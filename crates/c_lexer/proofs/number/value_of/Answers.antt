@@ -1,5 +1,4 @@
-use Rattle.std.proofs.Common.{◌≡◌, ◌≤◌, ◌+◌, ◌*◌, get_or, arith}
-use Rattle.c_lexer.specs.Number.{digit_of}
+use Rattle.std.proofs.Common.{arith}
 use Rattle.c_lexer.proofs.Values.{one_more}
 use Rattle.c_lexer.proofs.number.value_of.Goals as goal
 

@@ -1,4 +1,4 @@
-use Rattle.std.proofs.Common.{◌≡◌, ◌++◌, ◌∷◌, [], ap, ◌∙◌}
+use Rattle.std.proofs.Common.{◌++◌, ◌∷◌, [], ap, ◌∙◌}
 use Rattle.c_lexer.specs.Attributes.{keep}
 use Rattle.c_lexer.proofs.Attributes.{open_kept, open_nested}
 use Rattle.c_lexer.proofs.attribute.Collected.open_group.Goals as goal

@@ -1,4 +1,4 @@
-use Rattle.std.proofs.Common.{sym, ◌∙◌}
+use Rattle.std.proofs.Common.{sym}
 use Rattle.c_lexer.specs.Attributes.{keep}
 use Rattle.c_lexer.proofs.Attributes.{other_kept, word_kept, still_nested, word_nested}
 use Rattle.c_lexer.proofs.attribute.Collected.push.Goals as goal

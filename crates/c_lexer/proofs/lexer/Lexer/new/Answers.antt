@@ -1,9 +1,8 @@
-use Rattle.std.proofs.Common.{◌≡◌, [], ◌∷◌, ◌++◌, length, ◌-◌, true, ap, sym, ◌∙◌}
-use Rattle.c_lexer.specs.Class.{Text}
+use Rattle.std.proofs.Common.{◌≡◌, [], ◌∷◌, ◌++◌, length, ◌-◌, true, ap, ◌∙◌}
 use Rattle.c_lexer.specs.Division.{divide}
 use Rattle.c_lexer.specs.Places.{beginning}
 use Rattle.c_lexer.specs.Reading.{read, lexed}
-use Rattle.c_lexer.specs.Walks.{completed, whole, spot_of}
+use Rattle.c_lexer.specs.Walks.{completed, spot_of}
 use Rattle.c_lexer.proofs.Walking.{at_first}
 use Rattle.c_lexer.proofs.lexer.Lexer.new.Goals as goal
 

@@ -1,4 +1,4 @@
-use Rattle.std.proofs.Common.{◌+◌, ◌-◌, ◌*◌, ◌^◌, length, take, drop, arith, length-drop, length-take}
+use Rattle.std.proofs.Common.{◌+◌, ◌-◌, ◌*◌, ◌^◌, length, drop, arith, length-drop, length-take}
 use Rattle.c_lexer.proofs.walk.Walk.step.Goals as goal
 
 pub returns-clause-small : goal.returns-clause-small
