@@ -1,6 +1,5 @@
 -- The first fault of a list of steps, step by step, and what no fault means.
-use Rattle.std.proofs.Common.{◌≡◌, ◌<◌, ◌≤◌, ◌+◌, ◌-◌, ◌++◌, ◌∷◌, [], ℕ, zero, suc, List, Some, None, Ok, Err, Option, Result, Bool, true, false, map, take, drop, length, get_or, arith, refl, sym, ap, ◌∙◌, append_assoc, length-append, eqb, add-one}
-use Rattle.std.specs.Prelude.{⊤, ◌↔◌}
+use Rattle.std.proofs.Common.{◌≡◌, ◌<◌, ◌+◌, ◌++◌, ◌∷◌, [], ℕ, zero, suc, List, Some, None, Ok, Option, Bool, true, false, map, take, drop, length, get_or, arith, refl, sym, ap, ◌∙◌, append_assoc, eqb, add-one}
 use Rattle.std.specs.List.{slice_get}
 use Rattle.std.proofs.lemmas.Bool.{eqb-true, false_from_ne_true}
 use Rattle.std.proofs.lemmas.List.{map-append}
@@ -11,7 +10,7 @@ use Rattle.proof_check.specs.declared.propagation.Outcome.{Outcome}
 use Rattle.proof_check.specs.declared.propagation.Outcome.TheVariants.{Conflict, BadHint, NoConflict}
 use Rattle.proof_check.specs.declared.fault.StepFault.{StepFault}
 use Rattle.proof_check.specs.Steps.{Step, clause_of}
-use Rattle.proof_check.specs.Refutations.{outcome_of, IsValid, AreValid, is_empty, ends_empty, IsRefutation, fault_at, or_else, first_fault, verdict, checked}
+use Rattle.proof_check.specs.Refutations.{outcome_of, AreValid, is_empty, ends_empty, IsRefutation, fault_at, or_else, first_fault, verdict, checked}
 
 abbrev no_step : Step
 no_step = record { clause = []; hints = [] }

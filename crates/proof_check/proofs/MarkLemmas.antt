@@ -1,9 +1,9 @@
 -- A stamp that is written marks one literal more.
-use Rattle.std.proofs.Common.{◌≡◌, ◌<◌, ℕ, zero, suc, List, [], ◌∷◌, Some, Bool, true, false, not, cond, ◌&&◌, ◌||◌, eqb, length, refl, sym, ap, ◌∙◌, arith, inl, inr, set, get_or}
+use Rattle.std.proofs.Common.{◌≡◌, ◌<◌, ℕ, zero, suc, List, [], ◌∷◌, Some, Bool, true, false, cond, ◌||◌, eqb, length, refl, sym, ap, ◌∙◌, arith, inl, inr, set, get_or}
 use Rattle.std.specs.List.{slice_get}
 use Rattle.std.proofs.lemmas.Bool.{eqb-true, eq-eqb, false_from_ne_true, cases_eq}
 use mathlib.Core.Bool.{beq}
-use Rattle.cnf_core.specs.Literal.{Literal, same}
+use Rattle.cnf_core.specs.Literal.{Literal}
 use Rattle.proof_check.specs.Propagation.{taking}
 use Rattle.proof_check.specs.Places.{place_of}
 use Rattle.proof_check.specs.Marked.{stamped}

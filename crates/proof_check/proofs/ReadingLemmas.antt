@@ -1,11 +1,11 @@
 -- What the loop over a clause has found of its literals that aren't false.
-use Rattle.std.proofs.Common.{◌≡◌, ◌++◌, ◌∷◌, [], ℕ, ◌+◌, ◌≤◌, take_all, suc, List, Option, Some, None, Bool, true, false, not, refl, sym, ap, ◌∙◌, ◌<◌, eqb, take, drop, length, get_or, append-nil, cond, subst}
+use Rattle.std.proofs.Common.{◌≡◌, ◌++◌, ◌∷◌, [], ℕ, ◌+◌, ◌≤◌, take_all, suc, List, Option, Some, None, Bool, true, false, not, refl, sym, ap, ◌∙◌, ◌<◌, take, drop, length, get_or, append-nil, cond, subst}
 use Rattle.std.specs.Prelude.{Contains}
 use Rattle.std.specs.List.{list_all, filter}
 use Rattle.std.proofs.lemmas.List.{take-append-drop}
 use Rattle.std.proofs.lemmas.List.Elements.{filter_more, filter-append}
 use Rattle.std.proofs.lemmas.List.Folds.{list_all-append}
-use Rattle.std.proofs.lemmas.Bool.{eqb-true, and_parts, and_right, eq-eqb, false_from_ne_true, both_ways, not-true, not-false}
+use Rattle.std.proofs.lemmas.Bool.{and_right, false_from_ne_true, both_ways, not-true, not-false}
 use Rattle.std.proofs.Math.Seq.{drop-cons}
 use Rattle.cnf_core.specs.Literal.{Literal, negated, same}
 use Rattle.cnf_core.specs.Equality.{same-self, same-true}

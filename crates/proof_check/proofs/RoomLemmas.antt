@@ -1,14 +1,13 @@
 -- A room that has each variable covers each clause.
-use Rattle.std.proofs.Common.{◌≡◌, ◌<◌, ◌++◌, ◌∷◌, [], ℕ, List, Some, map, take, drop, length, get_or, arith, refl, sym, ap, ◌∙◌, subst}
+use Rattle.std.proofs.Common.{◌≡◌, ◌++◌, ◌∷◌, [], ℕ, List, Some, map, take, length, get_or, arith, refl, ap, ◌∙◌, subst}
 use Rattle.std.specs.Prelude.{Contains}
 use Rattle.std.specs.List.{All, flat_map, slice_get, take-map}
 use Rattle.std.proofs.lemmas.List.{length-map, get_or-map}
-use Rattle.std.proofs.lemmas.List.Elements.{All-nil, All-cons, All-take, All-drop, All-append, All-weaker, All-map, All-contains_itself, Contains-append_left, Contains-append_right}
+use Rattle.std.proofs.lemmas.List.Elements.{All-nil, All-cons, All-take, All-drop, All-append, All-weaker, All-contains_itself, Contains-append_left, Contains-append_right}
 use Rattle.std.proofs.lemmas.Option.{slice_get-map}
 use Rattle.std.specs.Option.{option_map}
 use Rattle.std.proofs.Math.Seq.{take-append_seam, drop-append_seam}
 use Rattle.cnf_core.specs.Literal.{Literal}
-use Rattle.cnf_core.specs.Truth.{clause_at}
 use Rattle.proof_check.specs.Steps.{Step, clause_of}
 use Rattle.proof_check.specs.Room.{Within, AllWithin, Covers, Occurs, variables_of}
 use Rattle.proof_check.proofs.StepLemmas.{member-within}

@@ -1,5 +1,5 @@
 -- A refutation that is accepted leaves no valuation that makes each clause hold.
-use Rattle.std.proofs.Common.{◌≡◌, ◌++◌, ◌∷◌, [], ℕ, ◌+◌, zero, suc, List, Some, None, Ok, Err, Result, Bool, true, false, not, cond, ◌&&◌, refl, sym, ap, ◌∙◌, inl, inr}
+use Rattle.std.proofs.Common.{◌≡◌, ◌++◌, ◌∷◌, [], ℕ, zero, suc, List, Some, None, Ok, Err, Result, Bool, true, false, not, cond, ◌&&◌, refl, sym, ap, ◌∙◌, inl, inr}
 use Rattle.std.specs.Prelude.{⊤, OnOk}
 use Rattle.std.specs.List.{list_any, list_all, filter, slice_get}
 use Rattle.std.proofs.lemmas.Bool.{or_cases, or_parts, or_right, and_parts, cases_Bool, both_ways}
@@ -9,7 +9,7 @@ use Rattle.cnf_core.specs.Equality.{same-true}
 use Rattle.cnf_core.specs.Truth.{Valuation, literal_holds, clause_holds, formula_holds, Unsatisfiable, clause_at}
 use Rattle.proof_check.specs.declared.propagation.Reading.{Reading}
 use Rattle.proof_check.specs.declared.propagation.Reading.TheVariants.{Falsified, Implied, Neither}
-use Rattle.proof_check.specs.declared.propagation.Outcome.TheVariants.{Conflict, BadHint, NoConflict}
+use Rattle.proof_check.specs.declared.propagation.Outcome.TheVariants.{Conflict}
 use Rattle.proof_check.specs.Steps.{Step}
 use Rattle.proof_check.specs.Propagation.{Known, taking, negations, isnt_false, reading_of, reading, after, if_found, propagated}
 use Rattle.proof_check.specs.Refutations.{IsValid, AreValid, IsRefutation, is_empty, ends_empty, checked}

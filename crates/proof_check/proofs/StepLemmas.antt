@@ -1,15 +1,13 @@
 -- The loops of a check.
-use Rattle.std.proofs.Common.{◌≡◌, ◌++◌, ◌∷◌, [], ℕ, ◌+◌, ◌<◌, ◌≤◌, suc, zero, subst, List, Some, None, Ok, Err, Option, Result, Bool, true, false, ◌||◌, ◌&&◌, not, cond, refl, sym, ap, ◌∙◌, take, drop, length, get_or, map, arith, inl, inr}
-use Rattle.std.specs.Prelude.{⊤, Contains}
-use Rattle.std.specs.List.{list_all, filter, All, slice_get}
-use Rattle.std.proofs.lemmas.List.{drop_all}
-use Rattle.std.proofs.lemmas.List.Elements.{All-filter, All-head, All-append, All-map, All-take}
+use Rattle.std.proofs.Common.{◌≡◌, ◌∷◌, [], ℕ, ◌+◌, ◌<◌, suc, zero, subst, List, Some, Bool, true, false, ◌||◌, ◌&&◌, not, cond, refl, sym, ap, ◌∙◌, take, length, get_or}
+use Rattle.std.specs.Prelude.{Contains}
+use Rattle.std.specs.List.{list_all, filter, slice_get}
+use Rattle.std.proofs.lemmas.List.Elements.{All-filter, All-head}
 use Rattle.std.proofs.lemmas.List.Folds.{list_any_more}
 use Rattle.std.proofs.lemmas.Option.{slice_get_within, get_or_from_slice_get}
 use Rattle.cnf_core.specs.Literal.{Literal, negated, same}
 use Rattle.cnf_core.specs.Truth.{clause_at}
 use Rattle.proof_check.specs.declared.propagation.Reading.TheVariants.{Implied, Neither}
-use Rattle.proof_check.specs.Steps.{Step, clause_of}
 use Rattle.proof_check.specs.Propagation.{Known, taking, negations, isnt_false, reading, reading_of}
 use Rattle.proof_check.specs.Room.{Within, AllWithin}
 

@@ -1,8 +1,8 @@
 -- Steps as two lists of one length: their clauses and their hints.
-use Rattle.std.proofs.Common.{◌≡◌, ◌<◌, ◌++◌, ◌∷◌, [], ℕ, zero, suc, List, Some, map, length, take, refl, ap, ◌∙◌, arith}
+use Rattle.std.proofs.Common.{◌≡◌, ◌++◌, ◌∷◌, [], ℕ, zero, suc, List, Some, map, length, take, refl, ap, arith}
 use Rattle.std.specs.List.{slice_get}
 use Rattle.cnf_core.specs.Literal.{Literal}
-use Rattle.proof_check.specs.Steps.{Step, clause_of, steps_of}
+use Rattle.proof_check.specs.Steps.{clause_of, steps_of}
 
 pub length-steps_of : (clauses : List (List Literal)) (hints : List (List ℕ)) → length clauses ≡ length hints → length (steps_of clauses hints) ≡ length clauses
 length-steps_of [] hints e = refl

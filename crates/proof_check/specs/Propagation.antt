@@ -1,5 +1,5 @@
 -- Unit propagation along hints.
-use Rattle.std.specs.Prelude.{ℕ, Bool, true, false, cond, not, ◌&&◌, ◌||◌, List, [], ◌∷◌, Option, Some, None, filter}
+use Rattle.std.specs.Prelude.{ℕ, Bool, false, cond, not, ◌&&◌, ◌||◌, List, [], ◌∷◌, Option, Some, None, filter}
 use Rattle.std.specs.List.{list_any, list_all}
 use Rattle.cnf_core.specs.Literal.{Literal, negated, same}
 use Rattle.cnf_core.specs.Truth.{clause_at}

@@ -1,5 +1,5 @@
 -- Steps of a proof.
-use Rattle.std.specs.Prelude.{ℕ, Bool, true, false, List, [], ◌∷◌}
+use Rattle.std.specs.Prelude.{ℕ, List, [], ◌∷◌}
 use Rattle.cnf_core.specs.Literal.{Literal}
 
 -- a clause, and the numbers of the clauses from which it follows

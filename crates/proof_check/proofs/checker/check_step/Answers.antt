@@ -1,4 +1,4 @@
-use Rattle.std.proofs.Common.{◌≡◌, sym, ap, ◌∙◌, subst}
+use Rattle.std.proofs.Common.{sym, ap, subst}
 use Rattle.proof_check.specs.Steps.{clause_of}
 use Rattle.proof_check.specs.Room.{Within}
 use Rattle.proof_check.proofs.RoomLemmas.{covers-step}

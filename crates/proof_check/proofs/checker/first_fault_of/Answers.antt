@@ -1,6 +1,4 @@
-use Rattle.std.proofs.Common.{arith, ◌∙◌, sym, ap, ◌≡◌, ◌++◌, ◌+◌, map, take, drop}
-use Rattle.proof_check.specs.Steps.{clause_of}
-use Rattle.proof_check.specs.Refutations.{first_fault, or_else, fault_at}
+use Rattle.std.proofs.Common.{arith, ◌∙◌, sym}
 use Rattle.proof_check.proofs.FaultLemmas.{fault-step}
 use Rattle.proof_check.proofs.checker.first_fault_of.Goals as goal
 

@@ -1,4 +1,4 @@
-use Rattle.std.proofs.Common.{◌≡◌, ◌+◌, ◌-◌, ◌<◌, arith, sym, ap, ◌∙◌, Some, length}
+use Rattle.std.proofs.Common.{◌-◌, arith, sym, ap, ◌∙◌, Some}
 use Rattle.proof_check.specs.Steps.{clause_of}
 use Rattle.proof_check.proofs.ClauseLemmas.{clause_at-step, clause_at-past}
 use Rattle.proof_check.proofs.checker.numbered.Goals as goal

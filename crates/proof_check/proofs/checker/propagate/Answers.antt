@@ -1,4 +1,4 @@
-use Rattle.std.proofs.Common.{◌≡◌, Some, sym, ap, ◌∙◌, ◌++◌, map, take}
+use Rattle.std.proofs.Common.{sym, ap, ◌∙◌, ◌++◌, map, take}
 use Rattle.std.specs.Option.{option_copied}
 use Rattle.proof_check.specs.Marked.{marked}
 use Rattle.proof_check.specs.Steps.{clause_of}

@@ -1,5 +1,5 @@
-use Rattle.std.proofs.Common.{◌≡◌, Ok, sym, ap, ◌∙◌}
-use Rattle.proof_check.specs.Refutations.{checked, verdict, ends_empty, first_fault}
+use Rattle.std.proofs.Common.{◌≡◌, sym, ◌∙◌}
+use Rattle.proof_check.specs.Refutations.{checked}
 use Rattle.proof_check.proofs.FaultLemmas.{checked-refutation, refutation-checked}
 use Rattle.proof_check.proofs.Soundness.{checked-sound}
 use Rattle.proof_check.proofs.checker.Checker.check.Goals as goal

@@ -1,4 +1,4 @@
-use Rattle.std.proofs.Common.{◌≡◌, ◌<◌, arith, ap, sym, ◌∙◌, length}
+use Rattle.std.proofs.Common.{arith, ap, sym, ◌∙◌, length}
 use Rattle.std.specs.List.{slice_get}
 use Rattle.proof_check.proofs.StepLists.{length-steps_of, step-at}
 use Rattle.proof_check.proofs.steps.Steps.step.Goals as goal
