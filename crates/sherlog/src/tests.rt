@@ -469,8 +469,19 @@ fn reports(rt: HostRuntime) -> Result<(), Fail> {
     Ok(())
 }
 
-/// The report's lines on twelve choices on which nothing depends. World 1 takes all of them, and each further
-/// one all but one.
+/// World 1 takes all of twelve choices, and each further one all but one.
+fn free_world(alloc: Global, world: u32) -> Result<String, Fail> {
+    let mut lines = format!(in alloc; "world {world}\n")?;
+    for k in 0..12u32 {
+        let place = 4 * k + 4;
+        if k + 2 != world {
+            lines.push_str(format!(in alloc; "w {place} 1\n")?.as_str())?;
+        }
+    }
+    Ok(lines)
+}
+
+/// The report's lines on twelve choices on which nothing depends.
 fn twelve_free_choices(alloc: Global) -> Result<String, Fail> {
     let mut lines = String::from_str(
         alloc,
@@ -488,11 +499,7 @@ fn twelve_free_choices(alloc: Global) -> Result<String, Fail> {
     lines.push_str("fact 37 must return\n")?;
     lines.push_str("total must 13 mustnot 0 may 24 unknown 0 values must 0 may 0 unknown 0\n")?;
     for world in 1..14u32 {
-        lines.push_str(format!(in alloc; "world {world}\n")?.as_str())?;
-        for k in (0..12u32).filter(|k| *k + 2 != world) {
-            let place = 4 * k + 4;
-            lines.push_str(format!(in alloc; "w {place} 1\n")?.as_str())?;
-        }
+        lines.push_str(free_world(alloc, world)?.as_str())?;
     }
     lines.push_str("end\n")?;
     Ok(lines)
