@@ -2,6 +2,7 @@
 use Rattle.std.proofs.Common.{◌≡◌, ℕ, zero, suc, ◌+◌, ◌==◌, ◌<◌, ◌≤◌, Bool, true, false, cond, List, [], ◌∷◌, ◌++◌, length, take, drop, Option, Some, None, length-drop, append_assoc, append-nil, refl, sym, ap, ◌∙◌, arith}
 use Rattle.std.specs.List.{flat_map}
 use Rattle.std.proofs.lemmas.List.{length-append, length-take}
+use Rattle.std.proofs.lemmas.Bool.Decides.{nat_tests}
 use Rattle.regex.specs.Patterns.{Re, Match, find}
 use Rattle.log_text.specs.Lines.{byte_before, lines_of, line_len}
 use Rattle.log_text.specs.Stripping.{unmatched, without, stripped_line, stripped}
@@ -50,3 +51,13 @@ stripped-none drops (b ∷ bytes) = by (b == 10) (stripped-none drops bytes)
     by : (t : Bool) → stripped None drops bytes ≡ bytes → flat_map (stripped_line None drops) (cond t ((b ∷ []) ∷ lines_of bytes) (byte_before b (lines_of bytes))) ≡ b ∷ bytes
     by true ih = ap (λ r. b ∷ r) ih
     by false ih = before (lines_of bytes) ∙ ap (λ r. b ∷ r) ih
+
+pub stripped-of_none : (pattern : Option Re) (drops : Bool) (log bytes : List ℕ) → pattern ≡ None → bytes ≡ log → bytes ≡ stripped pattern drops log
+stripped-of_none pattern drops log bytes none e = e ∙ sym (stripped-none drops log) ∙ ap (λ p. stripped p drops log) (sym none)
+
+-- the test that no byte is left
+pub some_left : (n : ℕ) (b : Bool) → b ≡ (n == 0) → b ≡ false → 0 < n
+some_left n b e h = grind (arith, nat_tests)
+
+pub none_left : (n : ℕ) (b : Bool) → b ≡ (n == 0) → b ≡ true → n ≡ 0
+none_left n b e h = grind (arith, nat_tests)

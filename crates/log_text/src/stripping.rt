@@ -85,3 +85,6 @@ fn without_prefixes(
     }
     Ok(bytes)
 }
+
+#[cfg(test)]
+mod tests;
