@@ -1,12 +1,13 @@
 //! Rows of the facts and of the report, worked out by hand.
 use crate::diagnose::read_source;
 use crate::facts::facts_of;
-use crate::lines::{LogLines, line_count};
+use crate::lines::LogLines;
 use crate::report::report;
 use crate::shown::shown;
 use crate::verdict::{Diagnosis, Findings, Verdict};
 use bit_words::{Bytes, Event, Fact, Finish, Happening, Numbers, Run, Side, World};
 use plain_data::Items;
+use std::alloc::Global;
 use std::test::Fail;
 
 const SOURCE: &[u8] = b"int printf(const char *, ...);
@@ -46,47 +47,67 @@ execution none within bounds
 end
 ";
 
-#[test]
-fn lines_of_a_log(rt: HostRuntime) -> Result<(), Fail> {
-    let alloc = rt.alloc();
-    let lines = LogLines::new(alloc, b"ab\nabab\n\nc")?;
-    let found: Vec<u32> = vec![in alloc;
-        lines.line(0),
-        lines.line(2),
-        lines.line(3),
-        lines.line(8),
-        lines.line(9),
-        lines.line(10),
-        lines.line(99),
-    ]?;
-    assert_eq!(rt; found.as_slice(), [1, 1, 2, 3, 4, 5, 5].as_slice());
-    assert_eq!(rt; lines.line_count(), 4);
-    assert_eq!(rt;
-        lines.lines_with(alloc, b"ab")?.as_slice(),
-        [1, 2].as_slice()
-    );
-    assert_eq!(rt;
-        lines.lines_with(alloc, b"\n\nc")?.as_slice(),
-        [2].as_slice()
-    );
-    assert!(rt; lines.lines_with(alloc, b"")?.is_empty());
-    assert!(rt; lines.lines_with(alloc, b"cd")?.is_empty());
-    assert_eq!(rt; line_count(b""), 0);
-    assert_eq!(rt; line_count(b"\n\n"), 2);
-    assert_eq!(rt; lines.log().len(), 10);
-    Ok(())
+const LOG: &[u8] = b"ab\nabab\n\nc";
+
+fn line_at(alloc: Global, log: &[u8], position: usize) -> Result<u32, Fail> {
+    let lines = LogLines::new(alloc, log)?;
+    Ok(lines.line(position))
 }
 
 #[test]
-fn the_report_of_a_choice(rt: HostRuntime) -> Result<(), Fail> {
+fn lines_of_positions(rt: HostRuntime) -> Result<(), Fail> {
     let alloc = rt.alloc();
-    let log = b"hi\nhi".as_slice();
-    let unit = read_source(alloc, "p.c", SOURCE)?;
+    let rows = [(0, 1), (2, 1), (3, 2), (8, 3), (9, 4), (10, 5), (99, 5)];
+    for (position, line) in rows {
+        assert_eq!(rt; line_at(alloc, LOG, position)?, line);
+    }
+    Ok(())
+}
+
+fn count_of(alloc: Global, log: &[u8]) -> Result<u32, Fail> {
     let lines = LogLines::new(alloc, log)?;
-    let facts = facts_of(alloc, unit.body.as_slice(), &lines)?;
+    Ok(lines.line_count())
+}
+
+#[test]
+fn counts_of_lines(rt: HostRuntime) -> Result<(), Fail> {
+    let alloc = rt.alloc();
+    let rows = [(LOG, 4), (b"".as_slice(), 0), (b"\n\n".as_slice(), 2)];
+    for (log, count) in rows {
+        assert_eq!(rt; count_of(alloc, log)?, count);
+    }
+    Ok(())
+}
+
+fn lines_with(alloc: Global, log: &[u8], text: &[u8]) -> Result<Items<u32>, Fail> {
+    let lines = LogLines::new(alloc, log)?;
+    Ok(lines.lines_with(alloc, text)?)
+}
+
+#[test]
+fn lines_that_hold_a_text(rt: HostRuntime) -> Result<(), Fail> {
+    let alloc = rt.alloc();
+    let rows = [
+        (b"ab".as_slice(), [1u32, 2].as_slice()),
+        (b"\n\nc".as_slice(), [2].as_slice()),
+        (b"".as_slice(), [].as_slice()),
+        (b"cd".as_slice(), [].as_slice()),
+    ];
+    for (text, lines) in rows {
+        assert_eq!(rt; lines_with(alloc, LOG, text)?.as_slice(), lines);
+    }
+    Ok(())
+}
+
+fn two_worlds(alloc: Global) -> Result<Items<World>, Fail> {
     let mut world = World::new(alloc);
     world.set_word(7, 1)?;
     world.set_byte(5, 77)?;
+    let worlds = vec![in alloc; world, World::new(alloc)]?;
+    Ok(Items::from_vec(worlds))
+}
+
+fn nine_verdicts(alloc: Global) -> Result<Items<Verdict>, Fail> {
     let must = Verdict::Must;
     let mustnot = Verdict::MustNot;
     let one = Verdict::May {
@@ -98,21 +119,31 @@ fn the_report_of_a_choice(rt: HostRuntime) -> Result<(), Fail> {
         lacking: 1,
     };
     let verdicts = vec![in alloc; one, other, must, mustnot, mustnot, must, must, must, must]?;
-    let worlds = vec![in alloc; world, World::new(alloc)]?;
+    Ok(Items::from_vec(verdicts))
+}
+
+fn report_of(alloc: Global, diagnosis: &Diagnosis) -> Result<Bytes, Fail> {
+    let log = b"hi\nhi".as_slice();
+    let unit = read_source(alloc, "p.c", SOURCE)?;
+    let lines = LogLines::new(alloc, log)?;
+    let facts = facts_of(alloc, unit.body.as_slice(), &lines)?;
+    Ok(report(alloc, &unit, log, facts.as_slice(), diagnosis)?)
+}
+
+#[test]
+fn the_report_of_a_choice(rt: HostRuntime) -> Result<(), Fail> {
+    let alloc = rt.alloc();
     let findings = Findings {
-        worlds: Items::from_vec(worlds),
-        verdicts: Items::from_vec(verdicts),
+        worlds: two_worlds(alloc)?,
+        verdicts: nine_verdicts(alloc)?,
     };
-    let found = report(
-        alloc,
-        &unit,
-        log,
-        facts.as_slice(),
-        &Diagnosis::Found(findings),
-    )?;
-    assert_eq!(rt; found.as_slice(), FOUND);
-    let none = report(alloc, &unit, log, facts.as_slice(), &Diagnosis::Nothing)?;
-    assert_eq!(rt; none.as_slice(), NONE);
+    let rows = [
+        (Diagnosis::Found(findings), FOUND),
+        (Diagnosis::Nothing, NONE),
+    ];
+    for (diagnosis, text) in rows {
+        assert_eq!(rt; report_of(alloc, &diagnosis)?.as_slice(), text);
+    }
     Ok(())
 }
 
