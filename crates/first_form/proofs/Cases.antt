@@ -1,13 +1,13 @@
 -- The meaning of each kind of statement, and induction over statements.
 use Rattle.std.proofs.Common.{◌≡◌, ℕ, ℤ, List, [], ◌∷◌, Option, Some, None, sym, ap, ◌∙◌, subst}
 use Rattle.std.specs.Prelude.{map, IfSome}
-use Rattle.c_tree.specs.declared.tree.Stmt.{Stmt, fold-roll-Stmt, ind-Stmt, roll-Stmt, map-Stmt}
-use Rattle.c_tree.specs.declared.tree.Stmt.TheBlock.{the_family, member-Stmt}
-use Rattle.c_tree.specs.declared.tree.Stmt.TheFolds.{claims}
+use Rattle.first_form.specs.declared.tree.Stmt.{Stmt, fold-roll-Stmt, ind-Stmt, roll-Stmt, map-Stmt}
+use Rattle.first_form.specs.declared.tree.Stmt.TheBlock.{the_family, member-Stmt}
+use Rattle.first_form.specs.declared.tree.Stmt.TheFolds.{claims}
 use denote.Hole.Holds.{Such}
-use Rattle.c_tree.specs.declared.tree.Stmt.TheOpen as open_
-use Rattle.c_tree.specs.declared.tree.Stmt.TheVariants as stmt
-use Rattle.c_tree.specs.declared.tree.Stmt.TheVariants.{rolls-Block, rolls-If, rolls-Print, rolls-Return, rolls-Empty}
+use Rattle.first_form.specs.declared.tree.Stmt.TheOpen as open_
+use Rattle.first_form.specs.declared.tree.Stmt.TheVariants as stmt
+use Rattle.first_form.specs.declared.tree.Stmt.TheVariants.{rolls-Block, rolls-If, rolls-Print, rolls-Return, rolls-Empty}
 use Rattle.first_form.specs.Meaning.{Meaning, meaning, meaning_step, rooms, all_literals}
 
 pub meaning-empty : meaning stmt.Empty ≡ meaning_step open_.Empty

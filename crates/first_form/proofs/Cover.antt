@@ -3,7 +3,7 @@ use Rattle.std.proofs.Common.{◌≡◌, ◌≢◌, ◌<◌, ◌≤◌, ◌+◌,
 use Rattle.std.specs.Prelude.{map, ◌==◌, ◌||◌, if◌then◌else◌, is_some}
 use Rattle.std.specs.List.{list_any}
 use Rattle.std.proofs.lemmas.Bool.Decides.{nat_tests}
-use Rattle.c_tree.specs.declared.tree.Stmt.{Stmt}
+use Rattle.first_form.specs.declared.tree.Stmt.{Stmt}
 use Rattle.first_form.specs.Among.{Among}
 use Rattle.first_form.specs.Form.{Program}
 use Rattle.first_form.specs.Meaning.{Answers, Meaning, Paths, meaning, running, in_turn, rooms, all_literals, nothing, choice, tests, prints, says, happens, text_of, and_place, ways_in_turn, all_going, all_returned, joined_ways, call_room, first_place, at_start, ending, run_of}

@@ -2,8 +2,8 @@
 use Rattle.std.proofs.Common.{◌≡◌, ◌≢◌, ◌-◌, ℕ, zero, suc, List, [], ◌∷◌, ◌++◌, Some, None, true, false, refl, sym, ap, ◌∙◌, arith}
 use Rattle.c_lexer.specs.declared.token.Token.{Token}
 use Rattle.c_lexer.specs.declared.token.Punctuator.TheVariants as mark
-use Rattle.c_tree.specs.declared.tree.Stmt.{Stmt}
-use Rattle.c_tree.specs.declared.tree.Declaration.{Declaration}
+use Rattle.first_form.specs.declared.tree.Stmt.{Stmt}
+use Rattle.first_form.specs.declared.tree.Declaration.{Declaration}
 use Rattle.first_form.specs.declared.form.FormFault.{FormFault}
 use Rattle.first_form.specs.declared.form.FormFault.TheVariants as fault
 use Rattle.std.specs.Prelude.{if◌then◌else◌}

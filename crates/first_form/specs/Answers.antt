@@ -4,7 +4,7 @@ use Rattle.std.specs.Result.{result_ok}
 use Rattle.c_lexer.specs.Reading.{lexed}
 use Rattle.c_lexer.specs.declared.token.Tokens.{Tokens}
 use Rattle.c_tree.specs.PlaceTables.{PlaceTable, places_of}
-use Rattle.c_tree.specs.declared.tree.Unit.{Unit as UnitType}
+use Rattle.first_form.specs.declared.tree.Unit.{Unit as UnitType}
 use Rattle.first_form.specs.Form.{Program, program_of, ◌>>=◌}
 use Rattle.first_form.specs.Verdicts.{Diagnoses}
 use Rattle.first_form.specs.Reports.{report_of}

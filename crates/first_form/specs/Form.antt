@@ -16,9 +16,9 @@ use Rattle.c_lexer.specs.declared.token.IntegerType.TheVariants.{Int}
 use Rattle.c_lexer.specs.declared.token.TokenKind.{TokenKind}
 use Rattle.c_lexer.specs.declared.token.TokenKind.TheVariants.{Identifier, Keyword, Punctuator, Integer, StringLiteral}
 use Rattle.c_lexer.specs.declared.token.Token.{Token}
-use Rattle.c_tree.specs.declared.tree.Stmt.{Stmt}
-use Rattle.c_tree.specs.declared.tree.Stmt.TheVariants as stmt
-use Rattle.c_tree.specs.declared.tree.Declaration.{Declaration}
+use Rattle.first_form.specs.declared.tree.Stmt.{Stmt}
+use Rattle.first_form.specs.declared.tree.Stmt.TheVariants as stmt
+use Rattle.first_form.specs.declared.tree.Declaration.{Declaration}
 use Rattle.first_form.specs.declared.form.FormFault.{FormFault}
 use Rattle.first_form.specs.declared.form.FormFault.TheVariants as fault
 

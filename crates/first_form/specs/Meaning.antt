@@ -7,8 +7,8 @@ use Rattle.bit_words.specs.declared.run.Happening.TheVariants.{Branch, Call, Pri
 use Rattle.bit_words.specs.declared.run.Event.{Event}
 use Rattle.bit_words.specs.declared.run.Finish.TheVariants as finish
 use Rattle.bit_words.specs.declared.run.Run.{Run}
-use Rattle.c_tree.specs.declared.tree.Stmt.{Stmt, fold-Stmt}
-use Rattle.c_tree.specs.declared.tree.Stmt.TheOpen.{Stmt-F, Empty, Block, If, Print, Return}
+use Rattle.first_form.specs.declared.tree.Stmt.{Stmt, fold-Stmt}
+use Rattle.first_form.specs.declared.tree.Stmt.TheOpen.{Stmt-F, Empty, Block, If, Print, Return}
 use Rattle.first_form.specs.Form.{Program}
 use Rattle.first_form.specs.declared.meaning.Standing.{Standing}
 use Rattle.first_form.specs.declared.paths.Ways.{Ways}

@@ -12,8 +12,8 @@ use Rattle.bit_words.specs.declared.fact.Fact.{Fact}
 use Rattle.bit_words.specs.declared.fact.Fact.TheVariants as fact
 use Rattle.c_lexer.specs.declared.token.Place.{Place}
 use Rattle.c_tree.specs.PlaceTables.{PlaceTable, place_at, file_at}
-use Rattle.c_tree.specs.declared.tree.Stmt.{Stmt, fold-Stmt}
-use Rattle.c_tree.specs.declared.tree.Stmt.TheOpen.{Stmt-F, Empty, Block, If, Print, Return}
+use Rattle.first_form.specs.declared.tree.Stmt.{Stmt, fold-Stmt}
+use Rattle.first_form.specs.declared.tree.Stmt.TheOpen.{Stmt-F, Empty, Block, If, Print, Return}
 use Rattle.first_form.specs.Form.{Program}
 use Rattle.first_form.specs.Lines.{line_count}
 use Rattle.first_form.specs.Facts.{facts_of}

@@ -10,8 +10,8 @@ use crate::lines::LogLines;
 use crate::meaning::run_of;
 use crate::paths::{Path, list_paths};
 use crate::shown::{FactSet, shown};
+use crate::tree::Unit;
 use bit_words::{World, WorldFault};
-use c_tree::Unit;
 use plain_data::Items;
 use std::alloc::{AllocError, Global};
 

@@ -7,11 +7,11 @@ use crate::facts::facts_of;
 use crate::form::{FormFault, parse};
 use crate::lines::LogLines;
 use crate::report::report;
+use crate::tree::Unit;
 use crate::verdict::Diagnosis;
 use crate::weigh::weigh;
 use bit_words::Bytes;
 use c_lexer::{LexFault, lex};
-use c_tree::Unit;
 use std::alloc::{AllocError, Global};
 
 /// The greatest source, in bytes.

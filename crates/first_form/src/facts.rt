@@ -6,8 +6,8 @@ ghost use Rattle.first_form.specs.Facts.{stmt_facts, joined};
 
 use crate::lines::LogLines;
 use crate::meaning::text_of;
+use crate::tree::Stmt;
 use bit_words::{Fact, Side};
-use c_tree::Stmt;
 use plain_data::{Items, Shared};
 use std::alloc::{AllocError, Global};
 

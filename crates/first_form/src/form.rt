@@ -4,9 +4,10 @@ ghost use Rattle.first_form.specs.Form as spec;
 ghost use Rattle.first_form.specs.Form.{Gives};
 ghost use Rattle.c_tree.specs.PlaceTables.{places_of};
 
+use crate::tree::{Declaration, Stmt, Unit};
 use bit_words::Bytes;
 use c_lexer::{IntegerConstant, IntegerType, Keyword, Punctuator, Token, TokenKind, Tokens};
-use c_tree::{Declaration, Places, Stmt, Unit};
+use c_tree::Places;
 use plain_data::{Items, Shared};
 use std::alloc::{AllocError, Global};
 use thiserror::Error;

@@ -15,5 +15,6 @@ pub mod report;
 mod report_tests;
 pub mod shown;
 pub mod text;
+pub mod tree;
 pub mod verdict;
 pub mod weigh;

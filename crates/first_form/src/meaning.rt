@@ -5,8 +5,8 @@ ghost use Rattle.first_form.specs.Meaning as spec;
 ghost use Rattle.first_form.specs.Meaning.{meaning, answers_of};
 ghost use Rattle.first_form.specs.Answers.{program_in};
 
+use crate::tree::{Stmt, Unit};
 use bit_words::{Bytes, Event, Events, Finish, Happening, Numbers, Run, Side, World};
-use c_tree::{Stmt, Unit};
 use plain_data::{Items, Shared};
 use std::alloc::{AllocError, Global};
 

@@ -6,7 +6,7 @@ ghost use Rattle.first_form.specs.Paths.{paths_of};
 ghost use Rattle.first_form.specs.Answers.{program_in};
 
 use crate::meaning::{CALL_ROOM, beyond, beyond_stmt, first_place};
-use c_tree::{Stmt, Unit};
+use crate::tree::{Stmt, Unit};
 use plain_data::{Items, Shared};
 use std::alloc::{AllocError, Global};
 

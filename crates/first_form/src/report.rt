@@ -6,10 +6,10 @@ ghost use Rattle.first_form.specs.Reports as spec;
 
 use crate::lines::line_count;
 use crate::text::put_number;
+use crate::tree::{Stmt, Unit};
 use crate::verdict::{Diagnosis, Findings, Verdict};
 use bit_words::{Bytes, Fact, Side, World};
 use c_lexer::Name;
-use c_tree::{Stmt, Unit};
 use plain_data::{Items, Shared};
 use std::alloc::{AllocError, Global};
 use std::collections::BTreeSet;

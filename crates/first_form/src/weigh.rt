@@ -8,9 +8,9 @@ ghost use Rattle.first_form.specs.Answers.{program_in};
 use crate::candidate::{Candidate, all_candidates};
 use crate::lines::LogLines;
 use crate::listing::{Listing, find, move_up};
+use crate::tree::Unit;
 use crate::verdict::{Diagnosis, Findings, Verdict};
 use bit_words::{Fact, World};
-use c_tree::Unit;
 use plain_data::Items;
 use std::alloc::{AllocError, Global};
 

@@ -4,7 +4,7 @@ use Rattle.sl_io.specs.Counts.{Rose}
 use Rattle.sl_io.specs.ShelfStates.{Files, ShelfState, CountsOn}
 use Rattle.sl_io.specs.SinkStates.{SinkState}
 use Rattle.sl_io.specs.Writes.{Appended, AppendedPrefix}
-use Rattle.c_tree.specs.declared.tree.Unit.{Unit as UnitType}
+use Rattle.first_form.specs.declared.tree.Unit.{Unit as UnitType}
 use Rattle.first_form.specs.Answers.{IsUnit, program_spelled, program_in, is_found}
 use Rattle.first_form.specs.Verdicts.{Diagnoses}
 use Rattle.first_form.specs.Reports.{report_of}

@@ -1,7 +1,7 @@
 -- Why a command line is not answered.
 use Rattle.std.specs.Prelude.{◌≡◌, List, ℕ, Option, None, ⊤}
 use Rattle.sl_io.specs.ShelfStates.{Files, ShelfState}
-use Rattle.c_tree.specs.declared.tree.Unit.{Unit as UnitType}
+use Rattle.first_form.specs.declared.tree.Unit.{Unit as UnitType}
 use Rattle.first_form.specs.Answers.{IsUnit, program_spelled}
 use Rattle.sherlog.specs.Words.{Names}
 use Rattle.sherlog.specs.Inputs.{IsInput, Failed, IsTooLong}

@@ -7,9 +7,9 @@ ghost use Rattle.sherlog.specs.Answers.{Fetches, Reads, Forms, Serves};
 use crate::refusal::{InputFile, Refusal};
 use crate::words::Request;
 use bit_words::Bytes;
-use c_tree::Unit;
 use first_form::diagnose::{Answer, MAX_SOURCE, diagnose, read_source};
 use first_form::form::FormFault;
+use first_form::tree::Unit;
 use sl_io::{GetFault, Shelf, Sink, SinkFault};
 use std::alloc::Global;
 

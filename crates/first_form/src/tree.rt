@@ -1,9 +1,10 @@
+//! The syntax tree of a source of the first form, with the places of its tokens.
 ghost use Rattle.std.specs.Prelude.{◌≡◌};
 ghost use Rattle.c_tree.specs.PlaceTables.{place_at, file_at};
 
-use crate::places::Places;
 use bit_words::Bytes;
 use c_lexer::{Name, Place};
+use c_tree::Places;
 use plain_data::{Items, Shared};
 
 /// A statement (C99 6.8). Each `at` and `call` is the byte offset of a token: of the statement's keyword,
