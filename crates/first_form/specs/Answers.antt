@@ -1,5 +1,5 @@
 -- What the calls of this crate answer.
-use Rattle.std.specs.Prelude.{◌≡◌, ℕ, List, [], ◌∷◌, Bool, true, false, Option, Some, None, Result, Ok, Err, ⊤}
+use Rattle.std.specs.Prelude.{◌≡◌, ℕ, List, Bool, true, false, Option, Some, Ok}
 use Rattle.std.specs.Result.{result_ok}
 use Rattle.c_lexer.specs.Reading.{lexed}
 use Rattle.c_lexer.specs.declared.token.Tokens.{Tokens}
@@ -8,8 +8,6 @@ use Rattle.first_form.specs.declared.tree.Unit.{Unit as UnitType}
 use Rattle.first_form.specs.Form.{Program, program_of, ◌>>=◌}
 use Rattle.first_form.specs.Verdicts.{Diagnoses}
 use Rattle.first_form.specs.Reports.{report_of}
-use Rattle.first_form.specs.declared.form.FormFault.{FormFault}
-use Rattle.first_form.specs.declared.form.FormFault.TheVariants.{NotYetRead, Memory}
 use Rattle.first_form.specs.declared.verdict.Diagnosis.{Diagnosis}
 use Rattle.first_form.specs.declared.verdict.Diagnosis.TheVariants.{Found, Nothing}
 use Rattle.first_form.specs.declared.diagnose.Answer.{Answer}
@@ -33,12 +31,6 @@ pub record IsUnit (name bytes : List ℕ) (unit : UnitType) : Type 0 where
   pub spelled : lexed name bytes ≡ Ok tokens
   pub places : unit.places.places ≡ places_of tokens.tokens
   pub files : unit.places.files ≡ tokens.files
-
--- the unit, or the refusal exactly where the bytes spell none; but for want of memory
-abbrev pub ReadsSource : List ℕ → List ℕ → Result UnitType FormFault → Type 0
-ReadsSource name bytes (Ok unit) = IsUnit name bytes unit
-ReadsSource name bytes (Err NotYetRead) = program_spelled name bytes ≡ None
-ReadsSource name bytes (Err Memory) = ⊤
 
 abbrev pub is_found : Diagnosis → Bool
 is_found (Found findings) = true

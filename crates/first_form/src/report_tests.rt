@@ -1,11 +1,12 @@
 //! Rows of the facts and of the report, worked out by hand.
-use crate::diagnose::read_source;
 use crate::facts::facts_of;
+use crate::form::parse;
 use crate::lines::LogLines;
 use crate::report::report;
 use crate::shown::shown;
 use crate::verdict::{Diagnosis, Findings, Verdict};
 use bit_words::{Bytes, Event, Fact, Finish, Happening, Numbers, Run, Side, World};
+use c_lexer::lex;
 use plain_data::Items;
 use std::alloc::Global;
 use std::test::Fail;
@@ -124,7 +125,8 @@ fn nine_verdicts(alloc: Global) -> Result<Items<Verdict>, Fail> {
 
 fn report_of(alloc: Global, diagnosis: &Diagnosis) -> Result<Bytes, Fail> {
     let log = b"hi\nhi".as_slice();
-    let unit = read_source(alloc, "p.c", SOURCE)?;
+    let tokens = lex(alloc, "p.c", SOURCE)?;
+    let unit = parse(alloc, &tokens)?;
     let lines = LogLines::new(alloc, log)?;
     let facts = facts_of(alloc, unit.body.as_slice(), &lines)?;
     Ok(report(alloc, &unit, log, facts.as_slice(), diagnosis)?)

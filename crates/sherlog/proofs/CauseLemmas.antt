@@ -13,7 +13,7 @@ use Rattle.sherlog.specs.Answers.{GetCause, Fetches, Forms}
 use Rattle.sherlog.specs.declared.refusal.InputFile.{InputFile}
 use Rattle.sherlog.specs.declared.refusal.InputFile.TheVariants.{Source, Log}
 use Rattle.sherlog.specs.declared.refusal.Refusal.{Refusal}
-use Rattle.sherlog.specs.declared.refusal.Refusal.TheVariants.{NotYetRead, Fault, TooLong, Memory}
+use Rattle.sherlog.specs.declared.refusal.Refusal.TheVariants.{BadSource, NotYetRead, Fault, TooLong, Memory}
 
 -- a count that rose in the later part of a call rose in the call
 rose_in_all : (n most a b c : ℕ) → a ≤ b → min (b + n) most ≤ c → min (a + n) most ≤ c
@@ -31,6 +31,7 @@ IsTooLong-in_all names file before mid after counts files long = record {
 -- why the log isn't got, once the source was read
 pub Cause-from_log : (names : Names) (before mid after : ShelfState) (unit : UnitType) (refusal : Refusal) → CountsOn before mid → mid.files ≡ before.files
     → IsRead names before.files unit → GetCause names Log mid after refusal → Cause names before after refusal
+Cause-from_log names before mid after unit (BadSource fault spot) counts files read cause = absurd cause
 Cause-from_log names before mid after unit NotYetRead counts files read cause = absurd cause
 Cause-from_log names before mid after unit Fault counts files read cause = (Log, ((unit, read), rose_in_all _ _ _ _ _ (counts.get_faults _) cause))
 Cause-from_log names before mid after unit (TooLong file) counts files read cause =

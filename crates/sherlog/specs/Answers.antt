@@ -1,22 +1,23 @@
 -- What a command line comes to.
-use Rattle.std.specs.Prelude.{◌≡◌, ◌⊎◌, ℕ, List, Bool, Option, None, Result, Ok, Err, IfOk, IfErr, ⊤}
+use Rattle.std.specs.Prelude.{◌≡◌, ◌⊎◌, ℕ, List, Bool, Option, Result, Ok, Err, IfOk, IfErr, ⊤}
 use Rattle.sl_io.specs.Counts.{Rose}
 use Rattle.sl_io.specs.ShelfStates.{Files, ShelfState, CountsOn}
 use Rattle.sl_io.specs.SinkStates.{SinkState}
 use Rattle.sl_io.specs.Writes.{Appended, AppendedPrefix}
 use Rattle.first_form.specs.declared.tree.Unit.{Unit as UnitType}
-use Rattle.first_form.specs.Answers.{IsUnit, program_spelled, program_in, is_found}
+use Rattle.first_form.specs.Answers.{IsUnit, program_in, is_found}
 use Rattle.first_form.specs.Verdicts.{Diagnoses}
 use Rattle.first_form.specs.Reports.{report_of}
 use Rattle.first_form.specs.declared.verdict.Diagnosis.{Diagnosis}
 use Rattle.first_form.specs.declared.diagnose.Answer.{Answer}
 use Rattle.sherlog.specs.Words.{Names}
 use Rattle.sherlog.specs.Inputs.{IsInput, Failed, IsTooLong}
+use Rattle.sherlog.specs.Sources.{HasFaultIn, HasOtherForm}
 use Rattle.sherlog.specs.Causes.{IsRead, Cause}
 use Rattle.sherlog.specs.declared.refusal.InputFile.{InputFile}
 use Rattle.sherlog.specs.declared.refusal.InputFile.TheVariants.{Log}
 use Rattle.sherlog.specs.declared.refusal.Refusal.{Refusal}
-use Rattle.sherlog.specs.declared.refusal.Refusal.TheVariants.{NotYetRead, Fault, TooLong, Memory}
+use Rattle.sherlog.specs.declared.refusal.Refusal.TheVariants.{BadSource, NotYetRead, Fault, TooLong, Memory}
 
 -- the report of a diagnosis of the files that is true of every world; `found`: a world fits
 pub record IsReport (names : Names) (files : Option Files) (found : Bool) (report : List ℕ) : Type 0 where
@@ -45,6 +46,7 @@ pub record BrokeOff (names : Names) (files : Option Files) (old new : SinkState)
 
 -- nothing was written, for this cause; or a report was, up to a fault
 abbrev pub Refused : Names → ShelfState → ShelfState → SinkState → SinkState → Refusal → Type 0
+Refused names before after old new (BadSource fault spot) = Cause names before after (BadSource fault spot) × (new ≡ old)
 Refused names before after old new NotYetRead = Cause names before after NotYetRead × (new ≡ old)
 Refused names before after old new Fault = (Cause names before after Fault × (new ≡ old)) ⊎ BrokeOff names before.files old new
 Refused names before after old new (TooLong file) = Cause names before after (TooLong file) × (new ≡ old)
@@ -54,6 +56,7 @@ Refused names before after old new Memory = new ≡ old
 
 -- why a file isn't got
 abbrev pub GetCause : Names → InputFile → ShelfState → ShelfState → Refusal → Type 0
+GetCause names file before after (BadSource fault spot) = ⊥
 GetCause names file before after NotYetRead = ⊥
 GetCause names file before after Fault = Failed names file before after
 GetCause names file before after (TooLong other) = (other ≡ file) × IsTooLong names file before after
@@ -66,12 +69,13 @@ pub record Fetches (names : Names) (file : InputFile) (before after : ShelfState
   pub input : IfOk result (IsInput names file before.files)
   pub refused : IfErr result (GetCause names file before after)
 
--- a source is read
-abbrev pub Reads : Names → List ℕ → Result UnitType Refusal → Type 0
-Reads names source (Ok unit) = IsUnit names.source source unit
-Reads names source (Err NotYetRead) = program_spelled names.source source ≡ None
-Reads names source (Err Memory) = ⊤
-Reads names source (Err _) = ⊥
+-- a source of this name is read
+abbrev pub Reads : List ℕ → List ℕ → Result UnitType Refusal → Type 0
+Reads name source (Ok unit) = IsUnit name source unit
+Reads name source (Err (BadSource fault spot)) = HasFaultIn name source fault spot
+Reads name source (Err NotYetRead) = HasOtherForm name source
+Reads name source (Err Memory) = ⊤
+Reads name source (Err _) = ⊥
 
 -- a report is formed
 pub record Forms (names : Names) (before after : ShelfState) (result : Result Answer Refusal) : Type 0 where

@@ -1,14 +1,17 @@
 -- Why a command line is not answered.
-use Rattle.std.specs.Prelude.{◌≡◌, List, ℕ, Option, None, ⊤}
+use Rattle.std.specs.Prelude.{List, ℕ, Option, ⊤}
 use Rattle.sl_io.specs.ShelfStates.{Files, ShelfState}
+use Rattle.c_lexer.specs.declared.token.Spot.{Spot}
 use Rattle.first_form.specs.declared.tree.Unit.{Unit as UnitType}
-use Rattle.first_form.specs.Answers.{IsUnit, program_spelled}
+use Rattle.first_form.specs.Answers.{IsUnit}
 use Rattle.sherlog.specs.Words.{Names}
 use Rattle.sherlog.specs.Inputs.{IsInput, Failed, IsTooLong}
+use Rattle.sherlog.specs.Sources.{HasFaultIn, HasOtherForm}
 use Rattle.sherlog.specs.declared.refusal.InputFile.{InputFile}
 use Rattle.sherlog.specs.declared.refusal.InputFile.TheVariants.{Source, Log}
 use Rattle.sherlog.specs.declared.refusal.Refusal.{Refusal}
-use Rattle.sherlog.specs.declared.refusal.Refusal.TheVariants.{NotYetRead, Fault, TooLong, Memory}
+use Rattle.sherlog.specs.declared.refusal.Refusal.TheVariants.{BadSource, NotYetRead, Fault, TooLong, Memory}
+use Rattle.sherlog.specs.declared.refusal.SourceFault.{SourceFault}
 
 -- the source is this unit
 pub record IsRead (names : Names) (files : Option Files) (unit : UnitType) : Type 0 where
@@ -16,11 +19,17 @@ pub record IsRead (names : Names) (files : Option Files) (unit : UnitType) : Typ
   pub input : IsInput names Source files source
   pub is_unit : IsUnit names.source source unit
 
--- the source is not of the form
+-- the source has this first fault
+pub record IsFaulty (names : Names) (files : Option Files) (fault : SourceFault) (spot : Spot) : Type 0 where
+  pub source : List ℕ
+  pub input : IsInput names Source files source
+  pub has_fault : HasFaultIn names.source source fault spot
+
+-- the source has no fault, and is not of the form
 pub record IsUnread (names : Names) (files : Option Files) : Type 0 where
   pub source : List ℕ
   pub input : IsInput names Source files source
-  pub no_program : program_spelled names.source source ≡ None
+  pub other : HasOtherForm names.source source
 
 -- what came before the get of this file: the log is got only once the source was read
 abbrev pub Reaches : Names → InputFile → Option Files → Type 0
@@ -29,7 +38,14 @@ Reaches names Log files = (unit : UnitType) × IsRead names files unit
 
 -- why there is no report
 abbrev pub Cause : Names → ShelfState → ShelfState → Refusal → Type 0
+Cause names before after (BadSource fault spot) = IsFaulty names before.files fault spot
 Cause names before after NotYetRead = IsUnread names before.files
 Cause names before after Fault = (file : InputFile) × (Reaches names file before.files × Failed names file before after)
 Cause names before after (TooLong file) = Reaches names file before.files × IsTooLong names file before after
 Cause names before after Memory = ⊤
+
+-- a refusal for what the source is
+abbrev pub IsOfSource : Refusal → Type 0
+IsOfSource (BadSource fault spot) = ⊤
+IsOfSource NotYetRead = ⊤
+IsOfSource _ = ⊥

@@ -17,7 +17,7 @@ pub record IsAtHand (names : Names) (file : InputFile) (before after : ShelfStat
   pub within : length bytes ≤ limit_of file
   pub got : ¬ (Failed names file before after)
 
--- the source is at hand, and not of the form
+-- the source is at hand, and has a fault or is not of the form
 pub record IsNotOfForm (names : Names) (before after : ShelfState) : Type 0 where
   pub source : List ℕ
   pub at_hand : IsAtHand names Source before after source

@@ -1,13 +1,33 @@
 -- What is told of a command line that is not answered.
 use Rattle.std.specs.Prelude.{◌++◌, ℕ, List, codes}
+use Rattle.c_lexer.specs.declared.token.Spot.{Spot}
 use Rattle.sherlog.specs.Words.{Names}
 use Rattle.sherlog.specs.Inputs.{name_of}
+use Rattle.sherlog.specs.Sources.{fault_name, spot_text}
+use Rattle.sherlog.specs.declared.refusal.InputFile.{InputFile}
+use Rattle.sherlog.specs.declared.refusal.SourceFault.{SourceFault}
 use Rattle.sherlog.specs.declared.refusal.Refusal.{Refusal}
-use Rattle.sherlog.specs.declared.refusal.Refusal.TheVariants.{NotYetRead, Fault, TooLong, Memory}
+use Rattle.sherlog.specs.declared.refusal.Refusal.TheVariants.{BadSource, NotYetRead, Fault, TooLong, Memory}
 
 -- of words that are no command line
 abbrev pub usage_line : List ℕ
 usage_line = codes "sherlog: 2 usage\n"
+
+-- of a source with a fault: its name, and its place as FILE:LINE:COL
+abbrev pub bad_source_line : SourceFault → Spot → List ℕ
+bad_source_line fault spot = codes "sherlog: 3 " ++ (fault_name fault ++ (codes " " ++ (spot_text spot ++ codes "\n")))
+
+-- of a source that is not of the form
+abbrev pub not_yet_read_line : List ℕ
+not_yet_read_line = codes "sherlog: 3 NotYetRead\n"
+
+-- of a fault of the outside
+abbrev pub fault_line : List ℕ
+fault_line = codes "sherlog: 6 fault\n"
+
+-- of a file that is too long
+abbrev pub too_long_line : Names → InputFile → List ℕ
+too_long_line names file = codes "sherlog: 7 " ++ (name_of names file ++ codes "\n")
 
 -- of a want of memory
 abbrev pub memory_line : List ℕ
@@ -15,7 +35,8 @@ memory_line = codes "sherlog: 12 memory\n"
 
 -- of a refusal
 abbrev pub line_of : Names → Refusal → List ℕ
-line_of names NotYetRead = codes "sherlog: 3 NotYetRead\n"
-line_of names Fault = codes "sherlog: 6 fault\n"
-line_of names (TooLong file) = codes "sherlog: 7 " ++ (name_of names file ++ codes "\n")
+line_of names (BadSource fault spot) = bad_source_line fault spot
+line_of names NotYetRead = not_yet_read_line
+line_of names Fault = fault_line
+line_of names (TooLong file) = too_long_line names file
 line_of names Memory = memory_line

@@ -2,13 +2,16 @@
 ghost use Rattle.std.specs.Prelude.{◌≡◌, ◌↔◌, ◌⊎◌, None, true, false, IfSome, map, string_bytes};
 ghost use Rattle.sl_io.specs.Writes.{Told};
 ghost use Rattle.sherlog.specs.Words.{names_of};
-ghost use Rattle.sherlog.specs.Causes.{Cause, IsUnread};
+ghost use Rattle.sherlog.specs.Causes.{Cause, IsOfSource};
 ghost use Rattle.sherlog.specs.Answers.{Answered, Refused};
 ghost use Rattle.sherlog.specs.Completeness.{IsNotOfForm, IsAnswerable};
-ghost use Rattle.sherlog.specs.Lines.{line_of, usage_line};
+ghost use Rattle.sherlog.specs.Lines.{line_of, usage_line, fault_line, memory_line};
 ghost use Rattle.sherlog.specs.declared.refusal.InputFile.{InputFile as InputFileType};
+ghost use Rattle.sherlog.specs.declared.refusal.Refusal.{Refusal as RefusalType};
 
-use crate::refusal::{Refusal, tell_refusal, tell_usage};
+use crate::refusal::{
+    Refusal, tell_bad_source, tell_fault, tell_memory, tell_not_yet_read, tell_too_long, tell_usage,
+};
 use crate::report::serve_diagnose;
 use crate::words::read_words;
 use sl_io::{Shelf, Sink};
@@ -31,8 +34,11 @@ pub fn run<H: Shelf, O: Sink, E: Sink>(
 
     // 2 comes exactly where the words are no command line, and each other refusal by its cause.
     ensures usage { (result ≡ 2) ↔ (names_of (map string_bytes words.now) ≡ None) }
-    ensures unread { result ≡ 3 → IfSome (names_of (map string_bytes words.now)) (λ names.
-        IsUnread names (H.state shelf.old).files) }
+    // 3 comes with the name and place of the source's first fault, or where it has none and is not of the form.
+    ensures unread { result ≡ 3 → IfSome (names_of (map string_bytes words.now)) (λ names. (refusal : RefusalType)
+        × IsOfSource refusal
+        × Cause names (H.state shelf.old) (H.state shelf.new) refusal
+        × Told (E.state err.old) (E.state err.new) (line_of names refusal)) }
     ensures fault { result ≡ 6 → IfSome (names_of (map string_bytes words.now)) (λ names.
         Refused names (H.state shelf.old) (H.state shelf.new) (O.state out.old) (O.state out.new) Refusal.Fault) }
     ensures long { result ≡ 7 → IfSome (names_of (map string_bytes words.now)) (λ names. (file : InputFileType)
@@ -43,12 +49,8 @@ pub fn run<H: Shelf, O: Sink, E: Sink>(
 
     // A refusal is told on err.
     ensures usage_line { result ≡ 2 → Told (E.state err.old) (E.state err.new) usage_line }
-    ensures unread_line { result ≡ 3 → IfSome (names_of (map string_bytes words.now)) (λ names.
-        Told (E.state err.old) (E.state err.new) (line_of names Refusal.NotYetRead)) }
-    ensures fault_line { result ≡ 6 → IfSome (names_of (map string_bytes words.now)) (λ names.
-        Told (E.state err.old) (E.state err.new) (line_of names Refusal.Fault)) }
-    ensures memory_line { result ≡ 12 → IfSome (names_of (map string_bytes words.now)) (λ names.
-        Told (E.state err.old) (E.state err.new) (line_of names Refusal.Memory)) }
+    ensures fault_line { result ≡ 6 → Told (E.state err.old) (E.state err.new) fault_line }
+    ensures memory_line { result ≡ 12 → Told (E.state err.old) (E.state err.new) memory_line }
 
     // No file changes, and where there is no report, nothing is written, but on 6 a prefix of it.
     ensures files { (H.state shelf.new).files ≡ (H.state shelf.old).files }
@@ -68,20 +70,27 @@ pub fn run<H: Shelf, O: Sink, E: Sink>(
     match serve_diagnose(alloc, &request, shelf, out) {
         Ok(true) => 0,
         Ok(false) => 1,
+        Err(Refusal::BadSource { fault, spot }) => {
+            if tell_bad_source(alloc, err, fault, &spot).is_err() {
+                tell_memory(err);
+                return 12;
+            }
+            3
+        }
         Err(Refusal::NotYetRead) => {
-            tell_refusal(err, &request, Refusal::NotYetRead);
+            tell_not_yet_read(err);
             3
         }
         Err(Refusal::Fault) => {
-            tell_refusal(err, &request, Refusal::Fault);
+            tell_fault(err);
             6
         }
         Err(Refusal::TooLong(file)) => {
-            tell_refusal(err, &request, Refusal::TooLong(file));
+            tell_too_long(err, &request, file);
             7
         }
         Err(Refusal::Memory) => {
-            tell_refusal(err, &request, Refusal::Memory);
+            tell_memory(err);
             12
         }
     }

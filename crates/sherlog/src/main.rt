@@ -6,6 +6,7 @@ pub mod call;
 pub mod files;
 pub mod refusal;
 pub mod report;
+pub mod source;
 pub mod streams;
 pub mod words;
 

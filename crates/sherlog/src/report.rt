@@ -1,15 +1,13 @@
 //! One command from the bytes of its files to its output.
-ghost use Rattle.std.specs.Prelude.{◌≡◌, ◌≤◌, length};
 ghost use Rattle.sl_io.specs.Writes.{Writes};
 ghost use Rattle.sherlog.specs.Inputs.{names_in};
-ghost use Rattle.sherlog.specs.Answers.{Fetches, Reads, Forms, Serves};
+ghost use Rattle.sherlog.specs.Answers.{Fetches, Forms, Serves};
 
 use crate::refusal::{InputFile, Refusal};
+use crate::source::read_source;
 use crate::words::Request;
 use bit_words::Bytes;
-use first_form::diagnose::{Answer, MAX_SOURCE, diagnose, read_source};
-use first_form::form::FormFault;
-use first_form::tree::Unit;
+use first_form::diagnose::{Answer, diagnose};
 use sl_io::{GetFault, Shelf, Sink, SinkFault};
 use std::alloc::Global;
 
@@ -30,18 +28,6 @@ fn fetch<H: Shelf>(
     }
 }
 
-/// Reads the source.
-fn read(alloc: Global, request: &Request<'_>, source: &[u8]) -> Result<Unit, Refusal>
-    requires { length source.now ≤ MAX_SOURCE }
-    ensures { Reads (names_in request.now) source.now result }
-{
-    match read_source(alloc, request.source, source) {
-        Ok(unit) => Ok(unit),
-        Err(FormFault::NotYetRead) => Err(Refusal::NotYetRead),
-        Err(FormFault::Memory) => Err(Refusal::Memory),
-    }
-}
-
 /// Gets and reads the files, and forms the whole report. Nothing is written.
 fn form_report<H: Shelf>(
     alloc: Global,
@@ -51,7 +37,7 @@ fn form_report<H: Shelf>(
     ensures { Forms (names_in request.now) (H.state shelf.old) (H.state shelf.new) result }
 {
     let source = fetch(alloc, request, InputFile::Source, shelf)?;
-    let unit = read(alloc, request, source.as_slice())?;
+    let unit = read_source(alloc, request.source, source.as_slice())?;
     let log = fetch(alloc, request, InputFile::Log, shelf)?;
     Ok(diagnose(alloc, &unit, log.as_slice())?)
 }

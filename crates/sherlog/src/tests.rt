@@ -19,7 +19,7 @@ const NOTHING: Failing = Failing {
     err: None,
 };
 
-/// The files `p.c`, `p.log` and `-`, and two empty sinks.
+/// The source as `p.c` and `a.c`, the log as `p.log` and `-`, and two empty sinks.
 #[derive(Drop)]
 struct Outside {
     shelf: FailShelf,
@@ -39,6 +39,7 @@ impl Outside {
     fn new(alloc: Global, source: &[u8], log: &[u8], failing: Failing) -> Result<Outside, Fail> {
         let mut shelf = MemShelf::new(alloc);
         shelf.add_file(alloc, "p.c", source)?;
+        shelf.add_file(alloc, "a.c", source)?;
         shelf.add_file(alloc, "p.log", log)?;
         shelf.add_file(alloc, "-", log)?;
         let mut listed = Items::new(alloc);
@@ -229,6 +230,45 @@ fn sources_that_are_not_of_the_form(rt: HostRuntime) -> Result<(), Fail> {
         assert_eq!(rt; outside.status_of(alloc, DIAGNOSE)?, 3, "{body}");
         assert_eq!(rt; outside.out().len(), 0);
         assert_eq!(rt; outside.err(), b"sherlog: 3 NotYetRead\n".as_slice());
+        assert_eq!(rt; outside.shelf.calls(), 1);
+    }
+    Ok(())
+}
+
+/// Sources, and the name and place of the first fault that is told of each.
+const FAULTY_SOURCES: [(&[u8], &str); 9] = [
+    (b"int x = 18446744073709551616;", "WideNumber a.c:1:9"),
+    (b"int x = \"abc", "OpenText a.c:1:9"),
+    (b"int x = 09;", "BadConstant a.c:1:9"),
+    (b"int x;\n#define X 1\n", "BadDirective a.c:2:1"),
+    (b"int x;\n\n  \x01\n", "BadByte a.c:3:3"),
+    (b"/* a\n\n", "OpenText a.c:1:1"),
+    // A bad escape stands at its backslash, behind a line marker.
+    (
+        b"int x;\n# 7 \"b.h\"\nint y;\n char c = '\\q';\n",
+        "BadConstant b.h:8:12",
+    ),
+    // The first of two faults, and one behind what is not of the form.
+    (b"int x = @ 09;", "BadByte a.c:1:9"),
+    (
+        b"int main(void) { x = 1; }\n# 3 \"c.h\"\n  0x;\n",
+        "BadConstant c.h:3:3",
+    ),
+];
+
+#[test]
+fn sources_with_a_fault(rt: HostRuntime) -> Result<(), Fail> {
+    let alloc = rt.alloc();
+    for (source, told) in FAULTY_SOURCES {
+        let line = format!(in alloc; "sherlog: 3 {told}\n")?;
+        let mut outside = Outside::new(alloc, source, b"hi\n", NOTHING)?;
+        assert_eq!(rt;
+            outside.status_of(alloc, "diagnose a.c p.log")?,
+            3,
+            "{told}"
+        );
+        assert_eq!(rt; outside.out().len(), 0);
+        assert_eq!(rt; outside.err(), line.as_bytes(), "{told}");
         assert_eq!(rt; outside.shelf.calls(), 1);
     }
     Ok(())
