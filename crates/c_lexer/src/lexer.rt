@@ -166,10 +166,11 @@ pub fn lex(alloc: Global, name: &str, bytes: &[u8]) -> Result<Tokens, LexFault>
     tokens_of(alloc, name, bytes)
 }
 
-/// Where the byte at an offset stands, by the line markers before it; from the end of the source on, where
-/// the source ends. It fails for want of memory alone.
+/// Where the byte at an offset stands, or the end of the source, by the line markers before it. It fails
+/// for want of memory alone.
 pub fn locate(alloc: Global, name: &str, bytes: &[u8], at: u32) -> Result<Spot, LexFault>
-    requires { length bytes.now ≤ 8388608 }
+    requires short { length bytes.now ≤ 8388608 }
+    requires within { at ≤ length bytes.now }
     ensures ok { IfOk result (λ spot. spot ≡ located name.now bytes.now at) }
     ensures err { IsOkUnless result LexFault.Memory }
 {

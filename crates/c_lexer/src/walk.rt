@@ -134,9 +134,10 @@ impl<'a> Walk<'a> {
     }
 }
 
-/// Where the byte at an offset stands; from the end of the source on, where the source ends.
+/// Where the byte at an offset stands, or the end of the source.
 pub fn here_at<'a>(name: &'a [u8], bytes: &'a [u8], at: u32) -> Here<'a>
-    requires { length bytes.now ≤ 8388608 }
+    requires short { length bytes.now ≤ 8388608 }
+    requires within { at ≤ length bytes.now }
     ensures { spec.spot_of result ≡ located name.now bytes.now at }
 {
     let mut walk = Walk::new(name, bytes);

@@ -1,5 +1,5 @@
 -- What decides where files are told.
-use Rattle.std.specs.Prelude.{◌≡◌, ◌≢◌, ◌≤◌, ℕ, List, Option, Some, None, length}
+use Rattle.std.specs.Prelude.{◌≡◌, ◌≢◌, ◌≤◌, ℕ, List, Some, None, length}
 use Rattle.sl_io.specs.Counts.{Rose}
 use Rattle.sl_io.specs.ShelfStates.{Files, ShelfState}
 use Rattle.sl_io.specs.SinkStates.{SinkState}

@@ -1,7 +1,7 @@
 //! Reading a source: from its bytes to its unit, or to why there is none.
-ghost use Rattle.std.specs.Prelude.{◌≡◌, ◌≤◌, length, Err};
+ghost use Rattle.std.specs.Prelude.{◌≡◌, ◌≢◌, ◌≤◌, length, Err};
 ghost use Rattle.c_lexer.specs.Fault.{Refused as IsFaultOf};
-ghost use Rattle.c_lexer.specs.Reading.{lexed};
+ghost use Rattle.c_lexer.specs.Reading.{lexed, IsFirstFault};
 ghost use Rattle.sherlog.specs.Sources.{HasFault};
 ghost use Rattle.sherlog.specs.Answers.{Reads};
 
@@ -14,7 +14,8 @@ use std::alloc::Global;
 /// The refusal of a source whose first fault stands at a byte.
 fn bad_source(alloc: Global, name: &str, bytes: &[u8], fault: SourceFault, at: u32) -> Refusal
     requires short { length bytes.now ≤ MAX_SOURCE }
-    requires first { HasFault name.now bytes.now fault at }
+    requires within { at ≤ length bytes.now }
+    requires has { HasFault name.now bytes.now fault at }
     ensures { Reads name.now bytes.now (Err result) }
 {
     match locate(alloc, name, bytes, at) {
@@ -26,7 +27,8 @@ fn bad_source(alloc: Global, name: &str, bytes: &[u8], fault: SourceFault, at: u
 /// The refusal of a source for its lexical fault.
 fn refusal_of(alloc: Global, name: &str, bytes: &[u8], fault: LexFault) -> Refusal
     requires short { length bytes.now ≤ MAX_SOURCE }
-    requires first { IsFaultOf (lexed name.now bytes.now) fault }
+    requires has { IsFaultOf (lexed name.now bytes.now) fault }
+    requires first { fault ≢ LexFault.Memory → IsFirstFault bytes.now fault }
     ensures { Reads name.now bytes.now (Err result) }
 {
     match fault {

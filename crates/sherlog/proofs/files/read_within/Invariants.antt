@@ -1,4 +1,4 @@
-use Rattle.std.proofs.Common.{ℕ, ◌≤◌, ◌+◌, length}
+use Rattle.std.proofs.Common.{ℕ, ◌≤◌, length}
 use Rattle.sl_io.specs.Counts.{RoseBy}
 use Rattle.sherlog.proofs.files.read_within.Given as goal
 
