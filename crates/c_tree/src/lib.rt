@@ -1,8 +1,17 @@
-//! The syntax tree of a source, so far of the first form that is read, and the places of its tokens.
+//! The syntax tree of C, and the places of its tokens.
 #![tactic(auto)]
 
+mod expr;
 mod places;
-mod tree;
+mod unit;
 
+pub use expr::{
+    AggregateKind, ArrayWord, BinaryOperator, Declarator, Enumerator, Expr, Field,
+    MemberDeclaration, Parameter, PostfixOperator, Qualifier, Specifier, StorageClass, TypeName,
+    TypeWord, UnaryOperator,
+};
 pub use places::Places;
-pub use tree::{Declaration, Stmt, Unit};
+pub use unit::{
+    Body, Declaration, Designator, External, ForStart, InitDeclarator, Initializer,
+    InitializerItem, Stmt,
+};

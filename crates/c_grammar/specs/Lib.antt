@@ -1,0 +1,6 @@
+pub mod Grammar
+pub mod Operators
+pub mod Parts
+pub mod Reading
+pub mod Spelling
+pub mod TypeWords
