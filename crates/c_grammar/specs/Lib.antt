@@ -4,3 +4,5 @@ pub mod Parts
 pub mod Reading
 pub mod Spelling
 pub mod TypeWords
+pub mod UnitReading
+pub mod Units
