@@ -1,3 +1,5 @@
 pub mod Equations
 pub mod Spans
 pub mod UnitEquations
+pub mod UnitSteps
+pub mod DeclarationSound
