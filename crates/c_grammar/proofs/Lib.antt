@@ -3,3 +3,4 @@ pub mod Spans
 pub mod UnitEquations
 pub mod UnitSteps
 pub mod DeclarationSound
+pub mod StmtSound
