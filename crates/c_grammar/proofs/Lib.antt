@@ -1,1 +1,4 @@
+pub mod Begins
+pub mod Equations
 pub mod Induction
+pub mod Spans
