@@ -1,4 +1,5 @@
 pub mod Begins
 pub mod Equations
 pub mod Induction
+pub mod Reach
 pub mod Spans
