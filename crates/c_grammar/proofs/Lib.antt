@@ -1,5 +1,6 @@
 pub mod Begins
 pub mod Equations
+pub mod ExprsComplete
 pub mod Induction
 pub mod Reach
 pub mod Read
