@@ -1,6 +1,11 @@
+pub mod Begins
+pub mod DeclarationSound
 pub mod Equations
+pub mod ExprsComplete
+pub mod Induction
+pub mod Reach
+pub mod Read
 pub mod Spans
+pub mod StmtSound
 pub mod UnitEquations
 pub mod UnitSteps
-pub mod DeclarationSound
-pub mod StmtSound
