@@ -9,3 +9,5 @@ pub mod Spans
 pub mod StmtSound
 pub mod UnitEquations
 pub mod UnitSteps
+pub mod UnitBegins
+pub mod DeclarationComplete
