@@ -11,3 +11,4 @@ pub mod UnitEquations
 pub mod UnitSteps
 pub mod UnitBegins
 pub mod DeclarationComplete
+pub mod StmtComplete
