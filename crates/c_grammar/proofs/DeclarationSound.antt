@@ -164,7 +164,7 @@ module _ (limit : ℕ) (r : Rules) (sound : SoundBelow limit r) where
 
     -- ---- declarations
 
-    declaring_takes : (is_type : Bool) (s z : State) (d : Declarator) → declaring_at r is_type s ≡ Some (d, z) → Spans (declaring_parts is_type d) s z × ((form d).height ≤ limit)
+    pub declaring_takes : (is_type : Bool) (s z : State) (d : Declarator) → declaring_at r is_type s ≡ Some (d, z) → Spans (declaring_parts is_type d) s z × ((form d).height ≤ limit)
     unfolding declaring_at
     declaring_takes is_type s z d h =
         let a = bind_some (r.declarator place.Declaration (s.0, forgetting s.1)) _ _ h in

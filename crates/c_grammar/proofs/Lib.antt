@@ -12,3 +12,5 @@ pub mod UnitSteps
 pub mod UnitBegins
 pub mod DeclarationComplete
 pub mod StmtComplete
+pub mod BraceGroup
+pub mod UnitLaws
