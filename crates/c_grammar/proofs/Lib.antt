@@ -1,3 +1,4 @@
 pub mod Equations
 pub mod Spans
 pub mod IsSound
+pub mod SoundExpr
