@@ -2,3 +2,4 @@ pub mod Equations
 pub mod Spans
 pub mod IsSound
 pub mod SoundExpr
+pub mod SoundSpecifier
