@@ -3,3 +3,4 @@ pub mod Spans
 pub mod IsSound
 pub mod SoundExpr
 pub mod SoundSpecifier
+pub mod SoundDeclarator
