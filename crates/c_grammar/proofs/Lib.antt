@@ -4,3 +4,4 @@ pub mod IsSound
 pub mod SoundExpr
 pub mod SoundSpecifier
 pub mod SoundDeclarator
+pub mod Sound
