@@ -1,5 +1,5 @@
 -- What it means that a reading is sound; specifiers that name one type, and type names.
-use Rattle.std.proofs.Common.{◌≡◌, ◌≤◌, ℕ, zero, suc, List, [], ◌∷◌, ◌++◌, length, Option, Some, None, Bool, true, false, refl, sym, ap, ◌∙◌, subst, arith, inl, inr, cond}
+use Rattle.std.proofs.Common.{◌≡◌, ◌≤◌, ℕ, zero, suc, List, [], ◌∷◌, ◌++◌, length, Some, Bool, true, false, refl, sym, ap, ◌∙◌, subst, arith, inl, inr}
 use Rattle.std.specs.Prelude.{map, ◌||◌, not}
 use Rattle.std.proofs.lemmas.Option.{same_Some}
 use Rattle.c_tree.specs.declared.expr.Expr.{Expr}
@@ -9,11 +9,10 @@ use Rattle.c_tree.specs.declared.expr.Declarator.{Declarator}
 use Rattle.c_lexer.specs.declared.token.Punctuator.TheVariants as mark
 use Rattle.c_grammar.specs.declared.declarator_place.DeclaratorPlace.{DeclaratorPlace}
 use Rattle.c_grammar.specs.declared.declarator_place.DeclaratorPlace.TheVariants as place
-use Rattle.c_grammar.specs.declared.type_words.TypeKind.{TypeKind}
 use Rattle.c_grammar.specs.TypeWords.{are_allowed, is_type}
 use Rattle.c_grammar.specs.Parts.{Part, holds, State, Spans, specifies_in}
 use Rattle.c_grammar.specs.Grammar.{form, specifier_of, type_name_of, specifiers_from, specification, highest_specifier, all_specified, takes_mark, takes_mark_at, is_named, Derives, DerivesSpecifier, DerivesDeclarator}
-use Rattle.c_grammar.specs.Reading.{Reading, Rules, ◌>>=◌, expect, kind_of, specifiers_at, specification_at, type_name_at, parenthesized_type_at}
+use Rattle.c_grammar.specs.Reading.{Rules, expect, kind_of, specifiers_at, specification_at, type_name_at, parenthesized_type_at}
 use Rattle.c_grammar.proofs.Spans.{join, bind_some, chosen, guarded, expects, expects_at}
 use Rattle.c_grammar.proofs.Equations.{type-name-is}
 

@@ -1,5 +1,5 @@
 -- What is read is derived.
-use Rattle.std.proofs.Common.{◌≡◌, ℕ, zero, suc}
+use Rattle.std.proofs.Common.{ℕ, zero, suc}
 use Rattle.c_grammar.specs.Reading.{Rules, nothing, next_rules, rules}
 use Rattle.c_grammar.proofs.IsSound.{IsSound}
 use Rattle.c_grammar.proofs.SoundExpr.{expr_takes}

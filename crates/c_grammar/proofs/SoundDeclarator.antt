@@ -1,16 +1,14 @@
 -- The declarators that are read are derived.
-use Rattle.std.proofs.Common.{◌≡◌, ◌≤◌, ℕ, zero, suc, List, [], ◌∷◌, ◌++◌, length, Option, Some, None, Bool, true, false, refl, sym, ap, ◌∙◌, subst, arith, rules, inl, inr, cond}
-use Rattle.std.specs.Prelude.{map, option_map, max, not, ◌&&◌, ◌||◌, nat_le}
+use Rattle.std.proofs.Common.{◌≡◌, ◌≤◌, ℕ, zero, suc, List, [], ◌∷◌, ◌++◌, length, Option, Some, None, Bool, true, false, refl, sym, ap, ◌∙◌, subst, arith, rules, inl, inr}
+use Rattle.std.specs.Prelude.{map, option_map, not, ◌&&◌, ◌||◌, nat_le}
 use Rattle.std.proofs.lemmas.Option.{same_Some}
 use Rattle.c_lexer.specs.declared.token.Token.{Token}
 use Rattle.c_lexer.specs.declared.token.TokenKind.{TokenKind}
 use Rattle.c_lexer.specs.declared.token.TokenKind.TheVariants as kind
 use Rattle.c_lexer.specs.declared.token.Keyword.{Keyword}
-use Rattle.c_lexer.specs.declared.token.Keyword.TheVariants as keyword
 use Rattle.c_lexer.specs.declared.token.Punctuator.TheVariants as mark
 use Rattle.c_tree.specs.declared.expr.Qualifier.{Qualifier}
 use Rattle.c_tree.specs.declared.expr.ArrayWord.{ArrayWord}
-use Rattle.c_tree.specs.declared.expr.ArrayWord.TheVariants as array_word
 use Rattle.c_tree.specs.declared.expr.Expr.{Expr}
 use Rattle.c_tree.specs.declared.expr.Parameter.{Parameter}
 use Rattle.c_tree.specs.declared.expr.Declarator.{Declarator, fold_out-Declarator}
@@ -19,10 +17,10 @@ use Rattle.c_tree.specs.declared.expr.Declarator.TheOpen as open_
 use Rattle.c_grammar.specs.declared.declarator_place.DeclaratorPlace.{DeclaratorPlace}
 use Rattle.c_grammar.specs.declared.declarator_place.DeclaratorPlace.TheVariants as place
 use Rattle.c_grammar.specs.Spelling.{qualifier_keyword, array_word_keyword}
-use Rattle.c_grammar.specs.Operators.{qualifier_of, array_qualifier, array_word_of}
-use Rattle.c_grammar.specs.Parts.{Name, Part, takes, takes_at, at_most, holds, declares, opens, closes, no_type, declared, entered, Scope, State, Takes, Spans, specifies_in}
-use Rattle.c_grammar.specs.Grammar.{Form, Shape, Piece, Specified, DeclaratorLayer, formed, spelled, field_piece, specified, enumerator_piece, member_piece, parameter_piece, type_name_piece, shape, form, parameter_of, takes_mark, takes_mark_at, later, listed, highest, of_rank, specification, all_specified, height_of, is_named, may_omit, qualifier_parts, array_word_parts, length_parts, variadic_parts, parameter_parts, group_parts, closing_parts, declaring, fits_place, DerivesDeclarator}
-use Rattle.c_grammar.specs.Reading.{Reading, Rules, ◌>>=◌, take_by, a_mark, expect, begins, begins_by, holds_some, specification_at, a_qualifier, an_array_word, run_at, pointer_at, length_at, array_at, with_name, parameter_at, more_parameters_at, parameters_at, closed_at, function_at, suffixed, suffix_by, suffix_in, suffixes_at, grouped_declarator_at, begins_parameters, omitted_at, named_declarator_at, direct_by, direct_in, suffixed_at, declarator_by}
+use Rattle.c_grammar.specs.Operators.{array_word_of}
+use Rattle.c_grammar.specs.Parts.{Name, Part, holds, opens, entered, Scope, State, Takes, Spans, specifies_in}
+use Rattle.c_grammar.specs.Grammar.{Form, Shape, Piece, Specified, DeclaratorLayer, formed, spelled, field_piece, specified, enumerator_piece, member_piece, parameter_piece, type_name_piece, shape, form, parameter_of, takes_mark, takes_mark_at, later, listed, highest, specification, all_specified, height_of, may_omit, qualifier_parts, array_word_parts, length_parts, variadic_parts, parameter_parts, group_parts, closing_parts, declaring, fits_place, DerivesDeclarator}
+use Rattle.c_grammar.specs.Reading.{Rules, take_by, a_mark, expect, begins, begins_by, holds_some, specification_at, a_qualifier, an_array_word, run_at, pointer_at, length_at, array_at, with_name, parameter_at, more_parameters_at, parameters_at, closed_at, function_at, suffixed, suffix_by, suffix_in, suffixes_at, grouped_declarator_at, begins_parameters, omitted_at, named_declarator_at, direct_by, direct_in, suffixed_at, declarator_by}
 use Rattle.c_grammar.proofs.Spans.{join, bind_some, chosen, guarded, both, nat_le_true, first_taken, take_at, expects, expects_at, run_takes}
 use Rattle.c_grammar.proofs.IsSound.{IsSound, specification_takes}
 use Rattle.c_grammar.proofs.SoundSpecifier.{qualifier_is}

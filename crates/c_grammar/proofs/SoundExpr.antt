@@ -1,6 +1,6 @@
 -- The expressions that are read are derived.
-use Rattle.std.proofs.Common.{◌≡◌, ◌≤◌, ◌<◌, ℕ, zero, suc, pred, List, [], ◌∷◌, ◌++◌, length, Option, Some, None, Bool, true, false, refl, sym, ap, ◌∙◌, subst, arith, rules, inl, inr, cond}
-use Rattle.std.specs.Prelude.{map, max, nat_eq, nat_le}
+use Rattle.std.proofs.Common.{◌≡◌, ◌≤◌, ◌<◌, ℕ, zero, suc, pred, List, [], ◌∷◌, ◌++◌, length, Option, Some, None, false, refl, sym, ap, ◌∙◌, subst, arith, rules, inl, inr}
+use Rattle.std.specs.Prelude.{map, nat_eq, nat_le}
 use Rattle.std.proofs.lemmas.Option.{same_Some}
 use Rattle.c_lexer.specs.declared.token.Token.{Token}
 use Rattle.c_lexer.specs.declared.token.TokenKind.{TokenKind}
@@ -15,15 +15,14 @@ use Rattle.c_tree.specs.declared.expr.PostfixOperator.TheVariants as postfix
 use Rattle.c_tree.specs.declared.expr.BinaryOperator.{BinaryOperator}
 use Rattle.c_tree.specs.declared.expr.Expr.{Expr}
 use Rattle.c_tree.specs.declared.expr.Expr.TheVariants as expr
-use Rattle.c_tree.specs.declared.expr.TypeName.{TypeName}
 use Rattle.c_grammar.specs.declared.operators.Infix.{Infix}
 use Rattle.c_grammar.specs.declared.operators.Infix.TheVariants as between
 use Rattle.c_grammar.specs.Spelling.{unary_mark, operand_rank, postfix_mark, binary_mark, rank_of, assign_mark}
-use Rattle.c_grammar.specs.Operators.{unary_of, infix_of, infix_rank, binding_of}
-use Rattle.c_grammar.specs.Parts.{Name, Part, takes, takes_at, at_most, holds, Scope, State, Takes, Spans, is_typedef}
-use Rattle.c_grammar.specs.Grammar.{Piece, shape, type_name_of, takes_mark, takes_mark_at, takes_keyword_at, piece_of_rank, of_rank, later, listed, highest, highest_shape, argument_parts, more_literals, literal_parts, assign_parts, in_parens, Derives}
-use Rattle.c_grammar.specs.Reading.{Reading, Rules, ◌>>=◌, take_by, a_literal, a_unary, begins, begins_by, begins_keyword, expect, expect_keyword, name_at, run_at, binding, binds_in, binds, more_arguments_at, arguments_at, subscript_at, call_at, member_of_at, arrow_at, conditional_at, assign_at, binary_at, comma_at, infix_at, extend_by, extend_with, extend_in, more_at, looped, parenthesized_at, identifier_at, literal_at, primary_by, primary_in, typed_in, parenthesized_type_at, sizeof_at, sized_at, unary_at, cast_at, expr_by}
-use Rattle.c_grammar.proofs.Spans.{join, bind_some, chosen, guarded, nat_le_true, nat_eq_true, first_taken, taken_as, Took, took, take, take_at, expected, expects, expects_at, expected_keyword, expects_name, SpelledBy, run_takes}
+use Rattle.c_grammar.specs.Operators.{infix_of, infix_rank, binding_of}
+use Rattle.c_grammar.specs.Parts.{Name, Part, takes, takes_at, holds, Scope, State, Takes, Spans, is_typedef}
+use Rattle.c_grammar.specs.Grammar.{Piece, shape, type_name_of, takes_mark, takes_mark_at, piece_of_rank, of_rank, later, highest, highest_shape, argument_parts, more_literals, assign_parts, in_parens, Derives}
+use Rattle.c_grammar.specs.Reading.{Reading, Rules, take_by, a_literal, a_unary, begins, begins_by, begins_keyword, expect, expect_keyword, name_at, run_at, binding, binds_in, binds, more_arguments_at, arguments_at, subscript_at, call_at, member_of_at, arrow_at, conditional_at, assign_at, binary_at, comma_at, infix_at, extend_by, extend_with, extend_in, more_at, looped, parenthesized_at, identifier_at, literal_at, primary_by, primary_in, typed_in, parenthesized_type_at, sizeof_at, sized_at, unary_at, cast_at, expr_by}
+use Rattle.c_grammar.proofs.Spans.{join, bind_some, chosen, guarded, nat_le_true, nat_eq_true, first_taken, taken_as, took, take_at, expects, expected_keyword, expects_name, run_takes}
 use Rattle.c_grammar.proofs.IsSound.{IsSound, type_in_parens}
 use Rattle.c_grammar.proofs.Equations.{shape-Integer, shape-Floating, shape-Character, shape-StringLiteral, shape-FunctionName, shape-Identifier, shape-Parenthesized, shape-Subscript, shape-Call, shape-Member, shape-Arrow, shape-Postfix, shape-Unary, shape-SizeofExpr, shape-SizeofType, shape-Cast, shape-Binary, shape-Conditional, shape-Assign, shape-Comma}
 

@@ -1,6 +1,6 @@
 -- The specifiers that are read are derived.
-use Rattle.std.proofs.Common.{◌≡◌, ◌≤◌, ℕ, zero, suc, List, [], ◌∷◌, ◌++◌, length, Option, Some, None, Bool, true, false, refl, sym, ap, ◌∙◌, subst, arith, rules, inl, inr, cond}
-use Rattle.std.specs.Prelude.{map, option_map, max, not, ◌&&◌}
+use Rattle.std.proofs.Common.{◌≡◌, ◌≤◌, ℕ, zero, suc, List, [], ◌∷◌, ◌++◌, length, Option, Some, None, Bool, true, false, refl, sym, ap, subst, arith, rules, inl, inr}
+use Rattle.std.specs.Prelude.{map, option_map, not}
 use Rattle.std.proofs.lemmas.Option.{same_Some}
 use denote.Enum.Bare.{same_true, sameb}
 use Rattle.c_lexer.specs.contracts.token.Keyword.{the_type as keyword_type}
@@ -25,9 +25,9 @@ use Rattle.c_tree.specs.declared.expr.Declarator.{Declarator}
 use Rattle.c_grammar.specs.declared.declarator_place.DeclaratorPlace.TheVariants as place
 use Rattle.c_grammar.specs.Spelling.{class_keyword, qualifier_keyword, word_keyword, aggregate_keyword}
 use Rattle.c_grammar.specs.Operators.{aggregate_of, class_of, qualifier_of, type_word_of, type_specifier, qualified, stored, word_specifier}
-use Rattle.c_grammar.specs.Parts.{Name, Part, takes, takes_at, holds, declares, declared, Scope, State, Takes, Spans, is_typedef, specifies_by, specifies_in}
-use Rattle.c_grammar.specs.Grammar.{shape, form, specifier_of, field_of, enumerator_of, member_of, takes_mark, takes_mark_at, takes_keyword_at, joined, later, listed, highest, comma_if, of_rank, specification, highest_specifier, all_specified, tag_parts, braced, value_parts, height_of, is_named, field_name_parts, form_height, fields_parts, DerivesSpecifier}
-use Rattle.c_grammar.specs.Reading.{Reading, Rules, ◌>>=◌, expect, name_at, begins, specification_at, value_at, enumerator_at, more_enumerators_at, enumeration_at, enum_at, bits_at, field_at, more_fields_at, fields_at, member_at, members_at, aggregate_at, tagged_at, keyword_specifier, specifier_by, specifier_in}
+use Rattle.c_grammar.specs.Parts.{Name, Part, takes, declares, declared, Scope, State, Takes, Spans, is_typedef, specifies_by, specifies_in}
+use Rattle.c_grammar.specs.Grammar.{shape, form, specifier_of, field_of, enumerator_of, member_of, takes_mark, takes_mark_at, takes_keyword_at, joined, later, listed, highest, comma_if, of_rank, specification, all_specified, tag_parts, braced, value_parts, height_of, field_name_parts, form_height, fields_parts, DerivesSpecifier}
+use Rattle.c_grammar.specs.Reading.{Rules, ◌>>=◌, expect, name_at, begins, specification_at, value_at, enumerator_at, more_enumerators_at, enumeration_at, enum_at, bits_at, field_at, more_fields_at, fields_at, member_at, members_at, aggregate_at, tagged_at, keyword_specifier, specifier_by, specifier_in}
 use Rattle.c_grammar.proofs.Spans.{join, bind_some, chosen, both, first_taken, taken_as, take_at, expects, expects_at, expects_name, expects_name_at}
 use Rattle.c_grammar.proofs.IsSound.{IsSound, specification_takes}
 use Rattle.c_grammar.proofs.Equations.{specifier-Storage, specifier-Qualifier, specifier-Inline, specifier-Word, specifier-Typedef, specifier-Tag, specifier-Aggregate, specifier-EnumTag, specifier-Enumeration, field-Plain, field-Bits, enumerator-is, member-is}
