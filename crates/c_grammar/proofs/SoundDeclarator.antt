@@ -221,7 +221,8 @@ module _ (below : ℕ) (r : Rules) (sound : IsSound below r) where
                   let m = more_parameters_take n b.0.1 c.0.1 c.0.0 c.1 in
                   let list = later (map parameter_of c.0.0.0) in
                   let y = expects mark.Comma ((parameter_of b.0.0).parts ++ list) s m.mid a.0 a.1 (join (parameter_of b.0.0).parts list a.0.2 b.0.1 m.mid d.0 m.spans) in
-                  subst P (same_Some ((b.0.0 ∷ c.0.0.0, c.0.0.1), c.0.1) (x, z) c.2) (record { mid = m.mid; spans = y; ends = m.ends; is_low = omega (arith, d.1, m.is_low) })
+                  let found : (List Parameter × Bool) × State = ((b.0.0 ∷ c.0.0.0, c.0.0.1), c.0.1) in
+                  subst P {x = found} (same_Some found (x, z) c.2) (record { mid = m.mid; spans = y; ends = m.ends; is_low = omega (arith, d.1, m.is_low) })
             ]
         | inr p ↦ subst P (same_Some (([], false), s) (x, z) p.1) (record { mid = s; spans = refl; ends = refl; is_low = omega arith })
       ]
@@ -239,7 +240,8 @@ module _ (below : ℕ) (r : Rules) (sound : IsSound below r) where
             let m = more_parameters_take (suc (length b.0.1.0)) b.0.1 c.0.1 c.0.0 c.1 in
             let list = listed (map parameter_of (b.0.0 ∷ c.0.0.0)) in
             let l = join (parameter_of b.0.0).parts (later (map parameter_of c.0.0.0)) s b.0.1 m.mid d.0 m.spans in
-            subst P (same_Some ((b.0.0 ∷ c.0.0.0, c.0.0.1), c.0.1) (x, z) c.2) (join list (variadic_parts c.0.0.1) s m.mid c.0.1 l m.ends, omega (arith, d.1, m.is_low))
+            let found : (List Parameter × Bool) × State = ((b.0.0 ∷ c.0.0.0, c.0.0.1), c.0.1) in
+            subst P {x = found} (same_Some found (x, z) c.2) (join list (variadic_parts c.0.0.1) s m.mid c.0.1 l m.ends, omega (arith, d.1, m.is_low))
       ]
 
   function_takes : (where_ : DeclaratorPlace) (s mid m z : State) (result d : Declarator) (at : ℕ) → Suffixable (suc below) where_ s result mid → Takes at (kind.Punctuator mark.LeftParen) mid.0 m.0 → mid.1 ≡ m.1 → function_at r where_ at result m ≡ Some (d, z) → Grown where_ s d z

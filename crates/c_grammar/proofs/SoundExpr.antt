@@ -168,7 +168,8 @@ module _ (below : ℕ) (r : Rules) (sound : IsSound below r) where
       let d' = expr_read 14 b.0.2 c.0 c.1 in
       let rest = takes_mark mark.Colon ∷ (shape c.0.0).parts in
       let x = join (shape a.0.0).parts rest m a.0.1 c.0.1 d.spans (expects mark.Colon (shape c.0.0).parts a.0.1 c.0.1 b.0 b.1 d'.spans) in
-      subst (λ (p : Expr × State). Grown 14 s p.0 p.1) (same_Some (expr.Conditional at left' a.0.0 c.0.0, c.0.1) (e, z) c.2)
+      let found : Expr × State = (expr.Conditional at left' a.0.0 c.0.0, c.0.1) in
+      subst (λ (p : Expr × State). Grown 14 s p.0 p.1) {x = found} (same_Some found (e, z) c.2)
       (record { spans = rw shape-Conditional (nat_le_true _ _ q.0, (d'.fits, front s left' at (kind.Punctuator mark.Question) m c.0.1 ((shape a.0.0).parts ++ rest) f x)); is = rw shape-Conditional refl })
 
   assign_takes : (s m z : State) (left' e : Expr) (at : ℕ) (n : Punctuator) (operator : Option BinaryOperator) → assign_mark operator ≡ Some n → Front s left' at (kind.Punctuator n) m → assign_at r at operator left' m ≡ Some (e, z) → Grown 15 s e z

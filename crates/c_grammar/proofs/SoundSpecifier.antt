@@ -134,7 +134,8 @@ module _ (below : ℕ) (r : Rules) (sound : IsSound below r) where
                   let m = more_enumerators_take n b.0.1 c.0.1 c.0.0 c.1 in
                   let list = later (map enumerator_of c.0.0.0) in
                   let y = expects mark.Comma ((enumerator_of b.0.0).parts ++ list) s m.mid a.0 a.1 (join (enumerator_of b.0.0).parts list a.0.2 b.0.1 m.mid d.0 m.spans) in
-                  subst P (same_Some ((b.0.0 ∷ c.0.0.0, c.0.0.1), c.0.1) (x, z) c.2) (record { mid = m.mid; spans = y; ends = m.ends; is_low = omega (arith, d.1, m.is_low) })
+                  let found : (List Enumerator × Bool) × State = ((b.0.0 ∷ c.0.0.0, c.0.0.1), c.0.1) in
+                  subst P {x = found} (same_Some found (x, z) c.2) (record { mid = m.mid; spans = y; ends = m.ends; is_low = omega (arith, d.1, m.is_low) })
             ]
         | inr p ↦ subst P (same_Some (([], false), s) (x, z) p.1) (record { mid = s; spans = refl; ends = refl; is_low = omega arith })
       ]
@@ -156,7 +157,7 @@ module _ (below : ℕ) (r : Rules) (sound : IsSound below r) where
       let a = bind_some (expect mark.LeftBrace s) _ _ h in
       let b = bind_some (enumerator_at r a.0.2) _ _ a.2 in
       let c = bind_some (more_enumerators_at r (suc (length b.0.1.0)) b.0.1) _ _ b.2 in
-      let e = bind_some (expect mark.RightBrace c.0.1) _ _ c.2 in
+      let e = bind_some (expect mark.RightBrace c.0.1) (λ end. Some (specifier.Enumeration at tag (b.0.0 ∷ c.0.0.0) c.0.0.1, end.2)) (x, z) c.2 in
       let d = enumerator_takes a.0.2 b.0.1 b.0.0 b.1 in
       let m = more_enumerators_take (suc (length b.0.1.0)) b.0.1 c.0.1 c.0.0 c.1 in
       let xs = b.0.0 ∷ c.0.0.0 in
@@ -165,7 +166,8 @@ module _ (below : ℕ) (r : Rules) (sound : IsSound below r) where
       let l' = join list (comma_if c.0.0.1) a.0.2 m.mid c.0.1 l m.ends in
       let y = join (enumerators_parts xs c.0.0.1) (takes_mark mark.RightBrace ∷ []) a.0.2 c.0.1 e.0.2 l' (expects mark.RightBrace [] c.0.1 e.0.2 e.0 e.1 refl) in
       let w = expects mark.LeftBrace (enumerators_parts xs c.0.0.1 ++ takes_mark mark.RightBrace ∷ []) s e.0.2 a.0 a.1 y in
-      subst (λ (p : Specifier × State). Enumerates at tag s p.0 p.1) (same_Some (specifier.Enumeration at tag xs c.0.0.1, e.0.2) (x, z) e.2)
+      let found : Specifier × State = (specifier.Enumeration at tag xs c.0.0.1, e.0.2) in
+      subst (λ (p : Specifier × State). Enumerates at tag s p.0 p.1) {x = found} (same_Some found (x, z) e.2)
       (record { xs = xs; trailing = c.0.0.1; is = refl; spans = w; is_low = omega (arith, d.1, m.is_low) })
 
   enum_with : (typed : Bool) (s m m' z : State) (at : ℕ) (tag : Option Name) (x : Specifier) → Takes at (kind.Keyword keyword.Enum) s.0 m.0 → s.1 ≡ m.1 → Spans (tag_parts tag) m m' → Enumerates at tag m' x z → DerivesSpecifier (suc below) typed s x z
