@@ -5,3 +5,4 @@ pub mod Induction
 pub mod Reach
 pub mod Read
 pub mod Spans
+pub mod SpecifiersComplete

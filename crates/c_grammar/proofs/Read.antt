@@ -124,8 +124,15 @@ TypeNameRead x = (below : ℕ) (s z : State) → Spans (type_name_of x).parts s 
 abbrev pub ParameterRead : Parameter → Type 0
 ParameterRead x = (below : ℕ) (s z : State) → Spans (parameter_of x).parts s z → (parameter_of x).height ≤ below → Ended z → parameter_at (rules below) s ≡ Some (x, z)
 
-abbrev pub FieldRead : Field → Type 0
-FieldRead x = (below : ℕ) (s z : State) → Spans (field_of x).parts s z → (field_of x).height ≤ below → FieldEnded z → field_at (rules below) s ≡ Some (x, z)
+-- how a member's declarator or width begins
+pub record FieldStart (s : State) : Type 0 where
+  pub no_type : specifies_in true s.0 s.1 ≡ false
+  pub no_brace : begins mark.LeftBrace s ≡ false
+  pub no_semicolon : begins mark.Semicolon s ≡ false
+
+pub record FieldRead (x : Field) : Type 0 where
+  pub starts : (s z : State) → Spans (field_of x).parts s z → FieldStart s
+  pub reads : (below : ℕ) (s z : State) → Spans (field_of x).parts s z → (field_of x).height ≤ below → FieldEnded z → field_at (rules below) s ≡ Some (x, z)
 
 abbrev pub EnumeratorRead : Enumerator → Type 0
 EnumeratorRead x = (below : ℕ) (s z : State) → Spans (enumerator_of x).parts s z → (enumerator_of x).height ≤ below → EnumeratorEnded z → enumerator_at (rules below) s ≡ Some (x, z)
