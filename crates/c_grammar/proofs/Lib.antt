@@ -1,4 +1,6 @@
 pub mod Begins
+pub mod Complete
+pub mod DeclaratorsComplete
 pub mod Equations
 pub mod ExprsComplete
 pub mod Induction
