@@ -36,7 +36,7 @@ use Rattle.c_grammar.specs.Reading.{Rules, rules, ◌>>=◌, a_mark, begins_by, 
 use Rattle.c_grammar.proofs.Spans.{join, split, no_more, one_less}
 use Rattle.c_grammar.proofs.Induction.{Each, Maybe}
 use Rattle.c_grammar.proofs.Equations.{specifier-Storage, specifier-Qualifier, specifier-Inline, specifier-Word, specifier-Typedef, specifier-Tag, specifier-Aggregate, specifier-EnumTag, specifier-Enumeration, field-Plain, field-Bits, enumerator-is, member-is}
-use Rattle.c_grammar.proofs.Begins.{token, taken, stands, heads, declares_in, NoSpecifier, no_specifier, specifies, specified_mark, specification_begins}
+use Rattle.c_grammar.proofs.Begins.{token, taken, declares_in, named_declares, no_specifier, specifies, specified_mark, specification_begins}
 use Rattle.c_grammar.proofs.Reach.{ExprRead, inner}
 use Rattle.c_grammar.proofs.Read.{FieldEnded, EnumeratorEnded, SpecifierRead, inner_specifier, DeclaratorRead, inner_declarator, FieldStart, FieldRead, EnumeratorRead, MemberRead, member_begins}
 
@@ -250,14 +250,6 @@ enumeration_read at (Some tag) xs trailing each below typed s z = rw specifier-E
     rw (taken x.1, taken y.2, begun, read) refl)
 
 -- ---- structures and unions (C99 6.7.2.1)
-
--- a declarator with a name begins with a token of its own
-pub named_declares : (d : Declarator) (where_ : DeclaratorPlace) (s z : State) → Spans ((form d).parts where_) s z → is_named (form d) ≡ true → declares_in s.0 ≡ true
-named_declares d where_ s z x h =
-    elim ((heads d).any where_ s z x) [
-      | inl b ↦ b
-      | inr o ↦ let present = (stands d).present h in let omitted = o.0 in cc
-    ]
 
 declarator_starts : (s : State) → declares_in s.0 ≡ true → FieldStart s
 declarator_starts s h = let n = no_specifier s.0 h in record { no_type = n.typed s.1; no_brace = n.brace; no_semicolon = n.semicolon }
