@@ -1,6 +1,6 @@
 -- How trees begin.
-use Rattle.std.proofs.Common.{◌≡◌, ◌≤◌, ◌<◌, ℕ, zero, suc, List, [], ◌∷◌, ◌++◌, length, Option, Some, None, Bool, true, false, refl, sym, ap, ◌∙◌, subst, arith, rules, ◌⊎◌, inl, inr, cond}
-use Rattle.std.specs.Prelude.{map, ◌||◌, not, max, ◌&&◌}
+use Rattle.std.proofs.Common.{◌≡◌, ◌≤◌, ◌<◌, ℕ, List, [], ◌∷◌, ◌++◌, length, Option, Some, None, Bool, true, false, refl, sym, ap, ◌∙◌, subst, arith, rules, ◌⊎◌, inl, inr}
+use Rattle.std.specs.Prelude.{map, ◌||◌, not, ◌&&◌}
 use Rattle.c_lexer.specs.declared.token.Token.{Token}
 use Rattle.c_lexer.specs.declared.token.TokenKind.{TokenKind}
 use Rattle.c_lexer.specs.declared.token.TokenKind.TheVariants as kind
@@ -19,17 +19,14 @@ use Rattle.c_tree.specs.declared.expr.Qualifier.{Qualifier}
 use Rattle.c_tree.specs.declared.expr.TypeWord.{TypeWord}
 use Rattle.c_tree.specs.declared.expr.AggregateKind.{AggregateKind}
 use Rattle.c_tree.specs.declared.expr.Expr.{Expr}
-use Rattle.c_tree.specs.declared.expr.Expr.TheVariants as expr
 use Rattle.c_tree.specs.declared.expr.Specifier.{Specifier}
 use Rattle.c_tree.specs.declared.expr.Declarator.{Declarator}
-use Rattle.c_tree.specs.declared.expr.Declarator.TheVariants as declarator
 use Rattle.c_grammar.specs.declared.declarator_place.DeclaratorPlace.{DeclaratorPlace}
-use Rattle.c_grammar.specs.declared.declarator_place.DeclaratorPlace.TheVariants as place
-use Rattle.c_grammar.specs.Parts.{Name, Part, takes, takes_at, at_most, holds, typedef_name, ordinary, opens, no_type, Scope, State, Takes, Spans, is_typedef, begins_type, specifies_by, specifies_in}
-use Rattle.c_grammar.specs.Spelling.{unary_mark, postfix_mark, binary_mark, rank_of, assign_mark, class_keyword, qualifier_keyword, word_keyword, aggregate_keyword}
+use Rattle.c_grammar.specs.Parts.{Name, Part, takes, takes_at, holds, typedef_name, Scope, State, Takes, Spans, is_typedef, begins_type, specifies_by, specifies_in}
+use Rattle.c_grammar.specs.Spelling.{unary_mark, postfix_mark, binary_mark, rank_of, class_keyword, qualifier_keyword, word_keyword, aggregate_keyword}
 use Rattle.c_grammar.specs.TypeWords.{is_type}
-use Rattle.c_grammar.specs.Grammar.{Shape, shape, Form, form, Specified, specifier_of, is_named, assign_parts, literal_parts, specification, specifiers_from, all_specified, tag_parts, braced, joined, listed, comma_if, member_of, enumerator_of}
-use Rattle.c_grammar.specs.Reading.{a_mark, a_keyword, a_unary, begins_by, begins_keyword, begins, typed_in}
+use Rattle.c_grammar.specs.Grammar.{shape, Form, form, specifier_of, is_named, assign_parts, literal_parts, specification, specifiers_from, all_specified, tag_parts, braced, joined, listed, comma_if, member_of, enumerator_of}
+use Rattle.c_grammar.specs.Reading.{a_mark, a_keyword, a_unary, begins_by, begins_keyword, typed_in}
 use Rattle.c_grammar.proofs.Spans.{split, no_more, one_less, mark_is}
 use Rattle.c_grammar.proofs.Induction.{Steps, of_expr, of_specifier, of_declarator}
 use Rattle.c_grammar.proofs.Equations.{shape-Integer, shape-Floating, shape-Character, shape-StringLiteral, shape-FunctionName, shape-Identifier, shape-Parenthesized, shape-Subscript, shape-Call, shape-Member, shape-Arrow, shape-Postfix, shape-Unary, shape-SizeofExpr, shape-SizeofType, shape-Cast, shape-Binary, shape-Conditional, shape-Assign, shape-Comma, form-Name, form-Omitted, form-Grouped, form-Pointer, form-Array, form-Function, specifier-Storage, specifier-Qualifier, specifier-Inline, specifier-Word, specifier-Typedef, specifier-Tag, specifier-Aggregate, specifier-EnumTag, specifier-Enumeration}

@@ -1,11 +1,10 @@
 -- What the grammar derives is read: expressions, declaration specifiers and declarators.
-use Rattle.std.proofs.Common.{◌≡◌, ◌≤◌, ◌<◌, ℕ, List, [], ◌∷◌, Option, Some, Bool, true, false}
+use Rattle.std.proofs.Common.{◌≡◌, ◌≤◌, ◌<◌, ℕ, List, [], ◌∷◌, Some, Bool, true, false}
 use Rattle.c_lexer.specs.declared.token.Punctuator.TheVariants as mark
 use Rattle.c_tree.specs.declared.expr.Expr.{Expr}
 use Rattle.c_tree.specs.declared.expr.Specifier.{Specifier}
 use Rattle.c_tree.specs.declared.expr.Declarator.{Declarator}
 use Rattle.c_tree.specs.declared.expr.TypeName.{TypeName}
-use Rattle.c_tree.specs.declared.expr.Parameter.{Parameter}
 use Rattle.c_grammar.specs.declared.declarator_place.DeclaratorPlace.{DeclaratorPlace}
 use Rattle.c_grammar.specs.Parts.{State, Spans, specifies_in}
 use Rattle.c_grammar.specs.Grammar.{Derives, DerivesSpecifier, DerivesDeclarator, all_specified, specification, highest_specifier, ended_in, type_name_of}
@@ -13,7 +12,7 @@ use Rattle.c_grammar.specs.Reading.{rules, begins, binds, specification_at, type
 use Rattle.c_grammar.proofs.Induction.{Each, Steps, of_expr, of_specifier, of_declarator, of_type_name}
 use Rattle.c_grammar.proofs.Begins.{specifies}
 use Rattle.c_grammar.proofs.Reach.{ExprRead, read_from, inner}
-use Rattle.c_grammar.proofs.Read.{SpecifierRead, inner_specifier, DeclaratorRead, inner_declarator, FieldRead, EnumeratorRead, MemberRead, ParameterRead, TypeNameRead, Ended}
+use Rattle.c_grammar.proofs.Read.{SpecifierRead, inner_specifier, DeclaratorRead, inner_declarator, FieldRead, EnumeratorRead, MemberRead, ParameterRead, TypeNameRead}
 use Rattle.c_grammar.proofs.ExprsComplete.{integer_base, floating_base, character_base, function_name_base, identifier_base, literal_base, parenthesized_base, subscript_base, call_base, member_base, arrow_base, postfix_base, unary_base, sizeof_expr_base, sizeof_type_base, cast_base, binary_base, conditional_base, assign_base, comma_base}
 use Rattle.c_grammar.proofs.SpecifiersComplete.{specification_read, storage_read, qualifier_read, inline_read, word_read, typedef_read, tag_read, enum_tag_read, enumerator_read, enumeration_read, plain_read, bits_read, member_read, aggregate_read}
 use Rattle.c_grammar.proofs.DeclaratorsComplete.{name_base, omitted_base, grouped_base, pointer_base, array_base, function_base, parameter_read, type_name_read}

@@ -1,11 +1,10 @@
 -- What the grammar derives is read: declarators, parameters and type names (C99 6.7.5, 6.7.6).
-use Rattle.std.proofs.Common.{◌≡◌, ◌≤◌, ◌<◌, ℕ, zero, suc, List, [], ◌∷◌, ◌++◌, length, Option, Some, None, Bool, true, false, refl, sym, ap, ◌∙◌, subst, arith, cond, ◌⊎◌, inl, inr}
-use Rattle.std.specs.Prelude.{map, max, option_map, ◌||◌, ◌&&◌, not}
+use Rattle.std.proofs.Common.{◌≡◌, ◌≤◌, ◌<◌, ℕ, zero, suc, List, [], ◌∷◌, ◌++◌, length, Option, Some, None, Bool, true, false, refl, sym, ap, ◌∙◌, subst, arith, ◌⊎◌, inl, inr}
+use Rattle.std.specs.Prelude.{map, option_map, ◌||◌, ◌&&◌, not}
 use Rattle.c_lexer.specs.declared.token.Token.{Token}
 use Rattle.c_lexer.specs.declared.token.TokenKind.{TokenKind}
 use Rattle.c_lexer.specs.declared.token.TokenKind.TheVariants as kind
 use Rattle.c_lexer.specs.declared.token.Keyword.TheVariants as keyword
-use Rattle.c_lexer.specs.declared.token.Punctuator.{Punctuator}
 use Rattle.c_lexer.specs.declared.token.Punctuator.TheVariants as mark
 use Rattle.c_tree.specs.declared.expr.Qualifier.{Qualifier}
 use Rattle.c_tree.specs.declared.expr.Qualifier.TheVariants as qualifier
@@ -19,11 +18,11 @@ use Rattle.c_tree.specs.declared.expr.Parameter.{Parameter}
 use Rattle.c_tree.specs.declared.expr.Declarator.TheOpen as open_
 use Rattle.c_grammar.specs.declared.declarator_place.DeclaratorPlace.{DeclaratorPlace}
 use Rattle.c_grammar.specs.declared.declarator_place.DeclaratorPlace.TheVariants as place
-use Rattle.c_grammar.specs.Parts.{Name, Part, takes, takes_at, holds, declares, opens, closes, keeps, Scope, State, Takes, Spans, is_typedef, specifies_by, specifies_in, declared, entered, left, left_keeping}
+use Rattle.c_grammar.specs.Parts.{Name, Part, holds, opens, Scope, State, Takes, Spans, is_typedef, specifies_by, specifies_in, entered}
 use Rattle.c_grammar.specs.Spelling.{qualifier_keyword, array_word_keyword}
 use Rattle.c_grammar.specs.Operators.{qualifier_of, array_word_of}
-use Rattle.c_grammar.specs.Grammar.{Shape, shape, Form, form, formed, Piece, parameter_of, type_name_of, is_named, may_omit, fits_place, ends_declarator, ended_in, takes_mark, takes_mark_at, later, listed, highest, keyword_parts, qualifier_parts, array_word_parts, length_parts, height_of, variadic_parts, parameter_parts, group_parts, closing_parts, declaring, specification, all_specified, highest_specifier}
-use Rattle.c_grammar.specs.Reading.{Rules, rules, ◌>>=◌, a_mark, begins_by, begins, expect, take_by, run_at, binds, a_qualifier, an_array_word, pointer_at, length_at, array_at, with_name, parameter_at, more_parameters_at, parameters_at, closed_at, function_at, suffixed, suffix_by, suffix_in, suffixes_at, grouped_declarator_at, begins_parameters, omitted_at, named_declarator_at, direct_by, direct_in, suffixed_at, declarator_by, specification_at, type_name_at}
+use Rattle.c_grammar.specs.Grammar.{shape, Form, form, formed, parameter_of, is_named, may_omit, fits_place, ends_declarator, ended_in, takes_mark, later, highest, qualifier_parts, array_word_parts, length_parts, height_of, variadic_parts, parameter_parts, group_parts, closing_parts, declaring, specification, all_specified}
+use Rattle.c_grammar.specs.Reading.{Rules, rules, a_mark, begins_by, begins, a_qualifier, an_array_word, pointer_at, length_at, array_at, with_name, parameter_at, more_parameters_at, parameters_at, closed_at, function_at, suffixed, suffix_in, suffixes_at, grouped_declarator_at, begins_parameters, named_declarator_at, direct_by, direct_in, suffixed_at, declarator_by, type_name_at}
 use Rattle.c_grammar.proofs.Spans.{join, split, no_more, one_less}
 use Rattle.c_grammar.proofs.Induction.{Each, Maybe}
 use Rattle.c_grammar.proofs.Equations.{form-Name, form-Omitted, form-Grouped, form-Pointer, form-Array, form-Function, parameter-is, type-name-is}

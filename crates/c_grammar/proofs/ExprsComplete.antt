@@ -1,12 +1,11 @@
 -- What the grammar derives is read: each kind of expression (C99 6.5).
-use Rattle.std.proofs.Common.{◌≡◌, ◌≤◌, ◌<◌, ℕ, ℤ, zero, suc, pred, List, [], ◌∷◌, ◌++◌, length, Option, Some, None, Bool, true, false, refl, sym, ap, ◌∙◌, subst, arith, cond, ◌⊎◌, inl, inr}
-use Rattle.std.specs.Prelude.{map, max, nat_le}
+use Rattle.std.proofs.Common.{◌≡◌, ◌≤◌, ◌<◌, ℕ, ℤ, zero, suc, pred, List, [], ◌∷◌, ◌++◌, length, Option, Some, None, true, false, refl, ap, ◌∙◌, subst, arith}
+use Rattle.std.specs.Prelude.{map}
 use Rattle.std.proofs.lemmas.Option.{same_Some}
 use Rattle.c_lexer.specs.declared.token.IntegerConstant.{IntegerConstant}
 use Rattle.c_lexer.specs.declared.token.Token.{Token}
 use Rattle.c_lexer.specs.declared.token.TokenKind.{TokenKind}
 use Rattle.c_lexer.specs.declared.token.TokenKind.TheVariants as kind
-use Rattle.c_lexer.specs.declared.token.Keyword.TheVariants as keyword
 use Rattle.c_lexer.specs.declared.token.Punctuator.{Punctuator}
 use Rattle.c_lexer.specs.declared.token.Punctuator.TheVariants as mark
 use Rattle.c_tree.specs.declared.expr.UnaryOperator.{UnaryOperator}
@@ -18,18 +17,16 @@ use Rattle.c_tree.specs.declared.expr.BinaryOperator.TheVariants as binary
 use Rattle.c_tree.specs.declared.expr.Expr.{Expr}
 use Rattle.c_tree.specs.declared.expr.Expr.TheVariants as expr
 use Rattle.c_tree.specs.declared.expr.TypeName.{TypeName}
-use Rattle.c_grammar.specs.declared.operators.Infix.{Infix}
-use Rattle.c_grammar.specs.declared.operators.Infix.TheVariants as between
-use Rattle.c_grammar.specs.Parts.{Name, Part, takes, takes_at, holds, Scope, State, Takes, Spans, specifies_in}
+use Rattle.c_grammar.specs.Parts.{Name, Part, takes, holds, Scope, State, Takes, Spans}
 use Rattle.c_grammar.specs.Spelling.{unary_mark, operand_rank, postfix_mark, binary_mark, rank_of, assign_mark}
-use Rattle.c_grammar.specs.Operators.{unary_of, infix_of, binding_of, infix_rank}
-use Rattle.c_grammar.specs.Grammar.{Shape, shape, Piece, type_name_of, takes_mark, takes_mark_at, later, listed, highest, piece_of_rank, argument_parts, highest_shape, more_literals, literal_parts, assign_parts}
-use Rattle.c_grammar.specs.Reading.{Rules, rules, ◌>>=◌, expr_by, looped, more_at, extend_by, extend_with, extend_in, infix_at, a_mark, a_unary, a_literal, begins_by, begins_keyword, begins, expect, take_by, run_at, typed_in, binds, binds_in, binding, more_arguments_at, arguments_at, subscript_at, call_at, member_of_at, arrow_at, conditional_at, assign_at, binary_at, comma_at, parenthesized_at, identifier_at, literal_at, primary_by, primary_in, parenthesized_type_at, sizeof_at, sized_at, unary_at, cast_at}
+use Rattle.c_grammar.specs.Operators.{unary_of, binding_of}
+use Rattle.c_grammar.specs.Grammar.{shape, Piece, type_name_of, takes_mark, takes_mark_at, later, highest, piece_of_rank, argument_parts, highest_shape, more_literals, literal_parts, assign_parts}
+use Rattle.c_grammar.specs.Reading.{Rules, rules, expr_by, extend_by, extend_in, a_literal, begins_by, begins, typed_in, binds, binds_in, binding, more_arguments_at, arguments_at, subscript_at, call_at, member_of_at, arrow_at, conditional_at, assign_at, binary_at, comma_at, parenthesized_at, literal_at, parenthesized_type_at, sizeof_at, unary_at, cast_at}
 use Rattle.c_grammar.proofs.Spans.{split, no_more, one_less}
 use Rattle.c_grammar.proofs.Induction.{Each}
 use Rattle.c_grammar.proofs.Equations.{shape-Integer, shape-Floating, shape-Character, shape-StringLiteral, shape-FunctionName, shape-Identifier, shape-Parenthesized, shape-Subscript, shape-Call, shape-Member, shape-Arrow, shape-Postfix, shape-Unary, shape-SizeofExpr, shape-SizeofType, shape-Cast, shape-Binary, shape-Conditional, shape-Assign, shape-Comma}
-use Rattle.c_grammar.proofs.Begins.{token, taken, rank_most, rank_least, sized, Starts, starts, opening, opening_in, not_opening}
-use Rattle.c_grammar.proofs.Reach.{nat_le_is, gap_in, IsLeft, left_1, left_16, left_binary, Ends, Reach, stopped, loop_binary, BaseOf, ExprRead, inner, grown, left_base, behind}
+use Rattle.c_grammar.proofs.Begins.{token, taken, rank_most, rank_least, sized, starts, not_opening}
+use Rattle.c_grammar.proofs.Reach.{nat_le_is, gap_in, left_1, left_16, left_binary, Ends, stopped, loop_binary, BaseOf, ExprRead, inner, grown, left_base, behind}
 use Rattle.c_grammar.proofs.Read.{Spelling, run_read, Ended, TypeNameRead, type_name_begins}
 
 -- behind a token that is no operator

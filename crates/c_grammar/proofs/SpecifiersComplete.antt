@@ -1,11 +1,8 @@
 -- What the grammar derives is read: declaration specifiers (C99 6.7), with structures, unions and enumerations.
-use Rattle.std.proofs.Common.{◌≡◌, ◌≤◌, ◌<◌, ℕ, zero, suc, List, [], ◌∷◌, ◌++◌, length, Option, Some, None, Bool, true, false, refl, sym, ap, ◌∙◌, subst, arith, cond, ◌⊎◌, inl, inr}
-use Rattle.std.specs.Prelude.{map, max, option_map, ◌||◌, not}
+use Rattle.std.proofs.Common.{◌≡◌, ◌≤◌, ◌<◌, ℕ, zero, suc, List, [], ◌∷◌, ◌++◌, length, Option, Some, None, Bool, true, false, refl, sym, ap, ◌∙◌, subst, arith}
+use Rattle.std.specs.Prelude.{map, option_map, ◌||◌}
 use Rattle.c_lexer.specs.declared.token.Token.{Token}
-use Rattle.c_lexer.specs.declared.token.TokenKind.{TokenKind}
 use Rattle.c_lexer.specs.declared.token.TokenKind.TheVariants as kind
-use Rattle.c_lexer.specs.declared.token.Keyword.TheVariants as keyword
-use Rattle.c_lexer.specs.declared.token.Punctuator.{Punctuator}
 use Rattle.c_lexer.specs.declared.token.Punctuator.TheVariants as mark
 use Rattle.c_tree.specs.declared.expr.StorageClass.{StorageClass}
 use Rattle.c_tree.specs.declared.expr.StorageClass.TheVariants as class
@@ -23,20 +20,19 @@ use Rattle.c_tree.specs.declared.expr.Field.{Field}
 use Rattle.c_tree.specs.declared.expr.Field.TheVariants as field
 use Rattle.c_tree.specs.declared.expr.Enumerator.{Enumerator}
 use Rattle.c_tree.specs.declared.expr.MemberDeclaration.{MemberDeclaration}
-use Rattle.c_grammar.specs.declared.declarator_place.DeclaratorPlace.{DeclaratorPlace}
 use Rattle.c_grammar.specs.declared.declarator_place.DeclaratorPlace.TheVariants as place
 use Rattle.c_grammar.specs.declared.type_words.TypeKind.{TypeKind}
 use Rattle.c_grammar.specs.declared.type_words.TypeKind.TheVariants as type_kind
 use Rattle.c_grammar.specs.declared.type_words.TypeWords.{TypeWords}
-use Rattle.c_grammar.specs.TypeWords.{none, with_kind, words_from, is_allowed, are_allowed, is_type}
-use Rattle.c_grammar.specs.Parts.{Name, Part, takes, takes_at, holds, declares, Scope, State, Takes, Spans, specifies_in, declared}
+use Rattle.c_grammar.specs.TypeWords.{none, words_from, is_allowed, are_allowed, is_type}
+use Rattle.c_grammar.specs.Parts.{Name, holds, declares, State, Takes, Spans, specifies_in}
 use Rattle.c_grammar.specs.Spelling.{class_keyword, qualifier_keyword, word_keyword, aggregate_keyword}
-use Rattle.c_grammar.specs.Grammar.{Shape, shape, Form, form, is_named, Specified, specifier_of, field_of, enumerator_of, member_of, takes_mark, takes_mark_at, joined, later, listed, highest, comma_if, of_rank, specifiers_from, specification, highest_specifier, all_specified, tag_parts, braced, value_parts, height_of, field_name_parts, fields_parts, ended_in}
-use Rattle.c_grammar.specs.Reading.{Rules, rules, ◌>>=◌, a_mark, begins_by, begins, expect, name_at, take_by, binds, binds_in, kind_of, specifiers_at, specification_at, value_at, enumerator_at, more_enumerators_at, enumeration_at, enum_at, bits_at, field_at, more_fields_at, fields_at, member_at, members_at, aggregate_at, tagged_at, keyword_specifier, specifier_by, specifier_in}
+use Rattle.c_grammar.specs.Grammar.{shape, form, Specified, specifier_of, field_of, enumerator_of, member_of, takes_mark, takes_mark_at, joined, later, listed, highest, comma_if, of_rank, specifiers_from, specification, highest_specifier, all_specified, braced, value_parts, height_of, fields_parts, ended_in}
+use Rattle.c_grammar.specs.Reading.{Rules, rules, begins, kind_of, specifiers_at, specification_at, value_at, enumerator_at, more_enumerators_at, enumeration_at, enum_at, bits_at, field_at, more_fields_at, fields_at, member_at, members_at, aggregate_at, tagged_at, specifier_by}
 use Rattle.c_grammar.proofs.Spans.{join, split, no_more, one_less}
 use Rattle.c_grammar.proofs.Induction.{Each, Maybe}
 use Rattle.c_grammar.proofs.Equations.{specifier-Storage, specifier-Qualifier, specifier-Inline, specifier-Word, specifier-Typedef, specifier-Tag, specifier-Aggregate, specifier-EnumTag, specifier-Enumeration, field-Plain, field-Bits, enumerator-is, member-is}
-use Rattle.c_grammar.proofs.Begins.{token, taken, declares_in, named_declares, no_specifier, specifies, specified_mark, specification_begins}
+use Rattle.c_grammar.proofs.Begins.{taken, declares_in, named_declares, no_specifier, specifies, specified_mark, specification_begins}
 use Rattle.c_grammar.proofs.Reach.{ExprRead, inner}
 use Rattle.c_grammar.proofs.Read.{FieldEnded, EnumeratorEnded, SpecifierRead, inner_specifier, DeclaratorRead, inner_declarator, FieldStart, FieldRead, EnumeratorRead, MemberRead, member_begins}
 
