@@ -1,6 +1,6 @@
 -- How trees begin.
-use Rattle.std.proofs.Common.{◌≡◌, ◌≤◌, ◌<◌, ℕ, zero, suc, List, [], ◌∷◌, ◌++◌, length, Option, Some, None, Bool, true, false, refl, sym, ap, ◌∙◌, subst, arith, rules, ◌⊎◌, inl, inr, cond}
-use Rattle.std.specs.Prelude.{map, ◌||◌, not, max, ◌&&◌}
+use Rattle.std.proofs.Common.{◌≡◌, ◌≤◌, ◌<◌, ℕ, List, [], ◌∷◌, ◌++◌, length, Option, Some, None, Bool, true, false, refl, sym, ap, ◌∙◌, subst, arith, rules, ◌⊎◌, inl, inr}
+use Rattle.std.specs.Prelude.{map, ◌||◌, not, ◌&&◌}
 use Rattle.c_lexer.specs.declared.token.Token.{Token}
 use Rattle.c_lexer.specs.declared.token.TokenKind.{TokenKind}
 use Rattle.c_lexer.specs.declared.token.TokenKind.TheVariants as kind
@@ -19,17 +19,14 @@ use Rattle.c_tree.specs.declared.expr.Qualifier.{Qualifier}
 use Rattle.c_tree.specs.declared.expr.TypeWord.{TypeWord}
 use Rattle.c_tree.specs.declared.expr.AggregateKind.{AggregateKind}
 use Rattle.c_tree.specs.declared.expr.Expr.{Expr}
-use Rattle.c_tree.specs.declared.expr.Expr.TheVariants as expr
 use Rattle.c_tree.specs.declared.expr.Specifier.{Specifier}
 use Rattle.c_tree.specs.declared.expr.Declarator.{Declarator}
-use Rattle.c_tree.specs.declared.expr.Declarator.TheVariants as declarator
 use Rattle.c_grammar.specs.declared.declarator_place.DeclaratorPlace.{DeclaratorPlace}
-use Rattle.c_grammar.specs.declared.declarator_place.DeclaratorPlace.TheVariants as place
-use Rattle.c_grammar.specs.Parts.{Name, Part, takes, takes_at, at_most, holds, typedef_name, ordinary, opens, no_type, Scope, State, Takes, Spans, is_typedef, begins_type, specifies_by, specifies_in}
-use Rattle.c_grammar.specs.Spelling.{unary_mark, postfix_mark, binary_mark, rank_of, assign_mark, class_keyword, qualifier_keyword, word_keyword, aggregate_keyword}
+use Rattle.c_grammar.specs.Parts.{Name, Part, takes, takes_at, holds, typedef_name, Scope, State, Takes, Spans, is_typedef, begins_type, specifies_by, specifies_in}
+use Rattle.c_grammar.specs.Spelling.{unary_mark, postfix_mark, binary_mark, rank_of, class_keyword, qualifier_keyword, word_keyword, aggregate_keyword}
 use Rattle.c_grammar.specs.TypeWords.{is_type}
-use Rattle.c_grammar.specs.Grammar.{Shape, shape, Form, form, Specified, specifier_of, is_named, assign_parts, literal_parts, specification, specifiers_from, all_specified, tag_parts, braced, joined, listed, comma_if, member_of, enumerator_of}
-use Rattle.c_grammar.specs.Reading.{a_mark, a_keyword, a_unary, begins_by, begins_keyword, begins, typed_in}
+use Rattle.c_grammar.specs.Grammar.{shape, Form, form, specifier_of, is_named, assign_parts, literal_parts, specification, specifiers_from, all_specified, tag_parts, braced, joined, listed, comma_if, member_of, enumerator_of}
+use Rattle.c_grammar.specs.Reading.{a_mark, a_keyword, a_unary, begins_by, begins_keyword, typed_in}
 use Rattle.c_grammar.proofs.Spans.{split, no_more, one_less, mark_is}
 use Rattle.c_grammar.proofs.Induction.{Steps, of_expr, of_specifier, of_declarator}
 use Rattle.c_grammar.proofs.Equations.{shape-Integer, shape-Floating, shape-Character, shape-StringLiteral, shape-FunctionName, shape-Identifier, shape-Parenthesized, shape-Subscript, shape-Call, shape-Member, shape-Arrow, shape-Postfix, shape-Unary, shape-SizeofExpr, shape-SizeofType, shape-Cast, shape-Binary, shape-Conditional, shape-Assign, shape-Comma, form-Name, form-Omitted, form-Grouped, form-Pointer, form-Array, form-Function, specifier-Storage, specifier-Qualifier, specifier-Inline, specifier-Word, specifier-Typedef, specifier-Tag, specifier-Aggregate, specifier-EnumTag, specifier-Enumeration}
@@ -260,55 +257,6 @@ literal_starts at (p ∷ ps) s z x = from_first 0 s z _ _ _ x.1 (record { no_typ
 abbrev Beginning : Expr → Type 0
 Beginning e = (s z : State) → Spans (shape e).parts s z → Starts (shape e).rank s z
 
-begin_steps : Steps Any Beginning Any Any Any Any Any Any
-begin_steps = record {
-  on_integer = λ at constant s z. rw shape-Integer (λ (x : _). from_first 0 s z _ _ _ x.1 (record { no_type = λ scope. refl; opens = refl; no_name = refl; no_unary = λ h. refl; no_sizeof = λ h. refl; no_paren = refl }));
-  on_floating = λ at s z. rw shape-Floating (λ (x : _). from_first 0 s z _ _ _ x.1 (record { no_type = λ scope. refl; opens = refl; no_name = refl; no_unary = λ h. refl; no_sizeof = λ h. refl; no_paren = refl }));
-  on_character = λ at value s z. rw shape-Character (λ (x : _). from_first 0 s z _ _ _ x.1 (record { no_type = λ scope. refl; opens = refl; no_name = refl; no_unary = λ h. refl; no_sizeof = λ h. refl; no_paren = refl }));
-  on_string_literal = λ at pieces s z. rw shape-StringLiteral (λ (x : _). literal_starts at pieces s z x);
-  on_function_name = λ at s z. rw shape-FunctionName (λ (x : _). from_first 0 s z _ _ _ x.1 (record { no_type = λ scope. refl; opens = refl; no_name = refl; no_unary = λ h. refl; no_sizeof = λ h. refl; no_paren = refl }));
-  on_identifier = λ at name s z. rw shape-Identifier (λ (x : _). from_tokens 0 s z _ (taken x.1.1) (name_starts at name x.1.1.first x.1.0 s.1 z x.0 (ap (λ (q : State). q.0) x.1.2)));
-  on_parenthesized = λ at inner i s z. rw shape-Parenthesized (λ (x : _). from_tokens 0 s z _ (taken x.1) (paren_starts at x.1.first x.0 s.1 z 0 (λ h. (i (x.0, s.1) _ (split (shape inner).parts _ (x.0, s.1) z x.2).1).no_type)));
-  on_subscript = λ at array index i j s z. rw shape-Subscript (λ (x : _). let p = split (shape array).parts _ s z x.1 in weaker _ 1 s p.0 z x.0 (rw (taken p.2.1) refl) (i s _ p.1));
-  on_call = λ at callee arguments i js s z. rw shape-Call (λ (x : _). let p = split (shape callee).parts _ s z x.1 in weaker _ 1 s p.0 z x.0 (rw (taken p.2.1) refl) (i s _ p.1));
-  on_member = λ at object member i s z. rw shape-Member (λ (x : _). let p = split (shape object).parts _ s z x.1 in weaker _ 1 s p.0 z x.0 (rw (taken p.2.1) refl) (i s _ p.1));
-  on_arrow = λ at pointer member i s z. rw shape-Arrow (λ (x : _). let p = split (shape pointer).parts _ s z x.1 in weaker _ 1 s p.0 z x.0 (rw (taken p.2.1) refl) (i s _ p.1));
-  on_postfix = λ at operator operand i s z. rw shape-Postfix (λ (x : _). let p = split (shape operand).parts _ s z x.1 in weaker _ 1 s p.0 z x.0 (rw (taken p.2.1, postfix_colon operator) refl) (i s _ p.1));
-  on_unary = λ at operator operand i s z. rw shape-Unary (λ (x : _). from_first 2 s z _ _ _ x.1.1 (unary_first operator 2 (omega arith)));
-  on_sizeof_expr = λ at operand i s z. rw shape-SizeofExpr (λ (x : _). from_first 2 s z _ _ _ x.1.1 sizeof_first);
-  on_sizeof_type = λ at type_name i s z. rw shape-SizeofType (λ (x : _). from_first 2 s z _ _ _ x.1 sizeof_first);
-  on_cast = λ at type_name operand i j s z. rw shape-Cast (λ (x : _). from_tokens 3 s z _ (taken x.1.1) (paren_starts at x.1.1.first x.1.0 s.1 z 3 (λ h. absurd (omega arith))));
-  on_binary = λ at operator left right i j s z. rw shape-Binary (λ (x : _). let p = split (shape left).parts _ s z x.1.1 in weaker _ _ s p.0 z x.0 (rw (taken p.2.1, binary_colon operator) refl) (i s _ p.1));
-  on_conditional = λ at condition positive negative i j k s z. rw shape-Conditional (λ (x : _). let p = split (shape condition).parts _ s z x.1.1 in weaker _ 14 s p.0 z (omega (arith, x.0)) (rw (taken p.2.1) refl) (i s _ p.1));
-  on_assign = λ at operator target value i j s z. rw shape-Assign (λ (x : _). let p = split (shape target).parts _ s z x.1.1 in weaker _ 15 s p.0 z (omega (arith, x.0)) (assign_colon at operator (shape value).parts p.0 z p.2) (i s _ p.1));
-  on_comma = λ at left right i j s z. rw shape-Comma (λ (x : _). let p = split (shape left).parts _ s z x.1 in weaker _ 16 s p.0 z (sized left).0 (rw (taken p.2.1) refl) (i s _ p.1));
-  on_specifier_storage = λ at class. tt;
-  on_specifier_qualifier = λ at qualifier. tt;
-  on_specifier_inline = λ at. tt;
-  on_specifier_word = λ at word. tt;
-  on_specifier_typedef = λ at name. tt;
-  on_specifier_tag = λ at aggregate tag. tt;
-  on_specifier_aggregate = λ at aggregate tag members i. tt;
-  on_specifier_enum_tag = λ at tag. tt;
-  on_specifier_enumeration = λ at tag enumerators trailing i. tt;
-  on_field_plain = λ d i. tt;
-  on_field_bits = λ at d width i j. tt;
-  on_declarator_name = λ at name. tt;
-  on_declarator_omitted = tt;
-  on_declarator_grouped = λ at inner i. tt;
-  on_declarator_pointer = λ at qualifiers target i. tt;
-  on_declarator_array = λ at element words length' i j. tt;
-  on_declarator_function = λ at result parameters variadic i js. tt;
-  on_type_name = λ x i j. tt;
-  on_member_declaration = λ x i j. tt;
-  on_enumerator = λ x i. tt;
-  on_parameter = λ x i j. tt;
-}
-
--- how an expression begins
-pub starts : (e : Expr) (s z : State) → Spans (shape e).parts s z → Starts (shape e).rank s z
-starts e = of_expr Any Beginning Any Any Any Any Any Any begin_steps e
-
 another_by : (begins_so : TokenKind → Bool) (m : Punctuator) (k : TokenKind) (r : Option (Unit {0})) → a_mark m k ≡ r → begins_so k ≡ true → begins_so (kind.Punctuator m) ≡ false → r ≡ None
 another_by begins_so m k None e h shut = refl
 another_by begins_so m k (Some x) e h shut =
@@ -369,54 +317,6 @@ behind_suffix h s m (inr o) e = ap (λ (q : State). directs_in q.0) o.1 ∙ e
 abbrev Heading : Declarator → Type 0
 Heading d = Heads (form d)
 
-head_steps : Steps Heading Any Any Any Any Any Any Any
-head_steps = record {
-  on_integer = λ at constant. tt;
-  on_floating = λ at. tt;
-  on_character = λ at value. tt;
-  on_string_literal = λ at pieces. tt;
-  on_function_name = λ at. tt;
-  on_identifier = λ at name. tt;
-  on_parenthesized = λ at inner i. tt;
-  on_subscript = λ at array index i j. tt;
-  on_call = λ at callee arguments i js. tt;
-  on_member = λ at object member i. tt;
-  on_arrow = λ at pointer member i. tt;
-  on_postfix = λ at operator operand i. tt;
-  on_unary = λ at operator operand i. tt;
-  on_sizeof_expr = λ at operand i. tt;
-  on_sizeof_type = λ at type_name i. tt;
-  on_cast = λ at type_name operand i j. tt;
-  on_binary = λ at operator left right i j. tt;
-  on_conditional = λ at condition positive negative i j k. tt;
-  on_assign = λ at operator target value i j. tt;
-  on_comma = λ at left right i j. tt;
-  on_specifier_storage = λ at class. tt;
-  on_specifier_qualifier = λ at qualifier. tt;
-  on_specifier_inline = λ at. tt;
-  on_specifier_word = λ at word. tt;
-  on_specifier_typedef = λ at name. tt;
-  on_specifier_tag = λ at aggregate tag. tt;
-  on_specifier_aggregate = λ at aggregate tag members i. tt;
-  on_specifier_enum_tag = λ at tag. tt;
-  on_specifier_enumeration = λ at tag enumerators trailing i. tt;
-  on_field_plain = λ d i. tt;
-  on_field_bits = λ at d width i j. tt;
-  on_declarator_name = λ at name. rw form-Name (from_direct _ (λ w s z x. rw (taken x.1) refl));
-  on_declarator_omitted = rw form-Omitted (record { any = λ w s z x. inr (refl, x); direct = λ w s z x le. inr (refl, x) });
-  on_declarator_grouped = λ at inner i. rw form-Grouped (from_direct _ (λ w s z x. rw (taken x.1) refl));
-  on_declarator_pointer = λ at qualifiers target i. rw form-Pointer (record { any = λ w s z x. inl (rw (taken x.1) refl); direct = λ w s z x le. absurd (omega arith) });
-  on_declarator_array = λ at element words length' i j. rw form-Array (from_direct _ (λ w s z x. let p = split ((form element).parts w) _ s z x.1 in behind_suffix (form element) s p.0 (i.direct w s p.0 p.1 x.0) (rw (taken p.2.1) refl)));
-  on_declarator_function = λ at result parameters variadic i js. rw form-Function (from_direct _ (λ w s z x. let p = split ((form result).parts w) _ s z x.1 in behind_suffix (form result) s p.0 (i.direct w s p.0 p.1 x.0) (rw (taken p.2.1) refl)));
-  on_type_name = λ x i j. tt;
-  on_member_declaration = λ x i j. tt;
-  on_enumerator = λ x i. tt;
-  on_parameter = λ x i j. tt;
-}
-
-pub heads : (d : Declarator) → Heads (form d)
-heads d = of_declarator Heading Any Any Any Any Any Any Any head_steps d
-
 -- what no declarator begins with
 pub record NoSpecifier (tokens : List Token) : Type 0 where
   pub typed : (scope : Scope) → specifies_in true tokens scope ≡ false
@@ -475,28 +375,30 @@ typedef_specifies typed at name s z x =
 abbrev Specifying : Specifier → Type 0
 Specifying x = (typed : Bool) (s z : State) → Spans ((specifier_of x).parts typed) s z → Specifies typed s z
 
-specifier_steps : Steps Any Any Any Specifying Any Any Any Any
-specifier_steps = record {
-  on_integer = λ at constant. tt;
-  on_floating = λ at. tt;
-  on_character = λ at value. tt;
-  on_string_literal = λ at pieces. tt;
-  on_function_name = λ at. tt;
-  on_identifier = λ at name. tt;
-  on_parenthesized = λ at inner i. tt;
-  on_subscript = λ at array index i j. tt;
-  on_call = λ at callee arguments i js. tt;
-  on_member = λ at object member i. tt;
-  on_arrow = λ at pointer member i. tt;
-  on_postfix = λ at operator operand i. tt;
-  on_unary = λ at operator operand i. tt;
-  on_sizeof_expr = λ at operand i. tt;
-  on_sizeof_type = λ at type_name i. tt;
-  on_cast = λ at type_name operand i j. tt;
-  on_binary = λ at operator left right i j. tt;
-  on_conditional = λ at condition positive negative i j k. tt;
-  on_assign = λ at operator target value i j. tt;
-  on_comma = λ at left right i j. tt;
+-- ---- how each kind of tree begins
+
+begin_steps : Steps Heading Beginning Any Specifying Any Any Any Any
+begin_steps = record {
+  on_integer = λ at constant s z. rw shape-Integer (λ (x : _). from_first 0 s z _ _ _ x.1 (record { no_type = λ scope. refl; opens = refl; no_name = refl; no_unary = λ h. refl; no_sizeof = λ h. refl; no_paren = refl }));
+  on_floating = λ at s z. rw shape-Floating (λ (x : _). from_first 0 s z _ _ _ x.1 (record { no_type = λ scope. refl; opens = refl; no_name = refl; no_unary = λ h. refl; no_sizeof = λ h. refl; no_paren = refl }));
+  on_character = λ at value s z. rw shape-Character (λ (x : _). from_first 0 s z _ _ _ x.1 (record { no_type = λ scope. refl; opens = refl; no_name = refl; no_unary = λ h. refl; no_sizeof = λ h. refl; no_paren = refl }));
+  on_string_literal = λ at pieces s z. rw shape-StringLiteral (λ (x : _). literal_starts at pieces s z x);
+  on_function_name = λ at s z. rw shape-FunctionName (λ (x : _). from_first 0 s z _ _ _ x.1 (record { no_type = λ scope. refl; opens = refl; no_name = refl; no_unary = λ h. refl; no_sizeof = λ h. refl; no_paren = refl }));
+  on_identifier = λ at name s z. rw shape-Identifier (λ (x : _). from_tokens 0 s z _ (taken x.1.1) (name_starts at name x.1.1.first x.1.0 s.1 z x.0 (ap (λ (q : State). q.0) x.1.2)));
+  on_parenthesized = λ at inner i s z. rw shape-Parenthesized (λ (x : _). from_tokens 0 s z _ (taken x.1) (paren_starts at x.1.first x.0 s.1 z 0 (λ h. (i (x.0, s.1) _ (split (shape inner).parts _ (x.0, s.1) z x.2).1).no_type)));
+  on_subscript = λ at array index i j s z. rw shape-Subscript (λ (x : _). let p = split (shape array).parts _ s z x.1 in weaker _ 1 s p.0 z x.0 (rw (taken p.2.1) refl) (i s _ p.1));
+  on_call = λ at callee arguments i js s z. rw shape-Call (λ (x : _). let p = split (shape callee).parts _ s z x.1 in weaker _ 1 s p.0 z x.0 (rw (taken p.2.1) refl) (i s _ p.1));
+  on_member = λ at object member i s z. rw shape-Member (λ (x : _). let p = split (shape object).parts _ s z x.1 in weaker _ 1 s p.0 z x.0 (rw (taken p.2.1) refl) (i s _ p.1));
+  on_arrow = λ at pointer member i s z. rw shape-Arrow (λ (x : _). let p = split (shape pointer).parts _ s z x.1 in weaker _ 1 s p.0 z x.0 (rw (taken p.2.1) refl) (i s _ p.1));
+  on_postfix = λ at operator operand i s z. rw shape-Postfix (λ (x : _). let p = split (shape operand).parts _ s z x.1 in weaker _ 1 s p.0 z x.0 (rw (taken p.2.1, postfix_colon operator) refl) (i s _ p.1));
+  on_unary = λ at operator operand i s z. rw shape-Unary (λ (x : _). from_first 2 s z _ _ _ x.1.1 (unary_first operator 2 (omega arith)));
+  on_sizeof_expr = λ at operand i s z. rw shape-SizeofExpr (λ (x : _). from_first 2 s z _ _ _ x.1.1 sizeof_first);
+  on_sizeof_type = λ at type_name i s z. rw shape-SizeofType (λ (x : _). from_first 2 s z _ _ _ x.1 sizeof_first);
+  on_cast = λ at type_name operand i j s z. rw shape-Cast (λ (x : _). from_tokens 3 s z _ (taken x.1.1) (paren_starts at x.1.1.first x.1.0 s.1 z 3 (λ h. absurd (omega arith))));
+  on_binary = λ at operator left right i j s z. rw shape-Binary (λ (x : _). let p = split (shape left).parts _ s z x.1.1 in weaker _ _ s p.0 z x.0 (rw (taken p.2.1, binary_colon operator) refl) (i s _ p.1));
+  on_conditional = λ at condition positive negative i j k s z. rw shape-Conditional (λ (x : _). let p = split (shape condition).parts _ s z x.1.1 in weaker _ 14 s p.0 z (omega (arith, x.0)) (rw (taken p.2.1) refl) (i s _ p.1));
+  on_assign = λ at operator target value i j s z. rw shape-Assign (λ (x : _). let p = split (shape target).parts _ s z x.1.1 in weaker _ 15 s p.0 z (omega (arith, x.0)) (assign_colon at operator (shape value).parts p.0 z p.2) (i s _ p.1));
+  on_comma = λ at left right i j s z. rw shape-Comma (λ (x : _). let p = split (shape left).parts _ s z x.1 in weaker _ 16 s p.0 z (sized left).0 (rw (taken p.2.1) refl) (i s _ p.1));
   on_specifier_storage = λ at class typed s z. rw specifier-Storage (λ (x : _). by_keyword typed at _ [] s z (class_begins class) x);
   on_specifier_qualifier = λ at qualifier typed s z. rw specifier-Qualifier (λ (x : _). by_keyword typed at _ [] s z (qualifier_begins qualifier) x);
   on_specifier_inline = λ at typed s z. rw specifier-Inline (λ (x : _). by_keyword typed at _ [] s z refl x);
@@ -508,20 +410,37 @@ specifier_steps = record {
   on_specifier_enumeration = λ at tag enumerators trailing i typed s z. rw specifier-Enumeration (λ (x : _). by_keyword typed at _ (tag_parts tag ++ braced (listed (map enumerator_of enumerators) ++ comma_if trailing)) s z refl x);
   on_field_plain = λ d i. tt;
   on_field_bits = λ at d width i j. tt;
-  on_declarator_name = λ at name. tt;
-  on_declarator_omitted = tt;
-  on_declarator_grouped = λ at inner i. tt;
-  on_declarator_pointer = λ at qualifiers target i. tt;
-  on_declarator_array = λ at element words length' i j. tt;
-  on_declarator_function = λ at result parameters variadic i js. tt;
+  on_declarator_name = λ at name. rw form-Name (from_direct _ (λ w s z x. rw (taken x.1) refl));
+  on_declarator_omitted = rw form-Omitted (record { any = λ w s z x. inr (refl, x); direct = λ w s z x le. inr (refl, x) });
+  on_declarator_grouped = λ at inner i. rw form-Grouped (from_direct _ (λ w s z x. rw (taken x.1) refl));
+  on_declarator_pointer = λ at qualifiers target i. rw form-Pointer (record { any = λ w s z x. inl (rw (taken x.1) refl); direct = λ w s z x le. absurd (omega arith) });
+  on_declarator_array = λ at element words length' i j. rw form-Array (from_direct _ (λ w s z x. let p = split ((form element).parts w) _ s z x.1 in behind_suffix (form element) s p.0 (i.direct w s p.0 p.1 x.0) (rw (taken p.2.1) refl)));
+  on_declarator_function = λ at result parameters variadic i js. rw form-Function (from_direct _ (λ w s z x. let p = split ((form result).parts w) _ s z x.1 in behind_suffix (form result) s p.0 (i.direct w s p.0 p.1 x.0) (rw (taken p.2.1) refl)));
   on_type_name = λ x i j. tt;
   on_member_declaration = λ x i j. tt;
   on_enumerator = λ x i. tt;
   on_parameter = λ x i j. tt;
 }
 
+-- how an expression begins
+pub starts : (e : Expr) (s z : State) → Spans (shape e).parts s z → Starts (shape e).rank s z
+starts e = of_expr Heading Beginning Any Specifying Any Any Any Any begin_steps e
+
+-- how a declarator begins
+pub heads : (d : Declarator) → Heads (form d)
+heads d = of_declarator Heading Beginning Any Specifying Any Any Any Any begin_steps d
+
+-- a declarator with a name begins with a token of its own
+pub named_declares : (d : Declarator) (where_ : DeclaratorPlace) (s z : State) → Spans ((form d).parts where_) s z → is_named (form d) ≡ true → declares_in s.0 ≡ true
+named_declares d where_ s z x h =
+    elim ((heads d).any where_ s z x) [
+      | inl b ↦ b
+      | inr o ↦ let present = (stands d).present h in let omitted = o.0 in cc
+    ]
+
+-- how a specifier begins
 pub specifies : (x : Specifier) (typed : Bool) (s z : State) → Spans ((specifier_of x).parts typed) s z → Specifies typed s z
-specifies x = of_specifier Any Any Any Specifying Any Any Any Any specifier_steps x
+specifies x = of_specifier Heading Beginning Any Specifying Any Any Any Any begin_steps x
 
 -- a token that begins a specifier is no mark
 specifies_mark : (m : Punctuator) (k : TokenKind) (scope : Scope) (typed : Bool) → specifies_by scope typed k ≡ true → a_mark m k ≡ None

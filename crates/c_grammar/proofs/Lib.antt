@@ -1,7 +1,9 @@
 pub mod Begins
 pub mod BraceGroup
+pub mod Complete
 pub mod DeclarationComplete
 pub mod DeclarationSound
+pub mod DeclaratorsComplete
 pub mod Equations
 pub mod ExprsComplete
 pub mod Induction
@@ -13,6 +15,7 @@ pub mod SoundDeclarator
 pub mod SoundExpr
 pub mod SoundSpecifier
 pub mod Spans
+pub mod SpecifiersComplete
 pub mod StmtComplete
 pub mod StmtSound
 pub mod UnitBegins

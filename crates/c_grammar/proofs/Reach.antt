@@ -1,12 +1,11 @@
 -- Reading an expression by a looser rule, and the operators behind it.
-use Rattle.std.proofs.Common.{◌≡◌, ◌≤◌, ◌<◌, ◌≢◌, ℕ, zero, suc, pred, List, [], ◌∷◌, ◌++◌, length, Option, Some, None, Bool, true, false, refl, sym, ap, ◌∙◌, subst, arith, rules as grinding, ◌⊎◌, inl, inr, cond}
+use Rattle.std.proofs.Common.{◌≡◌, ◌≤◌, ◌<◌, ◌≢◌, ℕ, zero, suc, List, [], ◌∷◌, length, Some, Bool, true, false, refl, sym, ◌∙◌, subst, arith, ◌⊎◌, inl, inr}
 use Rattle.std.specs.Prelude.{nat_eq, nat_le}
 use Rattle.c_lexer.specs.declared.token.Token.{Token}
 use Rattle.c_lexer.specs.declared.token.TokenKind.{TokenKind}
 use Rattle.c_lexer.specs.declared.token.TokenKind.TheVariants as kind
 use Rattle.c_lexer.specs.declared.token.Keyword.TheVariants as keyword
 use Rattle.c_lexer.specs.declared.token.Punctuator.{Punctuator}
-use Rattle.c_lexer.specs.declared.token.Punctuator.TheVariants as mark
 use Rattle.c_tree.specs.declared.expr.BinaryOperator.{BinaryOperator}
 use Rattle.c_tree.specs.declared.expr.Expr.{Expr}
 use Rattle.c_grammar.specs.Parts.{Part, State, Takes, Spans}
@@ -15,7 +14,7 @@ use Rattle.c_grammar.specs.Operators.{binding_of}
 use Rattle.c_grammar.specs.Grammar.{Shape, shape}
 use Rattle.c_grammar.specs.Reading.{Rules, rules, expr_by, looped, more_at, extend_in, a_unary, begins_by, begins_keyword, typed_in, binds, binds_in, binding}
 use Rattle.c_grammar.proofs.Spans.{no_more, one_less}
-use Rattle.c_grammar.proofs.Begins.{token, taken, rank_most, rank_least, sized, Starts, starts}
+use Rattle.c_grammar.proofs.Begins.{rank_most, rank_least, sized, Starts, starts}
 
 nat_eq_same : (m n : ℕ) → m ≡ n → nat_eq m n ≡ true
 nat_eq_same m n h = grind arith

@@ -1,11 +1,9 @@
 -- What it is for each tree to be read where it is derived, at one height.
-use Rattle.std.proofs.Common.{◌≡◌, ◌≤◌, ◌<◌, ℕ, zero, suc, List, [], ◌∷◌, ◌++◌, length, Option, Some, None, Bool, true, false, refl, sym, ap, ◌∙◌, subst, arith, cond, ◌⊎◌, inl, inr}
-use Rattle.std.specs.Prelude.{map, not, ◌&&◌}
+use Rattle.std.proofs.Common.{◌≡◌, ◌≤◌, ◌<◌, ℕ, zero, suc, List, [], ◌∷◌, length, Option, Some, Bool, true, false, refl, ap, ◌∙◌, subst, arith}
 use Rattle.c_lexer.specs.declared.token.Token.{Token}
 use Rattle.c_lexer.specs.declared.token.TokenKind.{TokenKind}
 use Rattle.c_lexer.specs.declared.token.TokenKind.TheVariants as kind
 use Rattle.c_lexer.specs.declared.token.Keyword.TheVariants as keyword
-use Rattle.c_lexer.specs.declared.token.Punctuator.{Punctuator}
 use Rattle.c_lexer.specs.declared.token.Punctuator.TheVariants as mark
 use Rattle.c_tree.specs.declared.expr.Specifier.{Specifier}
 use Rattle.c_tree.specs.declared.expr.Declarator.{Declarator}
@@ -16,13 +14,12 @@ use Rattle.c_tree.specs.declared.expr.Field.{Field}
 use Rattle.c_tree.specs.declared.expr.Enumerator.{Enumerator}
 use Rattle.c_tree.specs.declared.expr.MemberDeclaration.{MemberDeclaration}
 use Rattle.c_grammar.specs.declared.declarator_place.DeclaratorPlace.{DeclaratorPlace}
-use Rattle.c_grammar.specs.declared.declarator_place.DeclaratorPlace.TheVariants as place
-use Rattle.c_grammar.specs.Parts.{Part, takes, Scope, State, Takes, Spans, specifies_by, specifies_in}
-use Rattle.c_grammar.specs.Grammar.{Form, form, specifier_of, type_name_of, parameter_of, field_of, enumerator_of, member_of, is_named, may_omit, fits_place, ends_declarator, ended_in, specification, all_specified}
-use Rattle.c_grammar.specs.Reading.{Rules, rules, begins_by, begins, a_mark, binds, take_by, run_at, specifier_in, declarator_by, direct_in, is_suffix, suffixed, suffixes_at, suffixed_at, type_name_at, parameter_at, field_at, enumerator_at, member_at}
+use Rattle.c_grammar.specs.Parts.{Part, takes, Scope, State, Spans, specifies_by, specifies_in}
+use Rattle.c_grammar.specs.Grammar.{Form, form, specifier_of, type_name_of, parameter_of, field_of, enumerator_of, member_of, may_omit, fits_place, ends_declarator, ended_in, specification, all_specified}
+use Rattle.c_grammar.specs.Reading.{rules, begins_by, begins, binds, run_at, specifier_in, declarator_by, direct_in, is_suffix, suffixed, suffixes_at, suffixed_at, type_name_at, parameter_at, field_at, enumerator_at, member_at}
 use Rattle.c_grammar.proofs.Spans.{split, one_less}
 use Rattle.c_grammar.proofs.Equations.{type-name-is, parameter-is, member-is}
-use Rattle.c_grammar.proofs.Begins.{token, taken, tall, stands, specification_begins}
+use Rattle.c_grammar.proofs.Begins.{taken, tall, stands, specification_begins}
 
 -- ---- as many tokens as are wanted
 
@@ -124,8 +121,15 @@ TypeNameRead x = (below : ℕ) (s z : State) → Spans (type_name_of x).parts s 
 abbrev pub ParameterRead : Parameter → Type 0
 ParameterRead x = (below : ℕ) (s z : State) → Spans (parameter_of x).parts s z → (parameter_of x).height ≤ below → Ended z → parameter_at (rules below) s ≡ Some (x, z)
 
-abbrev pub FieldRead : Field → Type 0
-FieldRead x = (below : ℕ) (s z : State) → Spans (field_of x).parts s z → (field_of x).height ≤ below → FieldEnded z → field_at (rules below) s ≡ Some (x, z)
+-- how a member's declarator or width begins
+pub record FieldStart (s : State) : Type 0 where
+  pub no_type : specifies_in true s.0 s.1 ≡ false
+  pub no_brace : begins mark.LeftBrace s ≡ false
+  pub no_semicolon : begins mark.Semicolon s ≡ false
+
+pub record FieldRead (x : Field) : Type 0 where
+  pub starts : (s z : State) → Spans (field_of x).parts s z → FieldStart s
+  pub reads : (below : ℕ) (s z : State) → Spans (field_of x).parts s z → (field_of x).height ≤ below → FieldEnded z → field_at (rules below) s ≡ Some (x, z)
 
 abbrev pub EnumeratorRead : Enumerator → Type 0
 EnumeratorRead x = (below : ℕ) (s z : State) → Spans (enumerator_of x).parts s z → (enumerator_of x).height ≤ below → EnumeratorEnded z → enumerator_at (rules below) s ≡ Some (x, z)
