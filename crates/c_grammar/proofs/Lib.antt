@@ -1,4 +1,5 @@
 pub mod Begins
+pub mod BelowUnits
 pub mod BraceGroup
 pub mod Complete
 pub mod DeclarationComplete
@@ -19,6 +20,8 @@ pub mod SpecifiersComplete
 pub mod StmtComplete
 pub mod StmtSound
 pub mod UnitBegins
+pub mod UnitComplete
 pub mod UnitEquations
 pub mod UnitLaws
+pub mod UnitSound
 pub mod UnitSteps

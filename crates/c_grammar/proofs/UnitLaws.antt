@@ -48,7 +48,7 @@ module _ (sound : (limit : ℕ) → SoundBelow limit (rules limit)) (complete : 
   whole_by tokens scope first (body.Unread at) (Some (x, ([], after))) e d = absurd (d.1 x (after, stmt_takes sound limit 0 (tokens, scope) ([], after) x e))
   whole_by tokens scope first (body.Unread at) (Some (x, (t ∷ rest, after))) e d = ap (λ n. body.Unread n) d.0
 
-  body_takes : (s z : State) (b : Body) → body_at s ≡ Some (b, z) → DerivesBody s b z
+  pub body_takes : (s z : State) (b : Body) → body_at s ≡ Some (b, z) → DerivesBody s b z
   unfolding body_at
   body_takes s z b h =
       let a = bind_some (group_in s.0) _ _ h in
@@ -61,7 +61,7 @@ module _ (sound : (limit : ℕ) → SoundBelow limit (rules limit)) (complete : 
       subst (λ (p : Body × State). DerivesBody s p.0 p.1) e
       (record { first = g.first; inner = g.inner; last = g.last; is = g.is; starts = g.starts; ends = g.ends; matched = g.matched; spelled = x; scope = refl })
 
-  body_again : (s z : State) (b : Body) → DerivesBody s b z → body_at s ≡ Some (b, z)
+  pub body_again : (s z : State) (b : Body) → DerivesBody s b z → body_at s ≡ Some (b, z)
   unfolding body_at
   body_again s z b d =
       let tokens = d.first ∷ (d.inner ++ d.last ∷ []) in
@@ -72,7 +72,7 @@ module _ (sound : (limit : ℕ) → SoundBelow limit (rules limit)) (complete : 
 
   -- ---- external declarations are derived
 
-  external_takes : (s z : State) (x : External) → external_at s ≡ Some (x, z) → DerivesExternal s x z
+  pub external_takes : (s z : State) (x : External) → external_at s ≡ Some (x, z) → DerivesExternal s x z
   unfolding external_at declared_external_at
   external_takes s z x h =
       let r = rules limit in
@@ -131,8 +131,8 @@ module _ (sound : (limit : ℕ) → SoundBelow limit (rules limit)) (complete : 
       ]
 
   -- what is read is derived
-  pub unit_sound : (tokens : List Token) (xs : List External) → read_unit tokens ≡ Some xs → derives tokens xs
-  unit_sound tokens xs h = externals_take (suc (length tokens)) (tokens, file_scope) xs h
+  pub unit_takes : (tokens : List Token) (xs : List External) → read_unit tokens ≡ Some xs → derives tokens xs
+  unit_takes tokens xs h = externals_take (suc (length tokens)) (tokens, file_scope) xs h
 
   -- ---- external declarations are read
 
@@ -174,7 +174,7 @@ module _ (sound : (limit : ℕ) → SoundBelow limit (rules limit)) (complete : 
       let c = n.semicolon in
       rw (read, c, head, o, read') refl
 
-  external_again : (s z : State) (x : External) → DerivesExternal s x z → external_at s ≡ Some (x, z)
+  pub external_again : (s z : State) (x : External) → DerivesExternal s x z → external_at s ≡ Some (x, z)
   unfolding external_at
   external_again s z (external.Function xs d b) f =
       let p = split (specification (all_specified xs)) (declaring_parts (makes_types xs) d) s f.behind f.spans in
@@ -221,5 +221,5 @@ module _ (sound : (limit : ℕ) → SoundBelow limit (rules limit)) (complete : 
       rw (e, read, more) refl
 
   -- what is derived is read
-  pub unit_complete : (tokens : List Token) (xs : List External) → derives tokens xs → read_unit tokens ≡ Some xs
-  unit_complete tokens xs d = externals_again (suc (length tokens)) xs (tokens, file_scope) (omega arith) d
+  pub unit_again : (tokens : List Token) (xs : List External) → derives tokens xs → read_unit tokens ≡ Some xs
+  unit_again tokens xs d = externals_again (suc (length tokens)) xs (tokens, file_scope) (omega arith) d
