@@ -1,5 +1,5 @@
 -- The laws of expressions, specifiers and declarators, as those of units take them.
-use Rattle.std.proofs.Common.{◌≡◌, ℕ}
+use Rattle.std.proofs.Common.{ℕ}
 use Rattle.c_grammar.specs.declared.declarator_place.DeclaratorPlace.TheVariants as place
 use Rattle.c_grammar.specs.Reading.{rules}
 use Rattle.c_grammar.proofs.IsSound.{specification_takes}

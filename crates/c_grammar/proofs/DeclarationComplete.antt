@@ -1,6 +1,6 @@
 -- What the grammar derives is read: initializers and declarations.
-use Rattle.std.proofs.Common.{◌≡◌, ◌≤◌, ◌<◌, ℕ, zero, suc, List, [], ◌∷◌, ◌++◌, length, Option, Some, None, Bool, true, false, refl, sym, ap, ◌∙◌, subst, arith, cond}
-use Rattle.std.specs.Prelude.{map, max, not}
+use Rattle.std.proofs.Common.{◌≡◌, ◌≤◌, ◌<◌, ℕ, zero, suc, List, [], ◌∷◌, ◌++◌, length, Option, Some, None, Bool, true, false, refl, sym, ap, ◌∙◌, subst, arith}
+use Rattle.std.specs.Prelude.{map}
 use Rattle.c_lexer.specs.declared.token.Token.{Token}
 use Rattle.c_lexer.specs.declared.token.TokenKind.{TokenKind}
 use Rattle.c_lexer.specs.declared.token.TokenKind.TheVariants as kind
@@ -17,16 +17,16 @@ use Rattle.c_tree.specs.declared.unit.InitializerItem.{InitializerItem}
 use Rattle.c_tree.specs.declared.unit.InitDeclarator.{InitDeclarator}
 use Rattle.c_tree.specs.declared.unit.Declaration.{Declaration}
 use Rattle.c_grammar.specs.declared.declarator_place.DeclaratorPlace.TheVariants as place
-use Rattle.c_grammar.specs.Parts.{Part, takes, takes_at, declares, Scope, State, Takes, Spans, forgetting, specifies_in}
-use Rattle.c_grammar.specs.Grammar.{Piece, shape, form, ended_in, all_specified, specification, highest_specifier, highest, takes_mark, later, comma_if, more_literals}
-use Rattle.c_grammar.specs.Reading.{Reading, ◌>>=◌, Rules, rules, begins, begins_by, begins_keyword, binds, run_at, a_literal, a_mark}
-use Rattle.c_grammar.specs.Units.{designator_piece, joined_designators, designation, items_parts, initialized_item, initializer_of, item_of, makes_types, name_of, declaring_parts, assembler_parts, initializer_parts, initializer_height, rest_parts, init_piece, init_pieces, declaration_of}
+use Rattle.c_grammar.specs.Parts.{declares, State, Takes, Spans, forgetting}
+use Rattle.c_grammar.specs.Grammar.{Piece, shape, form, ended_in, all_specified, specification, highest, takes_mark, later, comma_if, more_literals}
+use Rattle.c_grammar.specs.Reading.{Rules, rules, begins, begins_keyword, binds, a_literal}
+use Rattle.c_grammar.specs.Units.{designator_piece, joined_designators, designation, items_parts, initializer_of, item_of, makes_types, name_of, declaring_parts, assembler_parts, initializer_parts, initializer_height, rest_parts, init_piece, declaration_of}
 use Rattle.c_grammar.specs.UnitReading.{Inside, is_designator, designated, member_designator_at, element_designator_at, designators_at, designated_item_at, plain_item_at, item_at, more_items_at, items_at, initializer_list_at, initializer_by, initializer_at, declaring_at, assembler_name_at, assembler_at, initialized_at, rest_at, init_at, more_inits_at, declaration_behind_at, declaration_at}
 use Rattle.c_grammar.proofs.Spans.{split, no_more, one_less}
-use Rattle.c_grammar.proofs.Begins.{token, taken, opening, opening_in, starts, not_opening}
+use Rattle.c_grammar.proofs.Begins.{taken, opening, opening_in, starts, not_opening}
 use Rattle.c_grammar.proofs.Read.{Spelling, run_read}
 use Rattle.c_grammar.proofs.UnitEquations.{initializer-Value, initializer-List, item-is, EachValue, InitialSteps, of_initializer}
-use Rattle.c_grammar.proofs.UnitBegins.{CompleteBelow, split_first, AfterInit, AfterDeclarator, by_semicolon, by_later, by_initializer, by_rest, declaring_begins, Pieces, pieces, after_first}
+use Rattle.c_grammar.proofs.UnitBegins.{CompleteBelow, split_first, AfterInit, by_semicolon, by_later, by_initializer, by_rest, declaring_begins, Pieces, pieces, after_first}
 
 -- ---- how an initializer begins
 

@@ -1,6 +1,6 @@
 -- What is read is what the grammar derives: initializers and declarations.
-use Rattle.std.proofs.Common.{◌≡◌, ◌≤◌, ℕ, zero, suc, List, [], ◌∷◌, ◌++◌, length, Option, Some, None, Bool, true, false, refl, sym, ap, ◌∙◌, subst, arith, ◌⊎◌, inl, inr, cond}
-use Rattle.std.specs.Prelude.{map, max, not}
+use Rattle.std.proofs.Common.{◌≡◌, ◌≤◌, ℕ, zero, suc, List, [], ◌∷◌, ◌++◌, length, Option, Some, None, Bool, true, false, refl, sym, ◌∙◌, subst, arith, inl, inr}
+use Rattle.std.specs.Prelude.{map}
 use Rattle.std.proofs.lemmas.Option.{same_Some}
 use Rattle.c_lexer.specs.declared.token.Token.{Token}
 use Rattle.c_lexer.specs.declared.token.TokenKind.{TokenKind}
@@ -13,15 +13,14 @@ use Rattle.c_tree.specs.declared.unit.Designator.{Designator}
 use Rattle.c_tree.specs.declared.unit.Designator.TheVariants as designator
 use Rattle.c_tree.specs.declared.unit.Initializer.{Initializer}
 use Rattle.c_tree.specs.declared.unit.Initializer.TheVariants as initial
-use Rattle.c_tree.specs.declared.unit.Initializer.TheOpen as initial_open
 use Rattle.c_tree.specs.declared.unit.InitializerItem.{InitializerItem}
 use Rattle.c_tree.specs.declared.unit.InitDeclarator.{InitDeclarator}
 use Rattle.c_tree.specs.declared.unit.Declaration.{Declaration}
 use Rattle.c_grammar.specs.declared.declarator_place.DeclaratorPlace.TheVariants as place
-use Rattle.c_grammar.specs.Parts.{Part, takes, takes_at, holds, forgets, declares, Scope, State, Takes, Spans, forgetting, declared}
-use Rattle.c_grammar.specs.Grammar.{Piece, shape, form, all_specified, specification, highest_specifier, takes_mark, highest, later, comma_if, more_literals, is_named}
-use Rattle.c_grammar.specs.Reading.{Reading, ◌>>=◌, Rules, rules, take_by, a_literal, expect, expect_keyword, name_at, begins, begins_keyword, run_at, specification_at}
-use Rattle.c_grammar.specs.Units.{designator_piece, joined_designators, designation, items_parts, initialized, initialized_item, initializer_of, item_of, makes_types, name_of, declaring_parts, assembler_parts, initializer_parts, initializer_height, rest_parts, init_piece, init_list_parts, init_pieces, declaration_of}
+use Rattle.c_grammar.specs.Parts.{Part, takes, declares, Scope, State, Takes, Spans, forgetting, declared}
+use Rattle.c_grammar.specs.Grammar.{shape, form, all_specified, specification, highest_specifier, takes_mark, highest, later, comma_if, more_literals}
+use Rattle.c_grammar.specs.Reading.{Rules, rules, take_by, a_literal, expect, expect_keyword, name_at, begins, begins_keyword, run_at, specification_at}
+use Rattle.c_grammar.specs.Units.{designator_piece, joined_designators, designation, items_parts, initializer_of, item_of, makes_types, name_of, declaring_parts, assembler_parts, initializer_parts, initializer_height, rest_parts, init_piece, declaration_of}
 use Rattle.c_grammar.specs.UnitReading.{Inside, designated, member_designator_at, element_designator_at, designator_by, designator_in, designators_at, designated_item_at, plain_item_at, item_at, more_items_at, items_at, initializer_list_at, initializer_by, initializer_at, declaring_at, assembler_name_at, assembler_at, initialized_at, rest_at, init_at, more_inits_at, declaration_behind_at, no_declarators, declaration_at}
 use Rattle.c_grammar.proofs.Spans.{join, bind_some, chosen, first_taken, take_at, expects, expects_at, expects_name, run_takes}
 use Rattle.c_grammar.proofs.UnitEquations.{initializer-Value, initializer-List, item-is}

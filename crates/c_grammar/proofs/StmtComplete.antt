@@ -1,6 +1,6 @@
 -- What the grammar derives is read: statements.
-use Rattle.std.proofs.Common.{◌≡◌, ◌≤◌, ◌<◌, ℕ, zero, suc, List, [], ◌∷◌, ◌++◌, length, Option, Some, None, Bool, true, false, refl, sym, ap, ◌∙◌, subst, arith, cond}
-use Rattle.std.specs.Prelude.{map, option_map, max, nat_le}
+use Rattle.std.proofs.Common.{◌≡◌, ◌≤◌, ◌<◌, ℕ, zero, suc, List, [], ◌∷◌, ◌++◌, length, Option, Some, None, Bool, true, false, refl, sym, ap, ◌∙◌, subst, arith}
+use Rattle.std.specs.Prelude.{map, option_map}
 use Rattle.c_lexer.specs.declared.token.Token.{Token}
 use Rattle.c_lexer.specs.declared.token.TokenKind.{TokenKind}
 use Rattle.c_lexer.specs.declared.token.TokenKind.TheVariants as kind
@@ -14,17 +14,17 @@ use Rattle.c_tree.specs.declared.unit.ForStart.{ForStart}
 use Rattle.c_tree.specs.declared.unit.ForStart.TheVariants as start
 use Rattle.c_tree.specs.declared.unit.Stmt.{Stmt}
 use Rattle.c_tree.specs.declared.unit.Stmt.TheVariants as stmt
-use Rattle.c_grammar.specs.Parts.{Name, Part, takes, takes_at, at_most, opens, closes, Scope, State, Takes, Spans, entered, left, specifies_in, next_is}
-use Rattle.c_grammar.specs.Grammar.{Shape, shape, takes_mark, in_parens}
-use Rattle.c_grammar.specs.Reading.{Reading, ◌>>=◌, Rules, rules, begins, begins_by, begins_keyword, binds, a_mark}
+use Rattle.c_grammar.specs.Parts.{Name, Part, takes, takes_at, closes, Scope, State, Takes, Spans, entered, left, specifies_in}
+use Rattle.c_grammar.specs.Grammar.{Shape, shape, takes_mark}
+use Rattle.c_grammar.specs.Reading.{Rules, rules, begins, begins_keyword, binds}
 use Rattle.c_grammar.specs.Units.{joined_shapes, highest_stmt, value_parts, value_height, only_statement, substatement, else_parts, else_height, for_start_parts, for_start_height, condition_parts, stmt_shape, DerivesStmt, declaration_of}
-use Rattle.c_grammar.specs.UnitReading.{Inside, declaration_at, initializer_at, Turn, block_items_at, block_at, optional_at, value_statement_at, label_at, case_at, default_at, substatement_at, condition_at, else_at, if_at, switch_at, while_at, do_at, for_declaration_at, for_value_at, for_start_at, for_at, goto_at, continue_at, break_at, return_at, labelled, next_colon, keyword_statement, plain_by, plain_in, declared_statement_at, declared_by, stmt_by, stmt_at}
-use Rattle.c_grammar.proofs.Spans.{split, no_more, one_less}
+use Rattle.c_grammar.specs.UnitReading.{Inside, declaration_at, initializer_at, Turn, block_items_at, block_at, optional_at, value_statement_at, label_at, case_at, default_at, substatement_at, condition_at, else_at, if_at, switch_at, while_at, do_at, for_declaration_at, for_value_at, for_start_at, for_at, goto_at, continue_at, break_at, return_at, labelled, next_colon, keyword_statement, plain_by, plain_in, declared_statement_at, stmt_by, stmt_at}
+use Rattle.c_grammar.proofs.Spans.{split, no_more}
 use Rattle.c_grammar.proofs.Begins.{token, taken, opening, opening_in, starts, sized, not_opening, specified_mark}
 use Rattle.c_grammar.proofs.Reach.{nat_le_is, behind}
 use Rattle.c_grammar.proofs.UnitEquations.{stmt-Block, stmt-Declared, stmt-Value, stmt-Label, stmt-Case, stmt-Default, stmt-If, stmt-Switch, stmt-While, stmt-Do, stmt-For, stmt-Goto, stmt-Continue, stmt-Break, stmt-Return, EachStmt, MaybeStmt, StmtSteps, of_stmt}
 use Rattle.c_grammar.proofs.UnitSteps.{next_same}
-use Rattle.c_grammar.proofs.UnitBegins.{CompleteBelow, colon_same, labelled_same, Declares, declaration_begins}
+use Rattle.c_grammar.proofs.UnitBegins.{CompleteBelow, colon_same, labelled_same, declaration_begins}
 use Rattle.c_grammar.proofs.DeclarationComplete.{initializer_again, declaration_again}
 
 -- ---- how a statement begins

@@ -1,6 +1,6 @@
 -- What is read is what the grammar derives: statements.
-use Rattle.std.proofs.Common.{◌≡◌, ◌≤◌, ℕ, zero, suc, List, [], ◌∷◌, ◌++◌, length, Option, Some, None, Bool, true, false, refl, sym, ap, ◌∙◌, subst, arith, ◌⊎◌, inl, inr, cond}
-use Rattle.std.specs.Prelude.{map, option_map, max, nat_le}
+use Rattle.std.proofs.Common.{◌≡◌, ◌≤◌, ℕ, zero, suc, List, [], ◌∷◌, ◌++◌, length, Option, Some, None, false, refl, sym, ◌∙◌, subst, arith, inl, inr}
+use Rattle.std.specs.Prelude.{map, option_map, nat_le}
 use Rattle.std.proofs.lemmas.Option.{same_Some}
 use Rattle.c_lexer.specs.declared.token.Token.{Token}
 use Rattle.c_lexer.specs.declared.token.TokenKind.{TokenKind}
@@ -14,14 +14,14 @@ use Rattle.c_tree.specs.declared.unit.ForStart.{ForStart}
 use Rattle.c_tree.specs.declared.unit.ForStart.TheVariants as start
 use Rattle.c_tree.specs.declared.unit.Stmt.{Stmt}
 use Rattle.c_tree.specs.declared.unit.Stmt.TheVariants as stmt
-use Rattle.c_grammar.specs.Parts.{Part, takes, takes_at, opens, closes, Scope, State, Takes, Spans, entered, left, specifies_in, next_is}
+use Rattle.c_grammar.specs.Parts.{Part, takes, takes_at, opens, closes, Scope, State, Takes, Spans, entered, left, specifies_in}
 use Rattle.c_grammar.specs.Grammar.{Shape, shape, takes_mark}
-use Rattle.c_grammar.specs.Reading.{Reading, ◌>>=◌, Rules, rules, expect, expect_keyword, name_at, begins, begins_keyword}
-use Rattle.c_grammar.specs.Units.{joined_shapes, highest_stmt, value_parts, value_height, only_statement, substatement, else_parts, else_height, for_start_parts, for_start_height, condition_parts, stmt_shape, DerivesStmt, declaration_of}
-use Rattle.c_grammar.specs.UnitReading.{Inside, declaration_at, initializer_at, Turn, block_items_at, block_at, optional_at, value_statement_at, label_at, case_at, default_at, substatement_at, condition_at, else_at, if_at, switch_at, while_at, do_at, for_declaration_at, for_value_at, for_start_at, for_at, goto_at, continue_at, break_at, return_at, labelled, keyword_statement, plain_by, plain_in, declared_statement_at, declared_by, stmt_by, stmt_at}
+use Rattle.c_grammar.specs.Reading.{Rules, rules, expect, expect_keyword, name_at, begins, begins_keyword}
+use Rattle.c_grammar.specs.Units.{joined_shapes, highest_stmt, value_parts, value_height, only_statement, substatement, else_parts, else_height, for_start_parts, for_start_height, condition_parts, stmt_shape, DerivesStmt}
+use Rattle.c_grammar.specs.UnitReading.{Inside, declaration_at, initializer_at, Turn, block_items_at, block_at, optional_at, value_statement_at, label_at, case_at, default_at, substatement_at, condition_at, else_at, if_at, switch_at, while_at, do_at, for_declaration_at, for_value_at, for_start_at, for_at, goto_at, continue_at, break_at, return_at, labelled, keyword_statement, plain_by, plain_in, declared_statement_at, stmt_by, stmt_at}
 use Rattle.c_grammar.proofs.Spans.{join, bind_some, chosen, guarded, nat_le_true, first_taken, take_at, expects, expects_at, expects_name, expects_name_at}
 use Rattle.c_grammar.proofs.UnitEquations.{stmt-Block, stmt-Declared, stmt-Value, stmt-Label, stmt-Case, stmt-Default, stmt-If, stmt-Switch, stmt-While, stmt-Do, stmt-For, stmt-Goto, stmt-Continue, stmt-Break, stmt-Return}
-use Rattle.c_grammar.proofs.UnitSteps.{SoundBelow, Made, expects_keyword, next_same}
+use Rattle.c_grammar.proofs.UnitSteps.{SoundBelow, expects_keyword, next_same}
 use Rattle.c_grammar.proofs.DeclarationSound.{SoundInside, declaration_takes, initializer_takes}
 
 pub stands : (limit rank : ℕ) (s z : State) (x : Stmt) (q : Shape) → stmt_shape x ≡ q → Spans q.parts s z → q.rank ≤ rank → q.height ≤ limit → DerivesStmt limit rank s x z

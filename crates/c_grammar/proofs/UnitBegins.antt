@@ -1,6 +1,6 @@
 -- How initializers and declarations begin, and what stands behind their parts.
-use Rattle.std.proofs.Common.{◌≡◌, ◌≤◌, ◌<◌, ℕ, zero, suc, List, [], ◌∷◌, ◌++◌, length, Option, Some, None, Bool, true, false, refl, sym, ap, ◌∙◌, subst, arith, cond, append_assoc, ◌⊎◌, inl, inr}
-use Rattle.std.specs.Prelude.{map, max, ◌&&◌}
+use Rattle.std.proofs.Common.{◌≡◌, ◌≤◌, ◌<◌, ℕ, List, [], ◌∷◌, ◌++◌, length, Option, Some, None, Bool, true, false, refl, sym, ap, ◌∙◌, subst, arith, cond, append_assoc, ◌⊎◌, inl, inr}
+use Rattle.std.specs.Prelude.{map, ◌&&◌}
 use denote.Enum.Bare.{sameb}
 use Rattle.c_lexer.specs.declared.token.Token.{Token}
 use Rattle.c_lexer.specs.declared.token.TokenKind.{TokenKind}
@@ -16,13 +16,13 @@ use Rattle.c_tree.specs.declared.unit.Initializer.{Initializer}
 use Rattle.c_tree.specs.declared.unit.InitDeclarator.{InitDeclarator}
 use Rattle.c_tree.specs.declared.unit.Declaration.{Declaration}
 use Rattle.c_grammar.specs.declared.declarator_place.DeclaratorPlace.TheVariants as place
-use Rattle.c_grammar.specs.Parts.{Part, takes, declares, State, Takes, Spans, specifies_in, is_punctuator, forgetting}
+use Rattle.c_grammar.specs.Parts.{Part, declares, State, Takes, Spans, specifies_in, is_punctuator, forgetting}
 use Rattle.c_grammar.specs.Grammar.{Derives, DerivesDeclarator, form, ended_in, all_specified, specification, highest_specifier, takes_mark, later, is_named}
-use Rattle.c_grammar.specs.Reading.{Reading, Rules, a_mark, begins, begins_by, begins_keyword, binds, holds_some, specification_at}
-use Rattle.c_grammar.specs.Units.{makes_types, name_of, declaring_parts, assembler_parts, initializer_parts, rest_parts, init_piece, init_list_parts, init_pieces, declaration_of}
+use Rattle.c_grammar.specs.Reading.{Rules, a_mark, begins, begins_keyword, binds, holds_some, specification_at}
+use Rattle.c_grammar.specs.Units.{makes_types, name_of, declaring_parts, assembler_parts, initializer_parts, rest_parts, init_piece, init_list_parts, declaration_of}
 use Rattle.c_grammar.specs.UnitReading.{labelled, is_name, next_colon}
-use Rattle.c_grammar.proofs.Spans.{split, no_more, one_less}
-use Rattle.c_grammar.proofs.Begins.{token, taken, colon_in, labelled as labelled_so, is_name as is_name_so, declares_in, heads, stands, NoSpecifier, no_specifier, specification_begins}
+use Rattle.c_grammar.proofs.Spans.{split, no_more}
+use Rattle.c_grammar.proofs.Begins.{taken, colon_in, labelled as labelled_so, is_name as is_name_so, declares_in, heads, stands, NoSpecifier, no_specifier, specification_begins}
 
 -- how expressions, specifiers and declarators are read is complete
 pub record CompleteBelow (limit : ℕ) (r : Rules) : Type 0 where

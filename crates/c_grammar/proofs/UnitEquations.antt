@@ -3,9 +3,8 @@ use Rattle.std.proofs.Common.{◌≡◌, ℕ, List, [], ◌∷◌, Option, Some,
 use Rattle.std.specs.Prelude.{map, option_map}
 use denote.Hole.Holds.{Such}
 use Rattle.c_tree.specs.declared.expr.Expr.{Expr}
-use Rattle.c_tree.specs.declared.unit.Designator.{Designator}
 use Rattle.c_tree.specs.declared.unit.Initializer.{Initializer, fold-roll-Initializer, ind-Initializer, roll-Initializer, map-Initializer}
-use Rattle.c_tree.specs.declared.unit.InitializerItem.{InitializerItem, fold-roll-InitializerItem, roll-InitializerItem, map-InitializerItem}
+use Rattle.c_tree.specs.declared.unit.InitializerItem.{InitializerItem, fold-roll-InitializerItem, roll-InitializerItem}
 use Rattle.c_tree.specs.declared.unit.Initializer.TheBlock.{the_family as initial_family, member-Initializer, member-InitializerItem}
 use Rattle.c_tree.specs.declared.unit.Initializer.TheFolds.{claims as initial_claims}
 use Rattle.c_tree.specs.declared.unit.Initializer.TheOpen as initial_open

@@ -1,35 +1,32 @@
 -- A unit is read where it is derived, and only there; by the laws of expressions, specifiers and declarators.
-use Rattle.std.proofs.Common.{◌≡◌, ◌≤◌, ◌<◌, ℕ, zero, suc, List, [], ◌∷◌, ◌++◌, length, Option, Some, None, Bool, true, false, refl, sym, ap, ◌∙◌, subst, arith, cond, ◌⊎◌, inl, inr}
-use Rattle.std.specs.Prelude.{map, max}
+use Rattle.std.proofs.Common.{◌≡◌, ◌≤◌, ◌<◌, ℕ, zero, suc, List, [], ◌∷◌, ◌++◌, length, Some, None, true, false, refl, sym, ap, ◌∙◌, subst, arith, inl, inr}
 use Rattle.std.proofs.lemmas.Option.{same_Some}
 use Rattle.c_lexer.specs.declared.token.Token.{Token}
-use Rattle.c_lexer.specs.declared.token.TokenKind.{TokenKind}
 use Rattle.c_lexer.specs.declared.token.TokenKind.TheVariants as kind
 use Rattle.c_lexer.specs.declared.token.Punctuator.TheVariants as mark
 use Rattle.c_tree.specs.declared.expr.Specifier.{Specifier}
 use Rattle.c_tree.specs.declared.expr.Declarator.{Declarator}
 use Rattle.c_tree.specs.declared.unit.InitDeclarator.{InitDeclarator}
-use Rattle.c_tree.specs.declared.unit.Declaration.{Declaration}
 use Rattle.c_tree.specs.declared.unit.Stmt.{Stmt}
 use Rattle.c_tree.specs.declared.unit.Body.{Body}
 use Rattle.c_tree.specs.declared.unit.Body.TheVariants as body
 use Rattle.c_tree.specs.declared.unit.External.{External}
 use Rattle.c_tree.specs.declared.unit.External.TheVariants as external
-use Rattle.c_grammar.specs.Parts.{Part, takes_at, Scope, State, Takes, Spans, entered_function, specifies_in}
-use Rattle.c_grammar.specs.Grammar.{form, ended_in, all_specified, specification, highest_specifier, takes_mark, takes_mark_at}
-use Rattle.c_grammar.specs.Reading.{Reading, ◌>>=◌, Rules, rules, expect, begins, specification_at}
-use Rattle.c_grammar.specs.Units.{makes_types, declaring_parts, init_piece, declaration_of, DerivesStmt, limit, IsBlock, Spelled, DerivesBody, DerivesFunction, DerivesExternal, DerivesExternals, file_scope, derives}
-use Rattle.c_grammar.specs.UnitReading.{initializer_at, declaring_at, declaration_behind_at, no_declarators, stmt_at, group_in, start_of, whole, body_at, behind_declarator_at, declared_external_at, external_at, is_end, externals_at, read_unit}
+use Rattle.c_grammar.specs.Parts.{Scope, State, Spans, entered_function}
+use Rattle.c_grammar.specs.Grammar.{ended_in, all_specified, specification, takes_mark}
+use Rattle.c_grammar.specs.Reading.{Reading, rules, expect, begins, specification_at}
+use Rattle.c_grammar.specs.Units.{makes_types, declaring_parts, declaration_of, limit, Spelled, DerivesBody, DerivesFunction, DerivesExternal, DerivesExternals, file_scope, derives}
+use Rattle.c_grammar.specs.UnitReading.{initializer_at, declaring_at, declaration_behind_at, no_declarators, stmt_at, group_in, start_of, whole, body_at, declared_external_at, external_at, is_end, externals_at, read_unit}
 use Rattle.c_grammar.proofs.Spans.{join, split, no_more, bind_some, chosen, expects, expects_at}
-use Rattle.c_grammar.proofs.Begins.{token, taken, specified_mark, specification_begins}
+use Rattle.c_grammar.proofs.Begins.{taken, specified_mark, specification_begins}
 use Rattle.c_grammar.proofs.Reach.{behind}
-use Rattle.c_grammar.proofs.UnitSteps.{SoundBelow, Made}
-use Rattle.c_grammar.proofs.UnitBegins.{CompleteBelow, by_rest, declaring_begins, Pieces, pieces, after_first, declaration_begins}
+use Rattle.c_grammar.proofs.UnitSteps.{SoundBelow}
+use Rattle.c_grammar.proofs.UnitBegins.{CompleteBelow, by_rest, declaring_begins, pieces, after_first, declaration_begins}
 use Rattle.c_grammar.proofs.DeclarationSound.{declaring_takes, behind_takes, alone_takes, initializer_takes}
 use Rattle.c_grammar.proofs.DeclarationComplete.{declaring_again, behind_again, initializer_again}
 use Rattle.c_grammar.proofs.StmtSound.{stmt_takes}
 use Rattle.c_grammar.proofs.StmtComplete.{stmt_again}
-use Rattle.c_grammar.proofs.BraceGroup.{group_again, IsGroup, group_takes}
+use Rattle.c_grammar.proofs.BraceGroup.{group_again, group_takes}
 
 module _ (sound : (limit : ℕ) → SoundBelow limit (rules limit)) (complete : (limit : ℕ) → CompleteBelow limit (rules limit)) where
   -- ---- bodies

@@ -1,6 +1,5 @@
 -- Steps that the laws of units share, and what they take from those of expressions, specifiers and declarators.
-use Rattle.std.proofs.Common.{◌≡◌, ◌≤◌, ◌<◌, ℕ, zero, suc, List, [], ◌∷◌, ◌++◌, Option, Some, None, Bool, true, false, refl, sym, ap, ◌∙◌, subst, arith, cond, append_assoc}
-use Rattle.std.specs.Prelude.{map}
+use Rattle.std.proofs.Common.{◌≡◌, ◌≤◌, ℕ, List, [], ◌∷◌, ◌++◌, Some, None, Bool, true, false, refl, sym, ap, subst, cond, append_assoc}
 use Rattle.std.proofs.lemmas.Option.{same_Some}
 use denote.Enum.Bare.{sameb}
 use Rattle.c_lexer.specs.declared.token.Token.{Token}
@@ -12,7 +11,7 @@ use Rattle.c_tree.specs.declared.expr.Expr.{Expr}
 use Rattle.c_tree.specs.declared.expr.Specifier.{Specifier}
 use Rattle.c_tree.specs.declared.expr.Declarator.{Declarator}
 use Rattle.c_grammar.specs.declared.declarator_place.DeclaratorPlace.{DeclaratorPlace}
-use Rattle.c_grammar.specs.Parts.{Name, Part, takes, State, Takes, Spans, is_keyword, next_is}
+use Rattle.c_grammar.specs.Parts.{Part, takes, State, Spans, is_keyword, next_is}
 use Rattle.c_grammar.specs.Grammar.{Piece, Derives, DerivesDeclarator, all_specified, specification, highest_specifier, more_literals}
 use Rattle.c_grammar.specs.Reading.{Rules, take_by, a_keyword, a_literal, expect_keyword, begins_by, holds_some, specification_at}
 use Rattle.c_grammar.proofs.Spans.{join, take, taken_as, took, expected_keyword, SpelledBy}
