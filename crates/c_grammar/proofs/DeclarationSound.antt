@@ -1,7 +1,6 @@
 -- What is read is what the grammar derives: initializers and declarations.
 use Rattle.std.proofs.Common.{◌≡◌, ◌≤◌, ℕ, zero, suc, List, [], ◌∷◌, ◌++◌, length, Option, Some, None, Bool, true, false, refl, sym, ◌∙◌, subst, arith, inl, inr}
 use Rattle.std.specs.Prelude.{map}
-use Rattle.std.proofs.lemmas.Option.{same_Some}
 use Rattle.c_lexer.specs.declared.token.Token.{Token}
 use Rattle.c_lexer.specs.declared.token.TokenKind.{TokenKind}
 use Rattle.c_lexer.specs.declared.token.TokenKind.TheVariants as kind
@@ -24,7 +23,7 @@ use Rattle.c_grammar.specs.Units.{designator_piece, joined_designators, designat
 use Rattle.c_grammar.specs.UnitReading.{Inside, designated, member_designator_at, element_designator_at, designator_by, designator_in, designators_at, designated_item_at, plain_item_at, item_at, more_items_at, items_at, initializer_list_at, initializer_by, initializer_at, declaring_at, assembler_name_at, assembler_at, initialized_at, rest_at, init_at, more_inits_at, declaration_behind_at, no_declarators, declaration_at}
 use Rattle.c_grammar.proofs.Spans.{join, bind_some, chosen, first_taken, take_at, expects, expects_at, expects_name, run_takes}
 use Rattle.c_grammar.proofs.UnitEquations.{initializer-Value, initializer-List, item-is}
-use Rattle.c_grammar.proofs.UnitSteps.{SoundBelow, Made, made_as, join_first, expects_keyword, expects_literal, literals_spelled}
+use Rattle.c_grammar.proofs.UnitSteps.{SoundBelow, found, Made, made_as, join_first, expects_keyword, expects_literal, literals_spelled}
 
 -- how an initializer is read that stands inside is sound
 abbrev pub SoundInside : ℕ → Inside → Type 0
@@ -35,14 +34,14 @@ module _ (limit : ℕ) (r : Rules) (sound : SoundBelow limit r) where
   unfolding member_designator_at element_designator_at
   designator_takes_by s m z d at (kind.Punctuator mark.Dot) t c h =
       let a = bind_some (name_at m) _ _ h in
-      subst (λ (p : Designator × State). Made limit (designator_piece p.0) s p.1) (same_Some (designator.Member at a.0.0, a.0.2) (d, z) a.2)
+      found (λ (p : Designator × State). Made limit (designator_piece p.0) s p.1) (designator.Member at a.0.0, a.0.2) (d, z) a.2
       (take_at at (kind.Punctuator mark.Dot) (takes (kind.Identifier a.0.0) ∷ []) s m a.0.2 t c (expects_name [] m a.0.2 a.0 a.1 refl), omega arith)
   designator_takes_by s m z d at (kind.Punctuator mark.LeftBracket) t c h =
       let a = bind_some (r.expr 14 m) _ _ h in
       let b = bind_some (expect mark.RightBracket a.0.1) _ _ a.2 in
       let e = sound.expr 14 m a.0.1 a.0.0 a.1 in
       let y = join (shape a.0.0).parts (takes_mark mark.RightBracket ∷ []) m a.0.1 b.0.2 e.spans (expects mark.RightBracket [] a.0.1 b.0.2 b.0 b.1 refl) in
-      subst (λ (p : Designator × State). Made limit (designator_piece p.0) s p.1) (same_Some (designator.Element at a.0.0, b.0.2) (d, z) b.2)
+      found (λ (p : Designator × State). Made limit (designator_piece p.0) s p.1) (designator.Element at a.0.0, b.0.2) (d, z) b.2
       ((m.0, t, (e.fits, subst (λ (q : Scope). Spans ((shape a.0.0).parts ++ takes_mark mark.RightBracket ∷ []) (m.0, q) b.0.2) (sym c) y)), e.low)
   designator_takes_by s m z d at _ t c h = cc
 
@@ -61,8 +60,8 @@ module _ (limit : ℕ) (r : Rules) (sound : SoundBelow limit r) where
             let b = bind_some (designators_at r n a.0.1) _ _ a.2 in
             let x = designator_takes s.0 s.1 a.0.1 a.0.0 a.1 in
             let y = designators_take n a.0.1 b.0.1 b.0.0 b.1 in
-            subst P (same_Some (a.0.0 ∷ b.0.0, b.0.1) (ds, z) b.2) (join (designator_piece a.0.0).parts (joined_designators b.0.0) s a.0.1 b.0.1 x.0 y.0, omega (arith, x.1, y.1))
-        | inr p ↦ subst P (same_Some ([], s) (ds, z) p.1) (refl, omega arith)
+            found P (a.0.0 ∷ b.0.0, b.0.1) (ds, z) b.2 (join (designator_piece a.0.0).parts (joined_designators b.0.0) s a.0.1 b.0.1 x.0 y.0, omega (arith, x.1, y.1))
+        | inr p ↦ found P ([], s) (ds, z) p.1 (refl, omega arith)
       ]
 
   -- where a designator begins, one is read
@@ -73,7 +72,7 @@ module _ (limit : ℕ) (r : Rules) (sound : SoundBelow limit r) where
         | inl p ↦
             let a = bind_some (designator_in r s.0 s.1) _ _ p.1 in
             let b = bind_some (designators_at r n a.0.1) _ _ a.2 in
-            subst (λ (p : List Designator × State). designation p.0 ≡ joined_designators p.0 ++ takes_mark mark.Equal ∷ []) (same_Some (a.0.0 ∷ b.0.0, b.0.1) (ds, z) b.2) refl
+            found (λ (p : List Designator × State). designation p.0 ≡ joined_designators p.0 ++ takes_mark mark.Equal ∷ []) (a.0.0 ∷ b.0.0, b.0.1) (ds, z) b.2 refl
         | inr p ↦ let e = sym c ∙ p.0 in cc
       ]
 
@@ -93,13 +92,13 @@ module _ (limit : ℕ) (r : Rules) (sound : SoundBelow limit r) where
               let item : InitializerItem = record { designators = a.0.0; value = c.0.0 } in
               let y = join (joined_designators a.0.0) (takes_mark mark.Equal ∷ []) s a.0.1 b.0.2 d.0 (expects mark.Equal [] a.0.1 b.0.2 b.0 b.1 refl) in
               let y' = subst (λ (l : List Part). Spans l s b.0.2) (sym e) y in
-              subst P (same_Some (item, c.0.1) (x, z) c.2)
+              found P (item, c.0.1) (x, z) c.2
               (made_as limit (item_of item) _ s c.0.1 (item-is item) (join (designation a.0.0) (initializer_of c.0.0).parts s b.0.2 c.0.1 y' v.0, omega (arith, d.1, v.1)))
           | inr p ↦
               let c = bind_some (inside s) _ _ p.1 in
               let v = within s c.0.1 c.0.0 c.1 in
               let item : InitializerItem = record { designators = []; value = c.0.0 } in
-              subst P (same_Some (item, c.0.1) (x, z) c.2) (made_as limit (item_of item) _ s c.0.1 (item-is item) (v.0, omega (arith, v.1)))
+              found P (item, c.0.1) (x, z) c.2 (made_as limit (item_of item) _ s c.0.1 (item-is item) (v.0, omega (arith, v.1)))
         ]
 
     more_items_take : (n : ℕ) (s z : State) (xs : List InitializerItem) (trailing : Bool) → more_items_at r inside n s ≡ Some ((xs, trailing), z) → Spans (later (map item_of xs) ++ comma_if trailing) s z × (highest (map item_of xs) ≤ limit)
@@ -111,17 +110,17 @@ module _ (limit : ℕ) (r : Rules) (sound : SoundBelow limit r) where
           | inl p ↦
               let a = bind_some (expect mark.Comma s) _ _ p.1 in
               elim (chosen (begins mark.RightBrace a.0.2) _ _ _ a.2) [
-                | inl q ↦ subst P (same_Some (([], true), a.0.2) ((xs, trailing), z) q.1) (expects mark.Comma [] s a.0.2 a.0 a.1 refl, omega arith)
+                | inl q ↦ found P (([], true), a.0.2) ((xs, trailing), z) q.1 (expects mark.Comma [] s a.0.2 a.0 a.1 refl, omega arith)
                 | inr q ↦
                     let b = bind_some (item_at r inside a.0.2) _ _ q.1 in
                     let c = bind_some (more_items_at r inside n b.0.1) _ _ b.2 in
                     let x = item_takes a.0.2 b.0.1 b.0.0 b.1 in
                     let y = more_items_take n b.0.1 c.0.1 c.0.0.0 c.0.0.1 c.1 in
                     let w = join_first (item_of b.0.0).parts (later (map item_of c.0.0.0)) (comma_if c.0.0.1) a.0.2 b.0.1 c.0.1 x.0 y.0 in
-                    subst P (same_Some ((b.0.0 ∷ c.0.0.0, c.0.0.1), c.0.1) ((xs, trailing), z) c.2)
+                    found P ((b.0.0 ∷ c.0.0.0, c.0.0.1), c.0.1) ((xs, trailing), z) c.2
                     (expects mark.Comma (((item_of b.0.0).parts ++ later (map item_of c.0.0.0)) ++ comma_if c.0.0.1) s c.0.1 a.0 a.1 w, omega (arith, x.1, y.1))
               ]
-          | inr p ↦ subst P (same_Some (([], false), s) ((xs, trailing), z) p.1) (refl, omega arith)
+          | inr p ↦ found P (([], false), s) ((xs, trailing), z) p.1 (refl, omega arith)
         ]
 
     items_take : (s z : State) (xs : List InitializerItem) (trailing : Bool) → items_at r inside s ≡ Some ((xs, trailing), z) → Spans (items_parts (map item_of xs) trailing) s z × (highest (map item_of xs) ≤ limit)
@@ -129,13 +128,13 @@ module _ (limit : ℕ) (r : Rules) (sound : SoundBelow limit r) where
     items_take s z xs trailing h =
         let P = λ (p : (List InitializerItem × Bool) × State). Spans (items_parts (map item_of p.0.0) p.0.1) s p.1 × (highest (map item_of p.0.0) ≤ limit) in
         elim (chosen (begins mark.RightBrace s) _ _ _ h) [
-          | inl p ↦ subst P (same_Some (([], false), s) ((xs, trailing), z) p.1) ((refl, refl), omega arith)
+          | inl p ↦ found P (([], false), s) ((xs, trailing), z) p.1 ((refl, refl), omega arith)
           | inr p ↦
               let b = bind_some (item_at r inside s) _ _ p.1 in
               let c = bind_some (more_items_at r inside (suc (length b.0.1.0)) b.0.1) _ _ b.2 in
               let x = item_takes s b.0.1 b.0.0 b.1 in
               let y = more_items_take (suc (length b.0.1.0)) b.0.1 c.0.1 c.0.0.0 c.0.0.1 c.1 in
-              subst P (same_Some ((b.0.0 ∷ c.0.0.0, c.0.0.1), c.0.1) ((xs, trailing), z) c.2)
+              found P ((b.0.0 ∷ c.0.0.0, c.0.0.1), c.0.1) ((xs, trailing), z) c.2
               (join_first (item_of b.0.0).parts (later (map item_of c.0.0.0)) (comma_if c.0.0.1) s b.0.1 c.0.1 x.0 y.0, omega (arith, x.1, y.1))
         ]
 
@@ -151,13 +150,13 @@ module _ (limit : ℕ) (r : Rules) (sound : SoundBelow limit r) where
               let i = items_take a.0.2 b.0.1 b.0.0.0 b.0.0.1 b.1 in
               let ps = items_parts (map item_of b.0.0.0) b.0.0.1 in
               let y = join ps (takes_mark mark.RightBrace ∷ []) a.0.2 b.0.1 c.0.2 i.0 (expects mark.RightBrace [] b.0.1 c.0.2 c.0 c.1 refl) in
-              subst P (same_Some (initial.List a.0.1 b.0.0.0 b.0.0.1, c.0.2) (x, z) c.2)
+              found P (initial.List a.0.1 b.0.0.0 b.0.0.1, c.0.2) (x, z) c.2
               (made_as (suc limit) (initializer_of (initial.List a.0.1 b.0.0.0 b.0.0.1)) _ s c.0.2 (initializer-List a.0.1 b.0.0.0 b.0.0.1)
               (expects_at mark.LeftBrace (ps ++ takes_mark mark.RightBrace ∷ []) s c.0.2 a.0 a.1 y, omega (arith, i.1)))
           | inr p ↦
               let a = bind_some (r.expr 15 s) _ _ p.1 in
               let e = sound.expr 15 s a.0.1 a.0.0 a.1 in
-              subst P (same_Some (initial.Value a.0.0, a.0.1) (x, z) a.2)
+              found P (initial.Value a.0.0, a.0.1) (x, z) a.2
               (made_as (suc limit) (initializer_of (initial.Value a.0.0)) _ s a.0.1 (initializer-Value a.0.0) ((e.fits, e.spans), omega (arith, e.low)))
         ]
 
@@ -169,7 +168,7 @@ module _ (limit : ℕ) (r : Rules) (sound : SoundBelow limit r) where
         let a = bind_some (r.declarator place.Declaration (s.0, forgetting s.1)) _ _ h in
         let e = sound.declarator place.Declaration (s.0, forgetting s.1) a.0.1 a.0.0 a.1 in
         let m : State = (a.0.1.0, declared (name_of (form a.0.0)) is_type a.0.1.1) in
-        subst (λ (p : Declarator × State). Spans (declaring_parts is_type p.0) s p.1 × ((form p.0).height ≤ limit)) (same_Some (a.0.0, m) (d, z) a.2)
+        found (λ (p : Declarator × State). Spans (declaring_parts is_type p.0) s p.1 × ((form p.0).height ≤ limit)) (a.0.0, m) (d, z) a.2
         ((e.named, join ((form a.0.0).parts place.Declaration) (declares (name_of (form a.0.0)) is_type ∷ []) (s.0, forgetting s.1) a.0.1 m e.spans refl), e.low)
 
     assembler_takes : (s z : State) (xs : List (List ℕ)) → assembler_at s ≡ Some (xs, z) → Spans (assembler_parts xs) s z
@@ -187,9 +186,9 @@ module _ (limit : ℕ) (r : Rules) (sound : SoundBelow limit r) where
               let ps = more_literals d.0.0 ++ takes_mark mark.RightParen ∷ [] in
               let y = join (more_literals d.0.0) (takes_mark mark.RightParen ∷ []) c.0.2 d.0.1 e.0.2 more (expects mark.RightParen [] d.0.1 e.0.2 e.0 e.1 refl) in
               let w = expects_literal ps b.0.2 e.0.2 c.0 c.1 y in
-              subst P (same_Some (c.0.0 ∷ d.0.0, e.0.2) (xs, z) e.2)
+              found P (c.0.0 ∷ d.0.0, e.0.2) (xs, z) e.2
               (expects_keyword keyword.Asm (takes_mark mark.LeftParen ∷ takes (kind.StringLiteral c.0.0) ∷ ps) s e.0.2 a.0 a.1 (expects mark.LeftParen (takes (kind.StringLiteral c.0.0) ∷ ps) a.0.2 e.0.2 b.0 b.1 w))
-          | inr p ↦ subst P (same_Some ([], s) (xs, z) p.1) refl
+          | inr p ↦ found P ([], s) (xs, z) p.1 refl
         ]
 
     initialized_takes : (s z : State) (x : Option Initializer) → initialized_at inside s ≡ Some (x, z) → Spans (initializer_parts x) s z × (initializer_height x ≤ limit)
@@ -201,8 +200,8 @@ module _ (limit : ℕ) (r : Rules) (sound : SoundBelow limit r) where
               let a = bind_some (expect mark.Equal s) _ _ p.1 in
               let b = bind_some (inside a.0.2) _ _ a.2 in
               let v = within a.0.2 b.0.1 b.0.0 b.1 in
-              subst P (same_Some (Some b.0.0, b.0.1) (x, z) b.2) (expects mark.Equal (initializer_of b.0.0).parts s b.0.1 a.0 a.1 v.0, v.1)
-          | inr p ↦ subst P (same_Some (None, s) (x, z) p.1) (refl, omega arith)
+              found P (Some b.0.0, b.0.1) (x, z) b.2 (expects mark.Equal (initializer_of b.0.0).parts s b.0.1 a.0 a.1 v.0, v.1)
+          | inr p ↦ found P (None, s) (x, z) p.1 (refl, omega arith)
         ]
 
     rest_takes : (d : Declarator) (s z : State) (x : InitDeclarator) → rest_at inside d s ≡ Some (x, z) → (x.declarator ≡ d) × Spans (rest_parts x) s z × (initializer_height x.initializer ≤ limit)
@@ -212,7 +211,7 @@ module _ (limit : ℕ) (r : Rules) (sound : SoundBelow limit r) where
         let b = bind_some (initialized_at inside a.0.1) _ _ a.2 in
         let v = initialized_takes a.0.1 b.0.1 b.0.0 b.1 in
         let q : InitDeclarator = record { declarator = d; assembler_name = a.0.0; initializer = b.0.0 } in
-        subst (λ (p : InitDeclarator × State). (p.0.declarator ≡ d) × Spans (rest_parts p.0) s p.1 × (initializer_height p.0.initializer ≤ limit)) (same_Some (q, b.0.1) (x, z) b.2)
+        found (λ (p : InitDeclarator × State). (p.0.declarator ≡ d) × Spans (rest_parts p.0) s p.1 × (initializer_height p.0.initializer ≤ limit)) (q, b.0.1) (x, z) b.2
         (refl, join (assembler_parts a.0.0) (initializer_parts b.0.0) s a.0.1 b.0.1 (assembler_takes s a.0.1 a.0.0 a.1) v.0, v.1)
 
     -- a declarator, and what follows it
@@ -242,9 +241,9 @@ module _ (limit : ℕ) (r : Rules) (sound : SoundBelow limit r) where
               let x = init_takes is_type a.0.2 b.0.1 b.0.0 b.1 in
               let y = more_inits_take is_type n b.0.1 c.0.1 c.0.0 c.1 in
               let ps = later (map (init_piece is_type) c.0.0) in
-              subst P (same_Some (b.0.0 ∷ c.0.0, c.0.1) (xs, z) c.2)
+              found P (b.0.0 ∷ c.0.0, c.0.1) (xs, z) c.2
               (expects mark.Comma ((init_piece is_type b.0.0).parts ++ ps) s c.0.1 a.0 a.1 (join (init_piece is_type b.0.0).parts ps a.0.2 b.0.1 c.0.1 x.0 y.0), omega (arith, x.1, y.1))
-          | inr p ↦ subst P (same_Some ([], s) (xs, z) p.1) (refl, omega arith)
+          | inr p ↦ found P ([], s) (xs, z) p.1 (refl, omega arith)
         ]
 
     pub behind_takes : (xs : List Specifier) (d : Declarator) (s k m z : State) (x : Declaration) → Spans (specification (all_specified xs)) s k → highest_specifier (all_specified xs) ≤ limit → Spans (declaring_parts (makes_types xs) d) k m → (form d).height ≤ limit → declaration_behind_at r inside xs d m ≡ Some (x, z) → Made limit (declaration_of x) s z
@@ -260,7 +259,7 @@ module _ (limit : ℕ) (r : Rules) (sound : SoundBelow limit r) where
         let ps = later (map (init_piece t) b.0.0) in
         let y = join (init_piece t a.0.0).parts ps k a.0.1 b.0.1 f.0 g.0 in
         let y' = join ((init_piece t a.0.0).parts ++ ps) (takes_mark mark.Semicolon ∷ []) k b.0.1 c.0.2 y (expects mark.Semicolon [] b.0.1 c.0.2 c.0 c.1 refl) in
-        subst (λ (p : Declaration × State). Made limit (declaration_of p.0) s p.1) (same_Some (q, c.0.2) (x, z) c.2)
+        found (λ (p : Declaration × State). Made limit (declaration_of p.0) s p.1) (q, c.0.2) (x, z) c.2
         (join (specification (all_specified xs)) (((init_piece t a.0.0).parts ++ ps) ++ takes_mark mark.Semicolon ∷ []) s k c.0.2 sp y', omega (arith, hs, f.1, g.1))
 
     -- specifiers alone
@@ -276,7 +275,7 @@ module _ (limit : ℕ) (r : Rules) (sound : SoundBelow limit r) where
         elim (chosen (begins mark.Semicolon a.0.1) _ _ _ a.2) [
           | inl p ↦
               let b = bind_some (expect mark.Semicolon a.0.1) _ _ p.1 in
-              subst (λ (p : Declaration × State). Made limit (declaration_of p.0) s p.1) (same_Some (no_declarators a.0.0, b.0.2) (x, z) b.2)
+              found (λ (p : Declaration × State). Made limit (declaration_of p.0) s p.1) (no_declarators a.0.0, b.0.2) (x, z) b.2
               (alone_takes a.0.0 s a.0.1 b.0.2 e.0 e.1 (expects mark.Semicolon [] a.0.1 b.0.2 b.0 b.1 refl))
           | inr p ↦
               let b = bind_some (declaring_at r (makes_types a.0.0) a.0.1) _ _ p.1 in

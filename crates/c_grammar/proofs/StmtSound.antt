@@ -1,7 +1,6 @@
 -- What is read is what the grammar derives: statements.
 use Rattle.std.proofs.Common.{◌≡◌, ◌≤◌, ℕ, zero, suc, List, [], ◌∷◌, ◌++◌, length, Option, Some, None, false, refl, sym, ◌∙◌, subst, arith, inl, inr}
 use Rattle.std.specs.Prelude.{map, option_map, nat_le}
-use Rattle.std.proofs.lemmas.Option.{same_Some}
 use Rattle.c_lexer.specs.declared.token.Token.{Token}
 use Rattle.c_lexer.specs.declared.token.TokenKind.{TokenKind}
 use Rattle.c_lexer.specs.declared.token.TokenKind.TheVariants as kind
@@ -21,7 +20,7 @@ use Rattle.c_grammar.specs.Units.{joined_shapes, highest_stmt, value_parts, valu
 use Rattle.c_grammar.specs.UnitReading.{Inside, declaration_at, initializer_at, Turn, block_items_at, block_at, optional_at, value_statement_at, label_at, case_at, default_at, substatement_at, condition_at, else_at, if_at, switch_at, while_at, do_at, for_declaration_at, for_value_at, for_start_at, for_at, goto_at, continue_at, break_at, return_at, labelled, keyword_statement, plain_by, plain_in, declared_statement_at, stmt_by, stmt_at}
 use Rattle.c_grammar.proofs.Spans.{join, bind_some, chosen, guarded, nat_le_true, first_taken, take_at, expects, expects_at, expects_name, expects_name_at}
 use Rattle.c_grammar.proofs.UnitEquations.{stmt-Block, stmt-Declared, stmt-Value, stmt-Label, stmt-Case, stmt-Default, stmt-If, stmt-Switch, stmt-While, stmt-Do, stmt-For, stmt-Goto, stmt-Continue, stmt-Break, stmt-Return}
-use Rattle.c_grammar.proofs.UnitSteps.{SoundBelow, expects_keyword, next_same}
+use Rattle.c_grammar.proofs.UnitSteps.{SoundBelow, found, expects_keyword, next_same}
 use Rattle.c_grammar.proofs.DeclarationSound.{SoundInside, declaration_takes, initializer_takes}
 
 pub stands : (limit rank : ℕ) (s z : State) (x : Stmt) (q : Shape) → stmt_shape x ≡ q → Spans q.parts s z → q.rank ≤ rank → q.height ≤ limit → DerivesStmt limit rank s x z
@@ -48,13 +47,13 @@ module _ (limit : ℕ) (r : Rules) (sound : SoundBelow limit r) (inside : Inside
   items_take (suc n) s z xs h =
       let P = λ (p : List Stmt × State). Spans (joined_shapes (map stmt_shape p.0)) s p.1 × (highest_stmt (map stmt_shape p.0) ≤ limit) in
       elim (chosen (begins mark.RightBrace s) _ _ _ h) [
-        | inl p ↦ subst P (same_Some ([], s) (xs, z) p.1) (refl, omega arith)
+        | inl p ↦ found P ([], s) (xs, z) p.1 (refl, omega arith)
         | inr p ↦
             let b = bind_some (turn 1 s) _ _ p.1 in
             let c = bind_some (block_items_at turn n b.0.1) _ _ b.2 in
             let d = turns 1 s b.0.1 b.0.0 b.1 in
             let m = items_take n b.0.1 c.0.1 c.0.0 c.1 in
-            subst P (same_Some (b.0.0 ∷ c.0.0, c.0.1) (xs, z) c.2) (join (stmt_shape b.0.0).parts (joined_shapes (map stmt_shape c.0.0)) s b.0.1 c.0.1 d.spans m.0, omega (arith, d.low, m.1))
+            found P (b.0.0 ∷ c.0.0, c.0.1) (xs, z) c.2 (join (stmt_shape b.0.0).parts (joined_shapes (map stmt_shape c.0.0)) s b.0.1 c.0.1 d.spans m.0, omega (arith, d.low, m.1))
       ]
 
   block_takes : (s m z : State) (x : Stmt) (at : ℕ) → Takes at (kind.Punctuator mark.LeftBrace) s.0 m.0 → s.1 ≡ m.1 → block_at turn at m ≡ Some (x, z) → Stated s x z
@@ -67,7 +66,7 @@ module _ (limit : ℕ) (r : Rules) (sound : SoundBelow limit r) (inside : Inside
       let rest = closes ∷ takes_mark mark.RightBrace ∷ [] in
       let ps = opens ∷ (joined_shapes (map stmt_shape a.0.0) ++ rest) in
       let w = join (joined_shapes (map stmt_shape a.0.0)) rest (m.0, entered m.1) a.0.1 b.0.2 y.0 (expects mark.RightBrace [] out b.0.2 b.0 b.1 refl) in
-      subst (λ (p : Stmt × State). Stated s p.0 p.1) (same_Some (stmt.Block at a.0.0, b.0.2) (x, z) b.2)
+      found (λ (p : Stmt × State). Stated s p.0 p.1) (stmt.Block at a.0.0, b.0.2) (x, z) b.2
       (stands (suc limit) 0 s b.0.2 (stmt.Block at a.0.0) _ (stmt-Block at a.0.0) (take_at at (kind.Punctuator mark.LeftBrace) ps s m b.0.2 i j w) (omega arith) (omega (arith, y.1)))
 
   optional_takes : (w : Punctuator) (s z : State) (e : Option Expr) → optional_at r w s ≡ Some (e, z) → Spans (value_parts e) s z × (value_height e ≤ limit)
@@ -75,11 +74,11 @@ module _ (limit : ℕ) (r : Rules) (sound : SoundBelow limit r) (inside : Inside
   optional_takes w s z e h =
       let P = λ (p : Option Expr × State). Spans (value_parts p.0) s p.1 × (value_height p.0 ≤ limit) in
       elim (chosen (begins w s) _ _ _ h) [
-        | inl p ↦ subst P (same_Some (None, s) (e, z) p.1) (refl, omega arith)
+        | inl p ↦ found P (None, s) (e, z) p.1 (refl, omega arith)
         | inr p ↦
             let a = bind_some (r.expr 16 s) _ _ p.1 in
             let d = sound.expr 16 s a.0.1 a.0.0 a.1 in
-            subst P (same_Some (Some a.0.0, a.0.1) (e, z) a.2) (d.spans, d.low)
+            found P (Some a.0.0, a.0.1) (e, z) a.2 (d.spans, d.low)
       ]
 
   value_takes : (s z : State) (x : Stmt) → value_statement_at r s ≡ Some (x, z) → Stated s x z
@@ -89,7 +88,7 @@ module _ (limit : ℕ) (r : Rules) (sound : SoundBelow limit r) (inside : Inside
       let b = bind_some (expect mark.Semicolon a.0.1) _ _ a.2 in
       let d = optional_takes mark.Semicolon s a.0.1 a.0.0 a.1 in
       let y = join (value_parts a.0.0) (takes_at b.0.1 (kind.Punctuator mark.Semicolon) ∷ []) s a.0.1 b.0.2 d.0 (expects_at mark.Semicolon [] a.0.1 b.0.2 b.0 b.1 refl) in
-      subst (λ (p : Stmt × State). Stated s p.0 p.1) (same_Some (stmt.Value b.0.1 a.0.0, b.0.2) (x, z) b.2)
+      found (λ (p : Stmt × State). Stated s p.0 p.1) (stmt.Value b.0.1 a.0.0, b.0.2) (x, z) b.2
       (stands (suc limit) 0 s b.0.2 (stmt.Value b.0.1 a.0.0) _ (stmt-Value b.0.1 a.0.0) y (omega arith) (omega (arith, d.1)))
 
   declared_takes : (s z : State) (x : Stmt) → declared_statement_at r inside s ≡ Some (x, z) → DerivesStmt (suc limit) 1 s x z
@@ -97,7 +96,7 @@ module _ (limit : ℕ) (r : Rules) (sound : SoundBelow limit r) (inside : Inside
   declared_takes s z x h =
       let a = bind_some (declaration_at r inside s) _ _ h in
       let d = declaration_takes limit r sound inside within s a.0.1 a.0.0 a.1 in
-      subst (λ (p : Stmt × State). DerivesStmt (suc limit) 1 s p.0 p.1) (same_Some (stmt.Declared a.0.0, a.0.1) (x, z) a.2)
+      found (λ (p : Stmt × State). DerivesStmt (suc limit) 1 s p.0 p.1) (stmt.Declared a.0.0, a.0.1) (x, z) a.2
       (stands (suc limit) 1 s a.0.1 (stmt.Declared a.0.0) _ (stmt-Declared a.0.0) d.0 (omega arith) (omega (arith, d.1)))
 
   label_takes : (s z : State) (x : Stmt) → label_at turn s ≡ Some (x, z) → Stated s x z
@@ -109,7 +108,7 @@ module _ (limit : ℕ) (r : Rules) (sound : SoundBelow limit r) (inside : Inside
       let d = turns 0 b.0.2 c.0.1 c.0.0 c.1 in
       let ps = only_statement (stmt_shape c.0.0) in
       let y = expects_name_at (takes_mark mark.Colon ∷ ps) s c.0.1 a.0 a.1 (expects mark.Colon ps a.0.2 c.0.1 b.0 b.1 (d.fits, d.spans)) in
-      subst (λ (p : Stmt × State). Stated s p.0 p.1) (same_Some (stmt.Label a.0.1 a.0.0 c.0.0, c.0.1) (x, z) c.2)
+      found (λ (p : Stmt × State). Stated s p.0 p.1) (stmt.Label a.0.1 a.0.0 c.0.0, c.0.1) (x, z) c.2
       (stands (suc limit) 0 s c.0.1 (stmt.Label a.0.1 a.0.0 c.0.0) _ (stmt-Label a.0.1 a.0.0 c.0.0) y (omega arith) (omega (arith, d.low)))
 
   case_takes : (s m z : State) (x : Stmt) (at : ℕ) → Takes at (kind.Keyword keyword.Case) s.0 m.0 → s.1 ≡ m.1 → case_at turn r at m ≡ Some (x, z) → Stated s x z
@@ -122,7 +121,7 @@ module _ (limit : ℕ) (r : Rules) (sound : SoundBelow limit r) (inside : Inside
       let d = turns 0 b.0.2 c.0.1 c.0.0 c.1 in
       let ps = only_statement (stmt_shape c.0.0) in
       let y = join (shape a.0.0).parts (takes_mark mark.Colon ∷ ps) m a.0.1 c.0.1 e.spans (expects mark.Colon ps a.0.1 c.0.1 b.0 b.1 (d.fits, d.spans)) in
-      subst (λ (p : Stmt × State). Stated s p.0 p.1) (same_Some (stmt.Case at a.0.0 c.0.0, c.0.1) (x, z) c.2)
+      found (λ (p : Stmt × State). Stated s p.0 p.1) (stmt.Case at a.0.0 c.0.0, c.0.1) (x, z) c.2
       (stands (suc limit) 0 s c.0.1 (stmt.Case at a.0.0 c.0.0) _ (stmt-Case at a.0.0 c.0.0) (m.0, i, (e.fits, subst (λ (q : Scope). Spans ((shape a.0.0).parts ++ takes_mark mark.Colon ∷ ps) (m.0, q) c.0.1) (sym j) y)) (omega arith) (omega (arith, e.low, d.low)))
 
   default_takes : (s m z : State) (x : Stmt) (at : ℕ) → Takes at (kind.Keyword keyword.Default) s.0 m.0 → s.1 ≡ m.1 → default_at turn at m ≡ Some (x, z) → Stated s x z
@@ -133,7 +132,7 @@ module _ (limit : ℕ) (r : Rules) (sound : SoundBelow limit r) (inside : Inside
       let d = turns 0 b.0.2 c.0.1 c.0.0 c.1 in
       let ps = only_statement (stmt_shape c.0.0) in
       let y = take_at at (kind.Keyword keyword.Default) (takes_mark mark.Colon ∷ ps) s m c.0.1 i j (expects mark.Colon ps m c.0.1 b.0 b.1 (d.fits, d.spans)) in
-      subst (λ (p : Stmt × State). Stated s p.0 p.1) (same_Some (stmt.Default at c.0.0, c.0.1) (x, z) c.2)
+      found (λ (p : Stmt × State). Stated s p.0 p.1) (stmt.Default at c.0.0, c.0.1) (x, z) c.2
       (stands (suc limit) 0 s c.0.1 (stmt.Default at c.0.0) _ (stmt-Default at c.0.0) y (omega arith) (omega (arith, d.low)))
 
   substatement_takes : (s z : State) (x : Stmt) → substatement_at turn s ≡ Some (x, z) → Spans (substatement (stmt_shape x)) s z × ((stmt_shape x).height ≤ limit)
@@ -142,7 +141,7 @@ module _ (limit : ℕ) (r : Rules) (sound : SoundBelow limit r) (inside : Inside
       let a = bind_some (turn 0 (s.0, entered s.1)) _ _ h in
       let d = turns 0 (s.0, entered s.1) a.0.1 a.0.0 a.1 in
       let out : State = (a.0.1.0, left a.0.1.1) in
-      subst (λ (p : Stmt × State). Spans (substatement (stmt_shape p.0)) s p.1 × ((stmt_shape p.0).height ≤ limit)) (same_Some (a.0.0, out) (x, z) a.2)
+      found (λ (p : Stmt × State). Spans (substatement (stmt_shape p.0)) s p.1 × ((stmt_shape p.0).height ≤ limit)) (a.0.0, out) (x, z) a.2
       ((d.fits, join (stmt_shape a.0.0).parts (closes ∷ []) (s.0, entered s.1) a.0.1 out d.spans refl), d.low)
 
   condition_takes : (s z : State) (e : Expr) → condition_at r s ≡ Some (e, z) → Spans (condition_parts e) s z × ((shape e).height ≤ limit)
@@ -154,7 +153,7 @@ module _ (limit : ℕ) (r : Rules) (sound : SoundBelow limit r) (inside : Inside
       let d = sound.expr 16 a.0.2 b.0.1 b.0.0 b.1 in
       let ps = (shape b.0.0).parts ++ takes_mark mark.RightParen ∷ [] in
       let y = join (shape b.0.0).parts (takes_mark mark.RightParen ∷ []) a.0.2 b.0.1 c.0.2 d.spans (expects mark.RightParen [] b.0.1 c.0.2 c.0 c.1 refl) in
-      subst (λ (p : Expr × State). Spans (condition_parts p.0) s p.1 × ((shape p.0).height ≤ limit)) (same_Some (b.0.0, c.0.2) (e, z) c.2) (expects mark.LeftParen ps s c.0.2 a.0 a.1 y, d.low)
+      found (λ (p : Expr × State). Spans (condition_parts p.0) s p.1 × ((shape p.0).height ≤ limit)) (b.0.0, c.0.2) (e, z) c.2 (expects mark.LeftParen ps s c.0.2 a.0 a.1 y, d.low)
 
   else_takes : (s z : State) (x : Option Stmt) → else_at turn s ≡ Some (x, z) → Spans (else_parts (option_map stmt_shape x)) s z × (else_height (option_map stmt_shape x) ≤ limit)
   unfolding else_at
@@ -165,8 +164,8 @@ module _ (limit : ℕ) (r : Rules) (sound : SoundBelow limit r) (inside : Inside
             let a = bind_some (expect_keyword keyword.Else s) _ _ p.1 in
             let b = bind_some (substatement_at turn a.0.2) _ _ a.2 in
             let d = substatement_takes a.0.2 b.0.1 b.0.0 b.1 in
-            subst P (same_Some (Some b.0.0, b.0.1) (x, z) b.2) (expects_keyword keyword.Else (substatement (stmt_shape b.0.0)) s b.0.1 a.0 a.1 d.0, d.1)
-        | inr p ↦ subst P (same_Some (None, s) (x, z) p.1) ((sym (next_same keyword.Else s.0) ∙ p.0, refl), omega arith)
+            found P (Some b.0.0, b.0.1) (x, z) b.2 (expects_keyword keyword.Else (substatement (stmt_shape b.0.0)) s b.0.1 a.0 a.1 d.0, d.1)
+        | inr p ↦ found P (None, s) (x, z) p.1 ((sym (next_same keyword.Else s.0) ∙ p.0, refl), omega arith)
       ]
 
   -- a keyword, and the rest as a block
@@ -187,7 +186,7 @@ module _ (limit : ℕ) (r : Rules) (sound : SoundBelow limit r) (inside : Inside
       let p1 = substatement (stmt_shape b.0.0) in
       let y1 = join p1 p2 a.0.1 b.0.1 c.0.1 d.0 o.0 in
       let y = join (condition_parts a.0.0) (p1 ++ p2) (m.0, entered m.1) a.0.1 c.0.1 e.0 y1 in
-      subst (λ (p : Stmt × State). Stated s p.0 p.1) (same_Some (stmt.If at a.0.0 b.0.0 c.0.0, out) (x, z) c.2)
+      found (λ (p : Stmt × State). Stated s p.0 p.1) (stmt.If at a.0.0 b.0.0 c.0.0, out) (x, z) c.2
       (stands (suc limit) 0 s out (stmt.If at a.0.0 b.0.0 c.0.0) _ (stmt-If at a.0.0 b.0.0 c.0.0) (as_block_takes at keyword.If (condition_parts a.0.0 ++ (p1 ++ p2)) s m c.0.1 i j y) (omega arith) (omega (arith, e.1, d.1, o.1)))
 
   switch_takes : (s m z : State) (x : Stmt) (at : ℕ) → Takes at (kind.Keyword keyword.Switch) s.0 m.0 → s.1 ≡ m.1 → switch_at turn r at m ≡ Some (x, z) → Stated s x z
@@ -200,7 +199,7 @@ module _ (limit : ℕ) (r : Rules) (sound : SoundBelow limit r) (inside : Inside
       let out : State = (b.0.1.0, left b.0.1.1) in
       let p1 = substatement (stmt_shape b.0.0) in
       let y = join (condition_parts a.0.0) p1 (m.0, entered m.1) a.0.1 b.0.1 e.0 d.0 in
-      subst (λ (p : Stmt × State). Stated s p.0 p.1) (same_Some (stmt.Switch at a.0.0 b.0.0, out) (x, z) b.2)
+      found (λ (p : Stmt × State). Stated s p.0 p.1) (stmt.Switch at a.0.0 b.0.0, out) (x, z) b.2
       (stands (suc limit) 0 s out (stmt.Switch at a.0.0 b.0.0) _ (stmt-Switch at a.0.0 b.0.0) (as_block_takes at keyword.Switch (condition_parts a.0.0 ++ p1) s m b.0.1 i j y) (omega arith) (omega (arith, e.1, d.1)))
 
   while_takes : (s m z : State) (x : Stmt) (at : ℕ) → Takes at (kind.Keyword keyword.While) s.0 m.0 → s.1 ≡ m.1 → while_at turn r at m ≡ Some (x, z) → Stated s x z
@@ -213,7 +212,7 @@ module _ (limit : ℕ) (r : Rules) (sound : SoundBelow limit r) (inside : Inside
       let out : State = (b.0.1.0, left b.0.1.1) in
       let p1 = substatement (stmt_shape b.0.0) in
       let y = join (condition_parts a.0.0) p1 (m.0, entered m.1) a.0.1 b.0.1 e.0 d.0 in
-      subst (λ (p : Stmt × State). Stated s p.0 p.1) (same_Some (stmt.While at a.0.0 b.0.0, out) (x, z) b.2)
+      found (λ (p : Stmt × State). Stated s p.0 p.1) (stmt.While at a.0.0 b.0.0, out) (x, z) b.2
       (stands (suc limit) 0 s out (stmt.While at a.0.0 b.0.0) _ (stmt-While at a.0.0 b.0.0) (as_block_takes at keyword.While (condition_parts a.0.0 ++ p1) s m b.0.1 i j y) (omega arith) (omega (arith, e.1, d.1)))
 
   do_takes : (s m z : State) (x : Stmt) (at : ℕ) → Takes at (kind.Keyword keyword.Do) s.0 m.0 → s.1 ≡ m.1 → do_at turn r at m ≡ Some (x, z) → Stated s x z
@@ -231,7 +230,7 @@ module _ (limit : ℕ) (r : Rules) (sound : SoundBelow limit r) (inside : Inside
       let y2 = join (condition_parts c.0.0) (takes_mark mark.Semicolon ∷ []) b.0.2 c.0.1 f.0.2 e.0 (expects mark.Semicolon [] c.0.1 f.0.2 f.0 f.1 refl) in
       let y1 = expects_keyword keyword.While p2 a.0.1 f.0.2 b.0 b.1 y2 in
       let y = join p1 (takes (kind.Keyword keyword.While) ∷ p2) (m.0, entered m.1) a.0.1 f.0.2 d.0 y1 in
-      subst (λ (p : Stmt × State). Stated s p.0 p.1) (same_Some (stmt.Do at a.0.0 c.0.0, out) (x, z) f.2)
+      found (λ (p : Stmt × State). Stated s p.0 p.1) (stmt.Do at a.0.0 c.0.0, out) (x, z) f.2
       (stands (suc limit) 0 s out (stmt.Do at a.0.0 c.0.0) _ (stmt-Do at a.0.0 c.0.0) (as_block_takes at keyword.Do (p1 ++ takes (kind.Keyword keyword.While) ∷ p2) s m f.0.2 i j y) (omega arith) (omega (arith, e.1, d.1)))
 
   for_start_takes : (s z : State) (x : ForStart) → for_start_at r inside s ≡ Some (x, z) → Spans (for_start_parts x) s z × (for_start_height x ≤ limit)
@@ -242,13 +241,13 @@ module _ (limit : ℕ) (r : Rules) (sound : SoundBelow limit r) (inside : Inside
         | inl p ↦
             let a = bind_some (declaration_at r inside s) _ _ p.1 in
             let d = declaration_takes limit r sound inside within s a.0.1 a.0.0 a.1 in
-            subst P (same_Some (start.Declared a.0.0, a.0.1) (x, z) a.2) (d.0, d.1)
+            found P (start.Declared a.0.0, a.0.1) (x, z) a.2 (d.0, d.1)
         | inr p ↦
             let a = bind_some (optional_at r mark.Semicolon s) _ _ p.1 in
             let b = bind_some (expect mark.Semicolon a.0.1) _ _ a.2 in
             let d = optional_takes mark.Semicolon s a.0.1 a.0.0 a.1 in
             let y = join (value_parts a.0.0) (takes_mark mark.Semicolon ∷ []) s a.0.1 b.0.2 d.0 (expects mark.Semicolon [] a.0.1 b.0.2 b.0 b.1 refl) in
-            subst P (same_Some (start.Value a.0.0, b.0.2) (x, z) b.2) (y, d.1)
+            found P (start.Value a.0.0, b.0.2) (x, z) b.2 (y, d.1)
       ]
 
   for_takes : (s m z : State) (x : Stmt) (at : ℕ) → Takes at (kind.Keyword keyword.For) s.0 m.0 → s.1 ≡ m.1 → for_at turn r inside at m ≡ Some (x, z) → Stated s x z
@@ -274,7 +273,7 @@ module _ (limit : ℕ) (r : Rules) (sound : SoundBelow limit r) (inside : Inside
       let y2 = join (value_parts c.0.0) (takes_mark mark.Semicolon ∷ p3) b.0.1 c.0.1 g.0.1 x2.0 (expects mark.Semicolon p3 c.0.1 g.0.1 d.0 d.1 y3) in
       let y1 = join (for_start_parts b.0.0) p2 a.0.2 b.0.1 g.0.1 x1.0 y2 in
       let y = expects mark.LeftParen p1 (m.0, entered m.1) g.0.1 a.0 a.1 y1 in
-      subst (λ (p : Stmt × State). Stated s p.0 p.1) (same_Some (stmt.For at b.0.0 c.0.0 e.0.0 g.0.0, out) (x, z) g.2)
+      found (λ (p : Stmt × State). Stated s p.0 p.1) (stmt.For at b.0.0 c.0.0 e.0.0 g.0.0, out) (x, z) g.2
       (stands (suc limit) 0 s out (stmt.For at b.0.0 c.0.0 e.0.0 g.0.0) _ (stmt-For at b.0.0 c.0.0 e.0.0 g.0.0) (as_block_takes at keyword.For (takes_mark mark.LeftParen ∷ p1) s m g.0.1 i j y) (omega arith) (omega (arith, x1.1, x2.1, x3.1, x4.1)))
 
   goto_takes : (s m z : State) (x : Stmt) (at : ℕ) → Takes at (kind.Keyword keyword.Goto) s.0 m.0 → s.1 ≡ m.1 → goto_at at m ≡ Some (x, z) → Stated s x z
@@ -284,7 +283,7 @@ module _ (limit : ℕ) (r : Rules) (sound : SoundBelow limit r) (inside : Inside
       let b = bind_some (expect mark.Semicolon a.0.2) _ _ a.2 in
       let ps = takes (kind.Identifier a.0.0) ∷ takes_mark mark.Semicolon ∷ [] in
       let y = take_at at (kind.Keyword keyword.Goto) ps s m b.0.2 i j (expects_name (takes_mark mark.Semicolon ∷ []) m b.0.2 a.0 a.1 (expects mark.Semicolon [] a.0.2 b.0.2 b.0 b.1 refl)) in
-      subst (λ (p : Stmt × State). Stated s p.0 p.1) (same_Some (stmt.Goto at a.0.0, b.0.2) (x, z) b.2)
+      found (λ (p : Stmt × State). Stated s p.0 p.1) (stmt.Goto at a.0.0, b.0.2) (x, z) b.2
       (stands (suc limit) 0 s b.0.2 (stmt.Goto at a.0.0) _ (stmt-Goto at a.0.0) y (omega arith) (omega arith))
 
   continue_takes : (s m z : State) (x : Stmt) (at : ℕ) → Takes at (kind.Keyword keyword.Continue) s.0 m.0 → s.1 ≡ m.1 → continue_at at m ≡ Some (x, z) → Stated s x z
@@ -292,7 +291,7 @@ module _ (limit : ℕ) (r : Rules) (sound : SoundBelow limit r) (inside : Inside
   continue_takes s m z x at i j h =
       let b = bind_some (expect mark.Semicolon m) _ _ h in
       let y = take_at at (kind.Keyword keyword.Continue) (takes_mark mark.Semicolon ∷ []) s m b.0.2 i j (expects mark.Semicolon [] m b.0.2 b.0 b.1 refl) in
-      subst (λ (p : Stmt × State). Stated s p.0 p.1) (same_Some (stmt.Continue at, b.0.2) (x, z) b.2)
+      found (λ (p : Stmt × State). Stated s p.0 p.1) (stmt.Continue at, b.0.2) (x, z) b.2
       (stands (suc limit) 0 s b.0.2 (stmt.Continue at) _ (stmt-Continue at) y (omega arith) (omega arith))
 
   break_takes : (s m z : State) (x : Stmt) (at : ℕ) → Takes at (kind.Keyword keyword.Break) s.0 m.0 → s.1 ≡ m.1 → break_at at m ≡ Some (x, z) → Stated s x z
@@ -300,7 +299,7 @@ module _ (limit : ℕ) (r : Rules) (sound : SoundBelow limit r) (inside : Inside
   break_takes s m z x at i j h =
       let b = bind_some (expect mark.Semicolon m) _ _ h in
       let y = take_at at (kind.Keyword keyword.Break) (takes_mark mark.Semicolon ∷ []) s m b.0.2 i j (expects mark.Semicolon [] m b.0.2 b.0 b.1 refl) in
-      subst (λ (p : Stmt × State). Stated s p.0 p.1) (same_Some (stmt.Break at, b.0.2) (x, z) b.2)
+      found (λ (p : Stmt × State). Stated s p.0 p.1) (stmt.Break at, b.0.2) (x, z) b.2
       (stands (suc limit) 0 s b.0.2 (stmt.Break at) _ (stmt-Break at) y (omega arith) (omega arith))
 
   return_takes : (s m z : State) (x : Stmt) (at : ℕ) → Takes at (kind.Keyword keyword.Return) s.0 m.0 → s.1 ≡ m.1 → return_at r at m ≡ Some (x, z) → Stated s x z
@@ -311,7 +310,7 @@ module _ (limit : ℕ) (r : Rules) (sound : SoundBelow limit r) (inside : Inside
       let d = optional_takes mark.Semicolon m a.0.1 a.0.0 a.1 in
       let ps = value_parts a.0.0 ++ takes_mark mark.Semicolon ∷ [] in
       let y = join (value_parts a.0.0) (takes_mark mark.Semicolon ∷ []) m a.0.1 b.0.2 d.0 (expects mark.Semicolon [] a.0.1 b.0.2 b.0 b.1 refl) in
-      subst (λ (p : Stmt × State). Stated s p.0 p.1) (same_Some (stmt.Return at a.0.0, b.0.2) (x, z) b.2)
+      found (λ (p : Stmt × State). Stated s p.0 p.1) (stmt.Return at a.0.0, b.0.2) (x, z) b.2
       (stands (suc limit) 0 s b.0.2 (stmt.Return at a.0.0) _ (stmt-Return at a.0.0) (take_at at (kind.Keyword keyword.Return) ps s m b.0.2 i j y) (omega arith) (omega (arith, d.1)))
 
   keyword_takes : (s m z : State) (x : Stmt) (at : ℕ) (k : Keyword) → Takes at (kind.Keyword k) s.0 m.0 → s.1 ≡ m.1 → keyword_statement turn r inside k at m s ≡ Some (x, z) → Stated s x z

@@ -20,7 +20,7 @@ use Rattle.c_grammar.specs.UnitReading.{initializer_at, declaring_at, declaratio
 use Rattle.c_grammar.proofs.Spans.{join, split, no_more, bind_some, chosen, expects, expects_at}
 use Rattle.c_grammar.proofs.Begins.{taken, specified_mark, specification_begins}
 use Rattle.c_grammar.proofs.Reach.{behind}
-use Rattle.c_grammar.proofs.UnitSteps.{SoundBelow}
+use Rattle.c_grammar.proofs.UnitSteps.{SoundBelow, found}
 use Rattle.c_grammar.proofs.UnitBegins.{CompleteBelow, by_rest, declaring_begins, pieces, after_first, declaration_begins}
 use Rattle.c_grammar.proofs.DeclarationSound.{declaring_takes, behind_takes, alone_takes, initializer_takes}
 use Rattle.c_grammar.proofs.DeclarationComplete.{declaring_again, behind_again, initializer_again}
@@ -79,14 +79,14 @@ module _ (sound : (limit : ℕ) → SoundBelow limit (rules limit)) (complete : 
       elim (chosen (begins mark.Semicolon s) _ _ _ h) [
         | inl p ↦
             let a = bind_some (expect mark.Semicolon s) _ _ p.1 in
-            subst P (same_Some (external.Empty a.0.1, a.0.2) (x, z) a.2) (expects_at mark.Semicolon [] s a.0.2 a.0 a.1 refl)
+            found P (external.Empty a.0.1, a.0.2) (x, z) a.2 (expects_at mark.Semicolon [] s a.0.2 a.0 a.1 refl)
         | inr p ↦
             let a = bind_some (specification_at r s) _ _ p.1 in
             let e = (sound limit).specifiers s a.0.1 a.0.0 a.1 in
             elim (chosen (begins mark.Semicolon a.0.1) _ _ _ a.2) [
               | inl q ↦
                   let b = bind_some (expect mark.Semicolon a.0.1) _ _ q.1 in
-                  subst P (same_Some (external.Declared (no_declarators a.0.0), b.0.2) (x, z) b.2)
+                  found P (external.Declared (no_declarators a.0.0), b.0.2) (x, z) b.2
                   (alone_takes limit r (sound limit) inside within a.0.0 s a.0.1 b.0.2 e.0 e.1 (expects mark.Semicolon [] a.0.1 b.0.2 b.0 b.1 refl))
               | inr q ↦
                   let t = makes_types a.0.0 in
@@ -95,7 +95,7 @@ module _ (sound : (limit : ℕ) → SoundBelow limit (rules limit)) (complete : 
                   elim (chosen (begins mark.LeftBrace b.0.1) _ _ _ b.2) [
                     | inl u ↦
                         let c = bind_some (body_at b.0.1) _ _ u.1 in
-                        subst P (same_Some (external.Function a.0.0 b.0.0 c.0.0, c.0.1) (x, z) c.2)
+                        found P (external.Function a.0.0 b.0.0 c.0.0, c.0.1) (x, z) c.2
                         (record {
                           behind = b.0.1;
                           spans = join (specification (all_specified a.0.0)) (declaring_parts t b.0.0) s a.0.1 b.0.1 e.0 y.0;
@@ -104,7 +104,7 @@ module _ (sound : (limit : ℕ) → SoundBelow limit (rules limit)) (complete : 
                         })
                     | inr u ↦
                         let c = bind_some (declaration_behind_at r inside a.0.0 b.0.0 b.0.1) _ _ u.1 in
-                        subst P (same_Some (external.Declared c.0.0, c.0.1) (x, z) c.2)
+                        found P (external.Declared c.0.0, c.0.1) (x, z) c.2
                         (behind_takes limit r (sound limit) inside within a.0.0 b.0.0 s a.0.1 b.0.1 c.0.1 c.0.0 e.0 e.1 y.0 y.1 c.1)
                   ]
             ]
@@ -120,11 +120,11 @@ module _ (sound : (limit : ℕ) → SoundBelow limit (rules limit)) (complete : 
   externals_take (suc n) s xs h =
       let P = λ (l : List External). DerivesExternals s l in
       elim (chosen (is_end s.0) _ _ _ h) [
-        | inl p ↦ subst P (same_Some [] xs p.1) (ends_in s.0 p.0)
+        | inl p ↦ found P [] xs p.1 (ends_in s.0 p.0)
         | inr p ↦
             let a = bind_some (external_at s) _ _ p.1 in
             let b = bind_some (externals_at n a.0.1) _ _ a.2 in
-            subst P (same_Some (a.0.0 ∷ b.0) xs b.2) (a.0.1, external_takes s a.0.1 a.0.0 a.1, externals_take n a.0.1 b.0 b.1)
+            found P (a.0.0 ∷ b.0) xs b.2 (a.0.1, external_takes s a.0.1 a.0.0 a.1, externals_take n a.0.1 b.0 b.1)
       ]
 
   -- what is read is derived

@@ -22,6 +22,10 @@ pub record SoundBelow (limit : ℕ) (r : Rules) : Type 0 where
   pub specifiers : (s z : State) (xs : List Specifier) → specification_at r s ≡ Some (xs, z) → Spans (specification (all_specified xs)) s z × (highest_specifier (all_specified xs) ≤ limit)
   pub declarator : (where_ : DeclaratorPlace) (s z : State) (d : Declarator) → r.declarator where_ s ≡ Some (d, z) → DerivesDeclarator limit where_ s d z
 
+-- what holds of the answer holds of what is read
+pub found : {A : Type 0} (P : A → Type 0) (x y : A) → Some x ≡ Some y → P x → P y
+found P x y e p = subst P (same_Some x y e) p
+
 -- a piece stands between two states, and is at most so high
 abbrev pub Made : ℕ → Piece → State → State → Type 0
 Made limit p s z = Spans p.parts s z × (p.height ≤ limit)
