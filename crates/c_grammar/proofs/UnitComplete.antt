@@ -1,5 +1,5 @@
 -- What the grammar derives of a unit, and of its parts, is what is read; so each has one derivation at most.
-use Rattle.std.proofs.Common.{◌≡◌, ◌<◌, ℕ, List, Some, sym, ◌∙◌}
+use Rattle.std.proofs.Common.{◌≡◌, ◌<◌, ℕ, List, None, Some, sym, ◌∙◌}
 use Rattle.std.proofs.lemmas.Option.{same_Some}
 use Rattle.c_lexer.specs.declared.token.Token.{Token}
 use Rattle.c_tree.specs.declared.unit.Initializer.{Initializer}
@@ -39,3 +39,7 @@ unit_complete tokens xs d = unit_again below_sound below_complete tokens xs d
 -- the grammar derives one unit at most from the tokens of a source
 pub unit_unique : (tokens : List Token) (xs ys : List External) → derives tokens xs → derives tokens ys → xs ≡ ys
 unit_unique tokens xs ys a b = same_Some xs ys (sym (unit_complete tokens xs a) ∙ unit_complete tokens ys b)
+
+-- where none is read, the grammar derives none
+pub unit_none : (tokens : List Token) (xs : List External) → read_unit tokens ≡ None → derives tokens xs → ⊥
+unit_none tokens xs h d = let e = unit_complete tokens xs d in cc
