@@ -23,3 +23,25 @@ pub struct FoundType {
     pub height: u32,
     pub ghost height_is: { height ≡ (type_name_of tree).height },
 }
+
+/// A declaration specifier, its height, and what it says of the type.
+#[derive(Drop)]
+pub struct FoundSpecifier {
+    pub tree: Specifier,
+    pub height: u32,
+    pub kind: TypeKind,
+    pub ghost height_is: { height ≡ (specifier_of tree).height },
+    pub ghost kind_is: { kind ≡ (specifier_of tree).kind },
+}
+
+/// A declarator, its height, the name that it declares, if any, and whether it says more of it.
+#[derive(Drop)]
+pub struct FoundDeclarator {
+    pub tree: Declarator,
+    pub height: u32,
+    pub name: Option<Name>,
+    pub derived: bool,
+    pub ghost height_is: { height ≡ (form tree).height },
+    pub ghost name_is: { name ≡ (form tree).name },
+    pub ghost derived_is: { derived ≡ (form tree).derived },
+}

@@ -4,4 +4,4 @@
 pub mod expr;
 mod found;
 
-pub use found::{FoundExpr, FoundType};
+pub use found::{FoundDeclarator, FoundExpr, FoundSpecifier, FoundType};

@@ -6,7 +6,7 @@ use thiserror::Error;
 pub enum ParseFault {
     /// No unit is derived from the tokens; the number is that of the token where reading stopped, counted from 0.
     #[error("no rule of the grammar takes token {0}")]
-    Syntax(u32),
+    Syntax(usize),
     /// Memory ran out.
     #[error("out of memory")]
     Memory,
