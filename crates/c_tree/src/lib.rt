@@ -1,6 +1,17 @@
-//! The places of the tokens of a source.
+//! The syntax tree of C, and the places of its tokens.
 #![tactic(auto)]
 
+mod expr;
 mod places;
+mod unit;
 
+pub use expr::{
+    AggregateKind, ArrayWord, BinaryOperator, Declarator, Enumerator, Expr, Field,
+    MemberDeclaration, Parameter, PostfixOperator, Qualifier, Specifier, StorageClass, TypeName,
+    TypeWord, UnaryOperator,
+};
 pub use places::Places;
+pub use unit::{
+    Body, Declaration, Designator, External, ForStart, InitDeclarator, Initializer,
+    InitializerItem, Stmt,
+};
