@@ -1,0 +1,6 @@
+pub mod Members
+pub mod Marking
+pub mod Naming
+pub mod Derivations
+pub mod Readings
+pub mod Placements

@@ -1,0 +1,12 @@
+//! A solver by conflict-driven clause learning that logs each learnt clause with the clauses from
+//! which it follows by unit propagation.
+#![tactic(auto)]
+
+mod analysis;
+mod answer;
+mod assigned;
+mod choosing;
+mod clauses;
+mod search;
+
+pub use answer::{Answer, SolveFault};
