@@ -4,3 +4,4 @@ pub mod Naming
 pub mod Derivations
 pub mod Readings
 pub mod Placements
+pub mod Searching

@@ -165,7 +165,8 @@ impl Search {
         ensures clauses { self.new.clauses ≡ self.old.clauses }
     {
         self.trail.raise_level()?;
-        self.take(literal, None)
+        self.take(literal, None)?;
+        Ok(())
     }
 
     /// Propagates and decides up to a false clause, or till each clause given has a true literal.
