@@ -5,3 +5,5 @@ pub mod Derivations
 pub mod Readings
 pub mod Placements
 pub mod Searching
+pub mod Numbering
+pub mod Lessons

@@ -8,10 +8,6 @@ use Rattle.cdcl.specs.declared.answer.Answer.{Answer}
 use Rattle.cdcl.specs.declared.answer.Answer.TheVariants.{Sat, Unsat, Spent}
 use Rattle.cdcl.specs.Tidy.{AreTidy}
 
--- the clauses of single literals
-abbrev pub units : List Literal → List (List Literal)
-units literals = map (λ l. l ∷ []) literals
-
 -- an assignment satisfies the clauses and makes the assumptions true
 abbrev pub IfSat : Answer → (List Bool → Type 0) → Type 0
 IfSat (Sat values) P = P values

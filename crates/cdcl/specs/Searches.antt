@@ -3,6 +3,7 @@ use Rattle.std.specs.Prelude.{◌≡◌, ◌<◌, ◌≤◌, ◌+◌, ◌*◌, �
 use Rattle.cnf_core.specs.Literal.{Literal}
 use Rattle.proof_check.specs.Refutations.{AreValid}
 use Rattle.cdcl.specs.declared.clauses.Clauses.{Clauses}
+use Rattle.cdcl.specs.declared.clauses.ClauseId.{ClauseId}
 use Rattle.cdcl.specs.declared.assigned.Entry.{Entry}
 use Rattle.cdcl.specs.declared.search.Search.{Search}
 use Rattle.cdcl.specs.declared.search.Next.{Next}
@@ -55,3 +56,10 @@ IsNext s NextSatisfied = AllTrue s
 abbrev pub IsEvent : Search → Event → Type 0
 IsEvent s (Conflict id) = IsConflict 1 s.clauses s.trail.entries.items id
 IsEvent s Satisfied = AllTrue s
+
+-- a conflict at level 0, which refutes the clauses with the assumptions
+pub record CanRefute (s : Search) (id : ClauseId) : Type 0 where
+  pub learnt : AreLearnt s.clauses
+  pub trail : IsTrailOf s.clauses s.trail
+  pub root : s.trail.level ≡ 0
+  pub conflict : IsConflict 0 s.clauses s.trail.entries.items id

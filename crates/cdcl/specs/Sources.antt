@@ -1,8 +1,8 @@
 -- The clause that a name stands for, and its number.
-use Rattle.std.specs.Prelude.{◌+◌, ℕ, zero, suc, List, [], ◌∷◌, Option, None, slice_get}
+use Rattle.std.specs.Prelude.{◌+◌, ℕ, min, cond, nat_le, map, zero, suc, List, [], ◌∷◌, Option, None, slice_get}
 use Rattle.std.specs.Option.{option_map}
 use Rattle.cnf_core.specs.Literal.{Literal}
-use Rattle.proof_check.specs.Steps.{clause_of}
+use Rattle.proof_check.specs.Steps.{Step, clause_of}
 use Rattle.cdcl.specs.declared.clauses.ClauseId.{ClauseId}
 use Rattle.cdcl.specs.declared.clauses.ClauseId.TheVariants.{Given, Assumed, Learnt}
 use Rattle.cdcl.specs.declared.clauses.Clauses.{Clauses}
@@ -26,3 +26,14 @@ abbrev pub number_of : ℕ → ℕ → ClauseId → ℕ
 number_of given listed (Given i) = i + 1
 number_of given listed (Assumed i) = given + i + 1
 number_of given listed (Learnt i) = given + listed + i + 1
+
+-- the same in 32 bits, which hold each number that a clause has
+abbrev pub numbered : ℕ → ℕ → ClauseId → ℕ
+numbered given listed id = min (number_of given listed id) 4294967295
+
+-- the number that a clause has once so many clauses stand behind those given
+abbrev pub shifted : ℕ → ℕ → ℕ → ℕ
+shifted given listed number = cond (nat_le number given) number (min (number + listed) 4294967295)
+
+abbrev pub shifted_step : ℕ → ℕ → Step → Step
+shifted_step given listed step = record { clause = step.clause; hints = map (shifted given listed) step.hints }

@@ -17,3 +17,7 @@ pub record IsTidy (formula : List (List Literal)) (clause : List Literal) : Type
 
 abbrev pub AreTidy : List (List Literal) → List Step → Type 0
 AreTidy formula steps = All (λ s. IsTidy formula s.clause) steps
+
+-- the clauses of single literals
+abbrev pub units : List Literal → List (List Literal)
+units literals = map (λ l. l ∷ []) literals

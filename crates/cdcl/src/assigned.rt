@@ -42,6 +42,16 @@ pub struct Assigned {
 }
 
 impl Assigned {
+    /// No literals, over no variables. It takes no memory.
+    pub fn new(alloc: Global) -> Assigned {
+        Assigned {
+            entries: Vec::new(alloc),
+            taken: Vec::new(alloc),
+            levels: Vec::new(alloc),
+            level: 0,
+        }
+    }
+
     /// No literals, over variables below `room`.
     pub fn with_room(alloc: Global, room: usize) -> Result<Assigned, AllocError>
         requires { room ≤ 2 ^ 31 }

@@ -19,6 +19,15 @@ impl Choice {
     /// The distance of two conflicts' numbers.
     const STEP: u64 = 0x10_0000;
 
+    /// No conflicts yet, over no variables. It takes no memory.
+    pub fn new(alloc: Global) -> Choice {
+        Choice {
+            marks: Vec::new(alloc),
+            signs: Vec::new(alloc),
+            conflict: 0,
+        }
+    }
+
     /// No conflicts yet, over variables below `room`.
     pub fn with_room(alloc: Global, room: usize) -> Result<Choice, AllocError> {
         let marks = vec![in alloc; 0; room]?;

@@ -1,5 +1,5 @@
 ghost use Rattle.std.specs.Prelude.{◌≡◌, ◌<◌, ◌+◌, ◌^◌, ◌∷◌, [], length, slice_get, Some, IsSome};
-ghost use Rattle.cdcl.specs.Sources.{named, number_of};
+ghost use Rattle.cdcl.specs.Sources.{named};
 
 use cnf_core::{Formula, Lit};
 use plain_data::Items;
@@ -48,17 +48,5 @@ impl Clauses {
         ensures { result ≡ length self.now.given + length self.now.assumed + length self.now.learnt }
     {
         self.given.len() + self.assumed.len() + self.learnt.len()
-    }
-}
-
-/// The number of a clause where so many are given and so many assumptions are listed behind them.
-pub fn number(id: ClauseId, given: usize, listed: usize) -> u32
-    requires { number_of given listed id < 2 ^ 32 }
-    ensures { result ≡ number_of given listed id }
-{
-    match id {
-        ClauseId::Given(index) => index + 1,
-        ClauseId::Assumed(index) => given as u32 + index + 1,
-        ClauseId::Learnt(index) => given as u32 + listed as u32 + index + 1,
     }
 }

@@ -4,9 +4,13 @@
 
 mod analysis;
 mod answer;
+mod asking;
 mod assigned;
 mod choosing;
 mod clauses;
+mod learning;
 mod search;
+mod solver;
 
 pub use answer::{Answer, SolveFault};
+pub use solver::Solver;
