@@ -130,3 +130,6 @@ refuted-tidy clauses r f =
     rw (f.whole, f.moved_is) (All-append (λ s. IsTidy formula s.clause) (map (shifted_step (length clauses.given) (length clauses.assumed)) clauses.learnt) (f.final ∷ [])
     (tidy-shifted clauses.given (units clauses.assumed) (length clauses.given) (length clauses.assumed) clauses.learnt f.learnt.tidy)
     (All-one (λ s. IsTidy formula s.clause) f.final last))
+
+pub learnt-none : (given : List (List Literal)) (assumed : List Literal) (learnt : List Step) → learnt ≡ [] → length given + length assumed < 4294967296 → AreLearnt (record { given = given; assumed = assumed; learnt = learnt })
+learnt-none given assumed learnt e h = rw e (record { valid = tt; tidy = All-none (λ s. IsTidy given s.clause); few = omega arith })

@@ -7,3 +7,4 @@ pub mod Placements
 pub mod Searching
 pub mod Numbering
 pub mod Lessons
+pub mod Assuming

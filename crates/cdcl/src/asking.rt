@@ -3,6 +3,7 @@ ghost use Rattle.cnf_core.specs.Literal.{Literal};
 ghost use Rattle.cnf_core.specs.Truth.{value_of, formula_holds};
 ghost use Rattle.proof_check.specs.Refutations.{IsRefutation, IsTrail};
 ghost use Rattle.cdcl.specs.Known.{known};
+ghost use Rattle.cdcl.specs.declared.clauses.ClauseId.TheVariants.{Assumed};
 ghost use Rattle.cdcl.specs.Fits.{Fits, AllFit};
 ghost use Rattle.cdcl.specs.Trails.{IsTrailOf, IsConflict};
 ghost use Rattle.cdcl.specs.Tidy.{AreTidy, units};
@@ -69,6 +70,27 @@ impl Search {
         Ok(())
     }
 
+    /// Takes the assumption at an index as true, or answers true where it is false.
+    fn assume_at(&mut self, index: u32) -> Result<bool, AllocError>
+        requires index { index < length self.old.clauses.assumed }
+        requires search { IsSearch index self.old }
+        requires level { self.old.trail.level ≡ 0 }
+        ensures search { IfOk result (λ b. b ≡ false → IsSearch (index + 1) self.new) }
+        ensures conflict { IfOk result (λ b. b ≡ true → CanRefute self.new (Assumed index)) }
+        ensures level { self.new.trail.level ≡ 0 }
+        ensures clauses { self.new.clauses ≡ self.old.clauses }
+    {
+        let literal = self.clauses.assumed.as_slice()[index as usize];
+        if self.trail.holds(literal) {
+            return Ok(false);
+        }
+        if self.trail.holds(literal.negated()) {
+            return Ok(true);
+        }
+        self.take(literal, Some(ClauseId::Assumed(index)))?;
+        Ok(false)
+    }
+
     /// Takes the assumptions as true, up to one that is false.
     fn assume_all(&mut self) -> Result<Option<ClauseId>, AllocError>
         requires search { IsSearch 0 self.old }
@@ -78,14 +100,9 @@ impl Search {
         ensures clauses { self.new.clauses ≡ self.old.clauses }
     {
         for index in 0..self.clauses.assumed.len() as u32 {
-            let literal = self.clauses.assumed.as_slice()[index as usize];
-            if self.trail.holds(literal) {
-                continue;
-            }
-            if self.trail.holds(literal.negated()) {
+            if self.assume_at(index)? {
                 return Ok(Some(ClauseId::Assumed(index)));
             }
-            self.take(literal, Some(ClauseId::Assumed(index)))?;
         }
         Ok(None)
     }
@@ -113,7 +130,7 @@ impl Search {
         ensures spent { IfOk result (λ a. IfSpent a (λ kept steps. IsTrail self.old.clauses.given kept steps × AreTidy self.old.clauses.given kept × AreTidy self.old.clauses.given steps × (length steps ≡ conflicts))) }
         ensures given { self.new.clauses.given ≡ self.old.clauses.given }
     {
-        for _ in 0..conflicts {
+        for _met in 0..conflicts {
             match self.until_event()? {
                 Event::Satisfied => return Ok(Answer::Sat(self.assignment(alloc)?)),
                 Event::Conflict(id) => {
