@@ -146,9 +146,9 @@ pub satisfied : (t : Assigned) (values : List Bool) (given : List (List Literal)
 satisfied t values given assumed w true_all held =
     let first = all-hold (value_of values) given (λ i c at. let h = true_all i c at in any-member (literal_holds (value_of values)) c h.0 h.1 (known-holds t values h.0 w h.2)) in
     let second = units-hold (value_of values) assumed (λ k a at.
-        let r = held k a at (slice_get_within assumed k a at) in
-        let kept = w.are_placed.kept r.0 r.1.literal (ap (λ o. option_map (λ e. e.literal) o) r.2) in
-        known-holds t values a w (ap (known t.taken.items) (sym r.3) ∙ kept)) in
+    let r = held k a at (slice_get_within assumed k a at) in
+    let kept = w.are_placed.kept r.0 r.1.literal (ap (λ o. option_map (λ e. e.literal) o) r.2) in
+    known-holds t values a w (ap (known t.taken.items) (sym r.3) ∙ kept)) in
     list_all-append (clause_holds (value_of values)) given (units assumed) ∙ and_from (formula_holds (value_of values) given) (formula_holds (value_of values) (units assumed)) first second
 
 pub literal-read : (xs ys : List Literal) (i : ℕ) (a : Literal) → ys ≡ xs → i < length xs → a ≡ get_or ys i a → slice_get xs i ≡ Some a

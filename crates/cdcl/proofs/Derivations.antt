@@ -161,7 +161,6 @@ lesson-follows lookup entries i seen hints d =
     (λ l b s. lesson-knows seen (take i entries) b.0 l (taken-literal entries i b.0 l b.1 b.2) s)
     (λ l k. let r = lesson-placed seen (take i entries) l k in literal-taken entries i r.0 l r.1)
 
-
 -- the conflict's clause as it was read
 pub conflict-read : (from : ℕ) (clauses : Clauses) (entries : List Entry) (id : ClauseId) (read : List Literal) → IsConflict from clauses entries id → named 0 clauses id ≡ Some read → (named from clauses id ≡ Some read) × Falsifies entries (length entries) read
 conflict-read from clauses entries id read (c, is, f) found =

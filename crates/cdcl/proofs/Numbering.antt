@@ -135,9 +135,10 @@ pub shifted-valid : (given more done : List (List Literal)) (listed : ℕ) (step
 shifted-valid given more done listed [] is few v = tt
 shifted-valid given more done listed (s ∷ steps) is few v =
     let size : length (done ++ s.clause ∷ []) ≡ length done + 1 = length-append done (s.clause ∷ []) in
-    let rest = shifted-valid given more (done ++ s.clause ∷ []) listed steps is (omega arith) (rw (append_assoc given done (s.clause ∷ [])) at v.1) in
-    (propagated-moved (given ++ done) ((given ++ more) ++ done) (shifted (length given) listed) (λ n c e. shifted-at given more done listed n c is (omega arith) e) (negations s.clause) s.hints v.0,
-    rw (append_assoc (given ++ more) done (s.clause ∷ [])) rest)
+    let rest = shifted-valid given more (done ++ s.clause ∷ []) listed steps is (omega arith) (rw (append_assoc given done (s.clause ∷ [])) at v.1) in (
+      propagated-moved (given ++ done) ((given ++ more) ++ done) (shifted (length given) listed) (λ n c e. shifted-at given more done listed n c is (omega arith) e) (negations s.clause) s.hints v.0,
+      rw (append_assoc (given ++ more) done (s.clause ∷ [])) rest,
+    )
 
 pub shifted-clauses : (given listed : ℕ) (steps : List Step) → map clause_of (map (shifted_step given listed) steps) ≡ map clause_of steps
 shifted-clauses given listed [] = refl

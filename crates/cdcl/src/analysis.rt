@@ -38,11 +38,7 @@ fn mark(seen: &mut Vec<bool>, clause: &[Lit], trail: &Assigned) -> usize
 }
 
 /// The negations of the marked literals among the first entries.
-fn marked_negations(
-    alloc: Global,
-    entries: &[Entry],
-    seen: &[bool],
-) -> Result<Vec<Lit>, AllocError>
+fn marked_negations(alloc: Global, entries: &[Entry], seen: &[bool]) -> Result<Vec<Lit>, AllocError>
     ensures { IfOk result (λ v. v.items ≡ lesson_clause seen.now entries.now) }
 {
     entries
@@ -162,12 +158,7 @@ impl Work {
     }
 
     /// Goes down the trail as far as entries are resolved.
-    fn run(
-        &mut self,
-        clauses: &Clauses,
-        trail: &Assigned,
-        from: u32,
-    ) -> Result<usize, AllocError>
+    fn run(&mut self, clauses: &Clauses, trail: &Assigned, from: u32) -> Result<usize, AllocError>
         requires trail { IsTrailOf clauses.now trail.now }
         requires seen { vec_len self.old.seen ≡ vec_len trail.now.levels }
         requires derives { Derives (named from clauses.now) trail.now.entries.items (length trail.now.entries.items) self.old.seen.items (reverse self.old.hints.items) }

@@ -14,3 +14,6 @@ mod solver;
 
 pub use answer::{Answer, SolveFault};
 pub use solver::Solver;
+
+#[cfg(test)]
+mod tests;
