@@ -33,7 +33,7 @@ fn found_where(right: bool, found: Found) -> Found {
     if right { found } else { Found::Wrong }
 }
 
-fn found(
+fn examined(
     alloc: Global,
     clauses: &[&[i64]],
     assume: &[i64],
@@ -63,7 +63,7 @@ fn asked(alloc: Global, clauses: &[&[i64]], assume: &[i64], conflicts: u32) -> R
         solver.add(Clause::from_vec(literals(alloc, numbers)?))?;
     }
     let answer = solver.solve(alloc, &literals(alloc, assume)?, conflicts)?;
-    found(alloc, clauses, assume, &answer)
+    examined(alloc, clauses, assume, &answer)
 }
 
 type Row<'a> = (&'a [&'a [i64]], &'a [i64], u32, Found);
