@@ -1,0 +1,135 @@
+-- Clauses learnt, one more at a time, and the refutation that they end in.
+use Rattle.std.proofs.Common.{◌≡◌, ◌<◌, ◌≤◌, ◌+◌, ◌++◌, ◌∷◌, [], ℕ, zero, suc, List, Option, Some, None, Bool, true, false, map, length, refl, sym, ap, ◌∙◌, arith, subst, length-append, append-nil, get_or, Contains}
+use Rattle.std.specs.List.{slice_get, All, flat_map}
+use Rattle.std.specs.Option.{option_map}
+use Rattle.std.proofs.lemmas.Option.{slice_get_within, get_or_from_slice_get}
+use Rattle.std.proofs.lemmas.List.{map-append, length-map}
+use Rattle.std.proofs.lemmas.List.Elements.{All-append, Contains-append_left}
+use Rattle.std.proofs.lemmas.Grind.{flat_map-append}
+use Rattle.cnf_core.specs.Literal.{Literal}
+use Rattle.proof_check.specs.Steps.{Step, clause_of}
+use Rattle.proof_check.specs.Propagation.{negations}
+use Rattle.proof_check.specs.Room.{Within, AllWithin, Covers, variables_of}
+use Rattle.proof_check.specs.Refutations.{AreValid, IsRefutation, is_empty, ends_empty}
+use Rattle.proof_check.proofs.RoomLemmas.{covers-all}
+use Rattle.proof_check.proofs.StepLemmas.{member-within}
+use Rattle.cdcl.specs.declared.clauses.ClauseId.{ClauseId}
+use Rattle.cdcl.specs.declared.clauses.ClauseId.TheVariants.{Given, Assumed, Learnt}
+use Rattle.cdcl.specs.declared.clauses.Clauses.{Clauses}
+use Rattle.cdcl.specs.declared.assigned.Entry.{Entry}
+use Rattle.cdcl.specs.declared.assigned.Assigned.{Assigned}
+use Rattle.cdcl.specs.Sources.{named, numbered, shifted_step}
+use Rattle.cdcl.specs.Trails.{follows, HaveReasons, IsTrailOf}
+use Rattle.cdcl.specs.Derives.{NamesWithin}
+use Rattle.cdcl.specs.Tidy.{AreApart, IsTidy, AreTidy, units}
+use Rattle.cdcl.specs.Searches.{AreLearnt}
+use Rattle.cdcl.proofs.Numbering.{follows-numbered, numbered-at, numbered-behind, valid-push, ends-push, shifted-valid, shifted-clauses}
+
+All-one : {X : Type 0} (P : X → Type 0) (x : X) → P x → All P (x ∷ [])
+All-one P x p zero d h = p
+All-one P x p (suc k) d h = absurd (omega arith)
+
+All-none : {X : Type 0} (P : X → Type 0) → All P []
+All-none P k d h = absurd (omega arith)
+
+pub learnt-push : (clauses : Clauses) (clause : List Literal) (ids : List ClauseId) (step : Step) (next : List Step) → AreLearnt clauses → length clauses.given + length clauses.assumed + length clauses.learnt + 1 < 4294967296 → step.clause ≡ clause → step.hints ≡ map (numbered (length clauses.given) 0) ids → follows (named 1 clauses) (negations clause) ids ≡ true → AreApart clause → Within (variables_of clauses.given) clause → next ≡ clauses.learnt ++ step ∷ [] → AreLearnt (record { given = clauses.given; assumed = clauses.assumed; learnt = next })
+learnt-push clauses clause ids step next l room c h f a w n =
+    let valid = follows-numbered (named 1 clauses) (clauses.given ++ map clause_of clauses.learnt) (numbered (length clauses.given) 0) (numbered-at clauses l.few) (negations clause) ids f in
+    record {
+      valid = rw n (valid-push clauses.given clauses.learnt step l.valid (rw (c, h) valid));
+      tidy = rw n (All-append (λ s. IsTidy clauses.given s.clause) clauses.learnt (step ∷ []) l.tidy (All-one (λ s. IsTidy clauses.given s.clause) step (rw c (record { apart = a; occurs = w }))));
+      few = rw n (omega (arith, room, length-append clauses.learnt (step ∷ [])));
+    }
+
+clause-left : (xs : List Step) (s : Step) (i : ℕ) (c : List Literal) → option_map clause_of (slice_get xs i) ≡ Some c → option_map clause_of (slice_get (xs ++ s ∷ []) i) ≡ Some c
+clause-left [] s i c e = absurd (cc)
+clause-left (x ∷ xs) s zero c e = e
+clause-left (x ∷ xs) s (suc i) c e = clause-left xs s i c e
+
+pub names-push : (clauses : Clauses) (step : Step) (next : List Step) → next ≡ clauses.learnt ++ step ∷ [] → (level : ℕ) (id : ClauseId) (c : List Literal) → named level clauses id ≡ Some c → named level (record { given = clauses.given; assumed = clauses.assumed; learnt = next }) id ≡ Some c
+names-push clauses step next n level (Given i) c e = e
+names-push clauses step next n level (Assumed i) c e = e
+names-push clauses step next n level (Learnt i) c e = rw n (clause-left clauses.learnt step i c e)
+
+pub trail-grown : (old new : Clauses) (t : Assigned) → ((level : ℕ) (id : ClauseId) (c : List Literal) → named level old id ≡ Some c → named level new id ≡ Some c) → IsTrailOf old t → IsTrailOf new t
+trail-grown old new t names is = record {
+  distinct = is.distinct;
+  reasons = λ i e id at why. let r = is.reasons i e id at why in (r.0, names e.level id r.0 r.1, r.2);
+  in_room = is.in_room;
+  have_levels = is.have_levels;
+  are_placed = is.are_placed;
+  paired = is.paired;
+  small = is.small;
+}
+
+given-within : (formula : List (List Literal)) → AllWithin (variables_of formula) formula
+given-within formula =
+    let c = covers-all (variables_of formula ++ []) formula [] (λ v h. h) in
+    rw (append-nil (variables_of formula)) at c.formula_within
+
+learnt-named : (formula : List (List Literal)) (steps : List Step) (i : ℕ) (c : List Literal) → AreTidy formula steps → option_map clause_of (slice_get steps i) ≡ Some c → Within (variables_of formula) c
+learnt-named formula steps i c tidy e =
+    elim (slice_get steps i) as (λ o. slice_get steps i ≡ o → option_map clause_of o ≡ Some c → Within (variables_of formula) c) [
+      | None ↦ λ _ no. absurd (cc)
+      | Some s ↦ λ at is.
+          let one : s.clause ≡ c = cc in
+          let t : IsTidy formula (get_or steps i s).clause = tidy i s (slice_get_within steps i s at) in
+          let read : get_or steps i s ≡ s = get_or_from_slice_get steps i s s at in
+          let P : List Literal → Type 0 = λ k. Within (variables_of formula) k in
+          subst P (ap (λ k. k.clause) read ∙ one) t.occurs
+    ] refl e
+
+pub names-within : (clauses : Clauses) → AreLearnt clauses → NamesWithin (variables_of clauses.given) (named 1 clauses)
+names-within clauses l (Given i) c e = member-within (variables_of clauses.given) clauses.given i c (given-within clauses.given) e
+names-within clauses l (Assumed i) c e = absurd (cc)
+names-within clauses l (Learnt i) c e = learnt-named clauses.given clauses.learnt i c l.tidy e
+
+variables-append : (xs ys : List (List Literal)) → variables_of (xs ++ ys) ≡ variables_of xs ++ variables_of ys
+variables-append xs ys = ap (map (λ (l : Literal). l.variable)) (flat_map-append (λ (c : List Literal). c) xs ys) ∙ map-append (λ (l : Literal). l.variable) (flat_map (λ (c : List Literal). c) xs) (flat_map (λ (c : List Literal). c) ys)
+
+tidy-more : (formula more : List (List Literal)) (c : List Literal) → IsTidy formula c → IsTidy (formula ++ more) c
+tidy-more formula more c t = record {
+  apart = t.apart;
+  occurs = λ k d h. rw (variables-append formula more) (Contains-append_left (variables_of formula) (variables_of more) (get_or c k d).variable (t.occurs k d h));
+}
+
+tidy-shifted : (formula more : List (List Literal)) (given listed : ℕ) (steps : List Step) → AreTidy formula steps → AreTidy (formula ++ more) (map (shifted_step given listed) steps)
+tidy-shifted formula more given listed [] t = All-none (λ s. IsTidy (formula ++ more) s.clause)
+tidy-shifted formula more given listed (s ∷ steps) t =
+    All-append (λ u. IsTidy (formula ++ more) u.clause) (shifted_step given listed s ∷ []) (map (shifted_step given listed) steps)
+    (All-one (λ u. IsTidy (formula ++ more) u.clause) (shifted_step given listed s) (tidy-more formula more s.clause (t 0 s (omega arith))))
+    (tidy-shifted formula more given listed steps (λ k d h. t (suc k) d (omega arith)))
+
+-- what a conflict at level 0 ends
+pub record Refuting (clauses : Clauses) (r : List Step) : Type 0 where
+  pub moved : List Step
+  pub final : Step
+  pub ids : List ClauseId
+  pub learnt : AreLearnt clauses
+  pub moved_is : moved ≡ map (shifted_step (length clauses.given) (length clauses.assumed)) clauses.learnt
+  pub whole : r ≡ moved ++ final ∷ []
+  pub empty : final.clause ≡ []
+  pub hints : final.hints ≡ map (numbered (length clauses.given) (length clauses.assumed)) ids
+  pub valid : follows (named 0 clauses) (negations final.clause) ids ≡ true
+
+pub refuted : (clauses : Clauses) (r : List Step) → Refuting clauses r → IsRefutation (clauses.given ++ units clauses.assumed) r
+refuted clauses r f =
+    let formula = clauses.given ++ units clauses.assumed in
+    let size : length clauses.assumed ≡ length (units clauses.assumed) = sym (length-map clauses.assumed (λ (l : Literal). l ∷ [])) in
+    let start : AreValid (clauses.given ++ []) clauses.learnt = rw (append-nil clauses.given) f.learnt.valid in
+    let steps = shifted-valid clauses.given (units clauses.assumed) [] (length clauses.assumed) clauses.learnt size (omega (arith, f.learnt.few)) start in
+    let steps_valid : AreValid formula f.moved = rw f.moved_is (rw (append-nil formula) at steps) in
+    let same_clauses : map clause_of f.moved ≡ map clause_of clauses.learnt = ap (map clause_of) f.moved_is ∙ shifted-clauses (length clauses.given) (length clauses.assumed) clauses.learnt in
+    let final = follows-numbered (named 0 clauses) (formula ++ map clause_of f.moved) (numbered (length clauses.given) (length clauses.assumed)) (numbered-behind clauses (map clause_of f.moved) f.learnt.few same_clauses) (negations f.final.clause) f.ids f.valid in
+    (rw f.whole (valid-push formula f.moved f.final steps_valid (rw f.hints final)), rw (f.whole, ends-push f.moved f.final, f.empty) refl)
+
+pub refuted-tidy : (clauses : Clauses) (r : List Step) → Refuting clauses r → AreTidy (clauses.given ++ units clauses.assumed) r
+refuted-tidy clauses r f =
+    let formula = clauses.given ++ units clauses.assumed in
+    let last : IsTidy formula f.final.clause = rw f.empty (record { apart = tt; occurs = All-none (λ (l : Literal). Contains (variables_of formula) l.variable) }) in
+    rw (f.whole, f.moved_is) (All-append (λ s. IsTidy formula s.clause) (map (shifted_step (length clauses.given) (length clauses.assumed)) clauses.learnt) (f.final ∷ [])
+    (tidy-shifted clauses.given (units clauses.assumed) (length clauses.given) (length clauses.assumed) clauses.learnt f.learnt.tidy)
+    (All-one (λ s. IsTidy formula s.clause) f.final last))
+
+pub learnt-none : (given : List (List Literal)) (assumed : List Literal) (learnt : List Step) → learnt ≡ [] → length given + length assumed < 4294967296 → AreLearnt (record { given = given; assumed = assumed; learnt = learnt })
+learnt-none given assumed learnt e h = rw e (record { valid = tt; tidy = All-none (λ s. IsTidy given s.clause); few = omega arith })

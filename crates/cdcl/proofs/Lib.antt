@@ -1,0 +1,10 @@
+pub mod Members
+pub mod Marking
+pub mod Naming
+pub mod Derivations
+pub mod Readings
+pub mod Placements
+pub mod Searching
+pub mod Numbering
+pub mod Lessons
+pub mod Assuming

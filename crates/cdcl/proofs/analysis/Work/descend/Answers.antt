@@ -1,0 +1,47 @@
+use Rattle.std.proofs.Common.{length, reverse, get_or, sym, ◌∙◌, None, Some, false, ap, refl, vec_len, ◌≡◌}
+use Rattle.std.specs.List.{slice_get}
+use Rattle.std.proofs.lemmas.Option.{slice_get-get_or}
+use Rattle.cdcl.specs.declared.assigned.Entry.{Entry}
+use Rattle.cdcl.specs.Trails.{seen_at}
+use Rattle.cdcl.specs.Sources.{named}
+use Rattle.cdcl.proofs.Naming.{named-some}
+use Rattle.cdcl.proofs.Derivations.{Derives-skip, implied-fits, reason-read, resolve-derives, resolve-within, entry-read, entry-literal}
+use Rattle.cdcl.proofs.analysis.Work.descend.Goals as goal
+
+pub is_marked-requires : goal.is_marked-requires
+is_marked-requires c = rw (c.deref.ensures.len, c.requires.seen) (c.requires.trail.in_room c.args.index c.index-entry.result.now.literal (entry-literal c.args.trail.now.entries.items c.args.index c.index-entry.result.now (entry-read c.args.trail.now.entries.items c.args.index c.index-entry.result.now c.requires.index c.index-entry.ensures)))
+
+pub returns-then-not-is_marked-clause-derives : goal.returns-then-not-is_marked-clause-derives
+returns-then-not-is_marked-clause-derives c =
+    Derives-skip (named c.args.from c.args.clauses.now) c.args.trail.now.entries.items c.args.index c.args.self.now.seen.items (reverse c.args.self.now.hints.items) c.index-entry.result.now.literal
+    (entry-literal c.args.trail.now.entries.items c.args.index c.index-entry.result.now (entry-read c.args.trail.now.entries.items c.args.index c.index-entry.result.now c.requires.index c.index-entry.ensures))
+    (ap (λ s. seen_at s c.index-entry.result.now.literal.variable) (sym c.deref.ensures.value) ∙ sym c.is_marked.ensures ∙ c.if-not-is_marked.true)
+    c.requires.derives
+
+pub returns-in_default-clause-stuck : goal.returns-in_default-clause-stuck
+returns-in_default-clause-stuck c = λ _ root.
+    (c.index-entry.result.now, entry-read c.args.trail.now.entries.items c.args.index c.index-entry.result.now c.requires.index c.index-entry.ensures, c.in_default.ensures.nothing refl (rw root refl) root)
+
+pub clause-requires : goal.clause-requires
+clause-requires c =
+    let r = c.requires.trail.reasons c.args.index c.index-entry.result.now c.in-Some.reason (entry-read c.args.trail.now.entries.items c.args.index c.index-entry.result.now c.requires.index c.index-entry.ensures) c.in-Some.ensures.reason.0 in
+    named-some c.index-entry.result.now.level c.args.clauses.now c.in-Some.reason r.0 r.1
+
+pub resolve-requires-clause-fits : goal.resolve-requires-clause-fits
+resolve-requires-clause-fits c =
+    rw c.requires.seen (implied-fits _ c.args.trail.now.entries.items c.args.index c.index-entry.result.now.literal _ c.requires.trail.in_room
+    (entry-literal c.args.trail.now.entries.items c.args.index c.index-entry.result.now (entry-read c.args.trail.now.entries.items c.args.index c.index-entry.result.now c.requires.index c.index-entry.ensures))
+    (reason-read c.args.from c.args.clauses.now c.args.trail.now.entries.items c.args.index c.index-entry.result.now c.in-Some.reason c.clause.result.now c.requires.trail.reasons
+    (entry-read c.args.trail.now.entries.items c.args.index c.index-entry.result.now c.requires.index c.index-entry.ensures) c.in-Some.ensures.reason.0 c.in-Some.ensures.reason.1 c.clause.ensures).1)
+
+pub returns-clause-occurs : goal.returns-clause-occurs
+returns-clause-occurs c = λ vars w before. resolve-within vars (named c.args.from c.args.clauses.now) c.in-Some.reason c.clause.result.now c.index-entry.result.now.literal.variable c.args.self.now.seen.items c.resolve.new.self.seen.items
+    (reason-read c.args.from c.args.clauses.now c.args.trail.now.entries.items c.args.index c.index-entry.result.now c.in-Some.reason c.clause.result.now c.requires.trail.reasons
+    (entry-read c.args.trail.now.entries.items c.args.index c.index-entry.result.now c.requires.index c.index-entry.ensures) c.in-Some.ensures.reason.0 c.in-Some.ensures.reason.1 c.clause.ensures).0
+    c.in_ok-resolve.ensures.off c.in_ok-resolve.ensures.marks w before
+
+pub returns-clause-derives : goal.returns-clause-derives
+returns-clause-derives c =
+    resolve-derives c.args.from c.args.clauses.now c.args.trail.now.entries.items c.args.index c.args.self.now.seen.items c.resolve.new.self.seen.items c.in-Some.reason _ _ c.index-entry.result.now c.clause.result.now c.requires.trail.distinct c.requires.trail.reasons
+    (entry-read c.args.trail.now.entries.items c.args.index c.index-entry.result.now c.requires.index c.index-entry.ensures) c.in-Some.ensures.reason.0 c.in-Some.ensures.reason.1 c.clause.ensures
+    c.in_ok-resolve.ensures.hints c.in_ok-resolve.ensures.off c.in_ok-resolve.ensures.marks c.requires.derives

@@ -1,0 +1,10 @@
+use Rattle.std.proofs.Common.{◌≡◌}
+use Rattle.cdcl.specs.Searches.{IsSearch}
+use Rattle.cdcl.proofs.search.Search.assume_all.Given as goal
+
+abbrev pub invariant-loop-index : goal.invariant-loop-index
+invariant-loop-index l = record {
+  search : IsSearch l.index l.self;
+  same : l.self.clauses ≡ l.fn.self.clauses;
+  root : l.self.trail.level ≡ 0;
+}

@@ -1,0 +1,56 @@
+use Rattle.std.proofs.Common.{◌≡◌, Some, ap, ◌∙◌, sym}
+use Rattle.std.specs.List.{slice_get}
+use Rattle.cdcl.specs.declared.assigned.Entry.{Entry}
+use Rattle.cdcl.specs.declared.clauses.ClauseId.TheVariants.{Assumed}
+use Rattle.cdcl.specs.Known.{known}
+use Rattle.cdcl.proofs.Assuming.{literal-read, known-stands, last-stands, held-next, assumed-conflict, assumed-reason}
+use Rattle.cdcl.proofs.Searching.{held-root}
+use Rattle.cdcl.proofs.search.Search.assume_at.Goals as goal
+
+pub returns-then-holds-clause-search : goal.returns-then-holds-clause-search
+returns-then-holds-clause-search c = λ _.
+    let s = c.requires.search in
+    let a = c.index-as_slice-index.result in
+    let at = literal-read c.args.self.now.clauses.assumed c.as_slice.result.now c.args.index a c.as_slice.ensures c.requires.index c.index-as_slice-index.is in
+    record {
+      learnt = s.learnt;
+      trail = s.trail;
+      fits = s.fits;
+      assumed_fit = s.assumed_fit;
+      holds = held-next c.args.index c.args.self.now.clauses.assumed c.args.self.now.trail.entries.items a s.holds at
+          (known-stands c.args.self.now.trail.entries.items c.args.self.now.trail.taken.items c.args.self.now.trail.level a s.trail.are_placed s.trail.have_levels c.requires.level (sym c.holds.ensures ∙ c.if-holds.true));
+    }
+
+pub returns-then-holds-2-clause-conflict : goal.returns-then-holds-2-clause-conflict
+returns-then-holds-2-clause-conflict c = λ _.
+    let s = c.requires.search in
+    let a = c.index-as_slice-index.result in
+    let at = literal-read c.args.self.now.clauses.assumed c.as_slice.result.now c.args.index a c.as_slice.ensures c.requires.index c.index-as_slice-index.is in
+    record {
+      learnt = s.learnt;
+      trail = s.trail;
+      root = c.requires.level;
+      conflict = assumed-conflict c.args.self.now.clauses c.args.self.now.trail.entries.items c.args.self.now.trail.taken.items c.args.index a s.trail.are_placed at
+          (ap (known c.args.self.now.trail.taken.items) (sym c.negated.ensures) ∙ sym c.holds-2.ensures ∙ c.if-holds-2.true);
+    }
+
+pub take-requires-clause-room : goal.take-requires-clause-room
+take-requires-clause-room c =
+    c.requires.search.assumed_fit c.index-as_slice-index.result
+    (c.args.index, literal-read c.args.self.now.clauses.assumed c.as_slice.result.now c.args.index c.index-as_slice-index.result c.as_slice.ensures c.requires.index c.index-as_slice-index.is)
+
+pub returns-clause-search : goal.returns-clause-search
+returns-clause-search c = λ _.
+    let a = c.index-as_slice-index.result in
+    let e : Entry = record { literal = a; reason = Some (Assumed c.args.index); level = c.args.self.now.trail.level } in
+    let at = literal-read c.args.self.now.clauses.assumed c.as_slice.result.now c.args.index a c.as_slice.ensures c.requires.index c.index-as_slice-index.is in
+    let s = c.in_ok-take.ensures.search c.args.index c.requires.search (assumed-reason c.args.self.now.clauses c.args.self.now.trail.entries.items c.args.index c.args.self.now.trail.level a at c.requires.level) (λ none. absurd (cc)) in
+    record {
+      learnt = s.learnt;
+      trail = s.trail;
+      fits = s.fits;
+      assumed_fit = s.assumed_fit;
+      holds = held-next c.args.index c.take.new.self.clauses.assumed c.take.new.self.trail.entries.items a s.holds
+          (ap (λ t. slice_get t.assumed c.args.index) c.in_ok-take.ensures.clauses ∙ at)
+          (last-stands c.args.self.now.trail.entries.items c.take.new.self.trail.entries.items e c.in_ok-take.ensures.entries c.requires.level);
+    }

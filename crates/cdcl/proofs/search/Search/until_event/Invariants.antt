@@ -1,0 +1,13 @@
+use Rattle.std.proofs.Common.{◌≡◌}
+use Rattle.cdcl.specs.Known.{open_count}
+use Rattle.cdcl.specs.Searches.{IsReady}
+use Rattle.cdcl.proofs.search.Search.until_event.Given as goal
+
+abbrev pub invariant-decisions : goal.invariant-decisions
+invariant-decisions l = record {
+  ready : IsReady l.self;
+  same : l.self.clauses ≡ l.fn.self.clauses;
+}
+
+abbrev pub decreases-decisions : goal.decreases-decisions
+decreases-decisions l = open_count l.self.trail.taken.items

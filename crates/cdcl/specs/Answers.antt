@@ -1,0 +1,31 @@
+-- What the answers of a solver mean.
+use Rattle.std.specs.Prelude.{◌≡◌, ◌++◌, ◌≤◌, ℕ, true, Bool, List, [], ◌∷◌, map, length}
+use Rattle.cnf_core.specs.Literal.{Literal}
+use Rattle.cnf_core.specs.Truth.{value_of, formula_holds}
+use Rattle.proof_check.specs.Steps.{Step}
+use Rattle.proof_check.specs.Refutations.{IsRefutation, IsTrail}
+use Rattle.cdcl.specs.declared.answer.Answer.{Answer}
+use Rattle.cdcl.specs.declared.answer.Answer.TheVariants.{Sat, Unsat, Spent}
+use Rattle.cdcl.specs.Tidy.{AreTidy}
+
+-- an assignment satisfies the clauses and makes the assumptions true
+abbrev pub IfSat : Answer → (List Bool → Type 0) → Type 0
+IfSat (Sat values) P = P values
+IfSat (Unsat refutation) P = Unit {0}
+IfSat (Spent trail) P = Unit {0}
+
+abbrev pub IfUnsat : Answer → (List Step → Type 0) → Type 0
+IfUnsat (Sat values) P = Unit {0}
+IfUnsat (Unsat refutation) P = P refutation
+IfUnsat (Spent trail) P = Unit {0}
+
+-- of the steps kept from before and those of this call
+abbrev pub IfSpent : Answer → (List Step → List Step → Type 0) → Type 0
+IfSpent (Sat values) P = Unit {0}
+IfSpent (Unsat refutation) P = Unit {0}
+IfSpent (Spent trail) P = P trail.kept trail.steps
+
+abbrev pub IsSpent : Answer → Type 0
+IsSpent (Sat values) = ⊥
+IsSpent (Unsat refutation) = ⊥
+IsSpent (Spent trail) = Unit {0}

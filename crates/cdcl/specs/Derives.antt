@@ -1,0 +1,21 @@
+-- What conflict analysis keeps.
+use Rattle.std.specs.Prelude.{◌≡◌, ◌<◌, ℕ, true, Bool, List, Some, Contains}
+use Rattle.proof_check.specs.Room.{Within}
+use Rattle.cnf_core.specs.Literal.{Literal}
+use Rattle.proof_check.specs.Propagation.{Known}
+use Rattle.cdcl.specs.declared.clauses.ClauseId.{ClauseId}
+use Rattle.cdcl.specs.declared.assigned.Entry.{Entry}
+use Rattle.cdcl.specs.Sources.{Lookup}
+use Rattle.cdcl.specs.Trails.{seen_at, follows, PlacedBelow}
+
+-- wherever the marked literals of the first i entries are taken as true, and nothing beyond these entries, propagation along the hints ends in a false clause
+pub record Derives (lookup : Lookup) (entries : List Entry) (i : ℕ) (seen : List Bool) (hints : List ClauseId) : Type 0 where
+  pub run : (known : Known) → ((l : Literal) → PlacedBelow i entries l → seen_at seen l.variable ≡ true → known l ≡ true) → ((l : Literal) → known l ≡ true → PlacedBelow i entries l) → follows lookup known hints ≡ true
+  pub only : (v : ℕ) → seen_at seen v ≡ true → (l : Literal) × PlacedBelow i entries l × (l.variable ≡ v)
+
+-- every clause that may be cited at this level has these variables alone
+abbrev pub NamesWithin : List ℕ → Lookup → Type 0
+NamesWithin vars lookup = (id : ClauseId) (c : List Literal) → lookup id ≡ Some c → Within vars c
+
+abbrev pub MarksWithin : List ℕ → List Bool → Type 0
+MarksWithin vars seen = (v : ℕ) → seen_at seen v ≡ true → Contains vars v

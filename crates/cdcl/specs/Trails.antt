@@ -1,0 +1,113 @@
+-- Trails, and clauses that follow by unit propagation along named clauses.
+use Rattle.std.specs.Prelude.{◌≡◌, ◌<◌, ◌≤◌, ◌⊎◌, ◌*◌, ◌-◌, ◌^◌, ℕ, Bool, true, false, eqb, List, [], ◌∷◌, map, filter, length, Option, Some, None, slice_get, slice_index_or, vec_len}
+use Rattle.std.specs.List.{list_any}
+use Rattle.std.specs.Option.{option_map}
+use Rattle.cnf_core.specs.Literal.{Literal, negated}
+use Rattle.proof_check.specs.declared.propagation.Reading.{Reading}
+use Rattle.proof_check.specs.declared.propagation.Reading.TheVariants.{Falsified, Implied, Neither}
+use Rattle.proof_check.specs.Propagation.{Known, taking, reading}
+use Rattle.cdcl.specs.declared.clauses.ClauseId.{ClauseId}
+use Rattle.cdcl.specs.declared.clauses.Clauses.{Clauses}
+use Rattle.cdcl.specs.declared.assigned.Entry.{Entry}
+use Rattle.cdcl.specs.declared.assigned.Assigned.{Assigned}
+use Rattle.cdcl.specs.Sources.{Lookup, named}
+use Rattle.cdcl.specs.Known.{known, Member}
+
+abbrev pub seen_at : List Bool → ℕ → Bool
+seen_at seen v = slice_index_or seen v false
+
+-- some literal of the clause has this variable
+abbrev pub names : ℕ → List Literal → Bool
+names v clause = list_any (λ l. eqb l.variable v) clause
+
+-- the negations of the entries whose variables are marked
+abbrev pub lesson_clause : List Bool → List Entry → List Literal
+lesson_clause seen entries = map (λ e. negated e.literal) (filter (λ e. seen_at seen e.literal.variable) entries)
+
+-- what comes after a clause was read
+abbrev pub after : (Literal → Bool) → Reading → Bool
+after next Falsified = true
+after next (Implied l) = next l
+after next Neither = false
+
+abbrev pub if_named : (List Literal → Bool) → Option (List Literal) → Bool
+if_named next None = false
+if_named next (Some clause) = next clause
+
+-- propagation along these clauses ends in a false one
+abbrev pub follows : Lookup → Known → List ClauseId → Bool
+follows lookup known [] = false
+follows lookup known (id ∷ ids) = if_named (λ clause. after (λ l. follows lookup (taking l known) ids) (reading known clause)) (lookup id)
+
+abbrev pub literal_at : List Entry → ℕ → Option Literal
+literal_at entries i = option_map (λ e. e.literal) (slice_get entries i)
+
+-- the literal stands among the first i entries
+abbrev pub PlacedBelow : ℕ → List Entry → Literal → Type 0
+PlacedBelow i entries l = (j : ℕ) × (j < i) × (literal_at entries j ≡ Some l)
+
+-- the clause has the literal, and all its others are false by the first i entries
+pub record Implies (entries : List Entry) (i : ℕ) (p : Literal) (clause : List Literal) : Type 0 where
+  pub has : Member p clause
+  pub others : (l : Literal) → Member l clause → (l ≡ p) ⊎ PlacedBelow i entries (negated l)
+
+-- each literal of the clause is false by the first i entries
+abbrev pub Falsifies : List Entry → ℕ → List Literal → Type 0
+Falsifies entries i clause = (l : Literal) → Member l clause → PlacedBelow i entries (negated l)
+
+-- no variable stands twice
+abbrev pub AreDistinct : List Entry → Type 0
+AreDistinct entries = (i j : ℕ) (p q : Literal) → literal_at entries i ≡ Some p → literal_at entries j ≡ Some q → p.variable ≡ q.variable → i ≡ j
+
+-- each reason is a clause that implies its entry and that a step at the entry's level may cite
+abbrev pub HaveReasons : Clauses → List Entry → Type 0
+HaveReasons clauses entries = (i : ℕ) (e : Entry) (id : ClauseId) → slice_get entries i ≡ Some e → e.reason ≡ Some id → (clause : List Literal) × (named e.level clauses id ≡ Some clause) × Implies entries i e.literal clause
+
+-- each variable is below the room
+abbrev pub HasRoom : ℕ → List Entry → Type 0
+HasRoom room entries = (i : ℕ) (l : Literal) → literal_at entries i ≡ Some l → l.variable < room
+
+abbrev pub level_of : Option Entry → ℕ
+level_of None = 0
+level_of (Some e) = e.level
+
+-- the level of the last entry, or 0
+abbrev pub top_level : List Entry → ℕ
+top_level entries = level_of (slice_get entries (length entries - 1))
+
+-- levels never fall, and none is above this one; an entry without a reason stands above level 0
+pub record HaveLevels (level : ℕ) (entries : List Entry) : Type 0 where
+  pub rising : (i j : ℕ) (a b : Entry) → slice_get entries i ≡ Some a → slice_get entries j ≡ Some b → i ≤ j → a.level ≤ b.level
+  pub within : (i : ℕ) (e : Entry) → slice_get entries i ≡ Some e → e.level ≤ level
+  pub decided : (i : ℕ) (e : Entry) → slice_get entries i ≡ Some e → e.reason ≡ None → 1 ≤ e.level
+
+-- the literals taken as true are those of the entries
+pub record ArePlaced (entries : List Entry) (taken : List Bool) : Type 0 where
+  pub placed : (l : Literal) → known taken l ≡ true → PlacedBelow (length entries) entries l
+  pub kept : (i : ℕ) (l : Literal) → literal_at entries i ≡ Some l → known taken l ≡ true
+
+-- what holds of the literals that are taken as true, over these clauses
+pub record IsTrailOf (clauses : Clauses) (t : Assigned) : Type 0 where
+  pub distinct : AreDistinct t.entries.items
+  pub reasons : HaveReasons clauses t.entries.items
+  pub in_room : HasRoom (vec_len t.levels) t.entries.items
+  pub have_levels : HaveLevels t.level t.entries.items
+  pub are_placed : ArePlaced t.entries.items t.taken.items
+  pub paired : vec_len t.taken ≡ 2 * vec_len t.levels
+  pub small : vec_len t.levels ≤ 2 ^ 31
+
+-- no entry is a decision
+abbrev pub AllReasoned : List Entry → Type 0
+AllReasoned entries = (i : ℕ) (e : Entry) → slice_get entries i ≡ Some e → e.reason ≡ None → ⊥
+
+-- the entry is a decision
+abbrev pub IsDecision : List Entry → ℕ → Type 0
+IsDecision entries i = (e : Entry) × (slice_get entries i ≡ Some e) × (e.reason ≡ None)
+
+-- the named clause, which a step at this level may cite, is false
+abbrev pub IsConflict : ℕ → Clauses → List Entry → ClauseId → Type 0
+IsConflict level clauses entries id = (c : List Literal) × (named level clauses id ≡ Some c) × Falsifies entries (length entries) c
+
+-- entries at level 0 stay where they are
+abbrev pub KeepsRoot : List Entry → List Entry → Type 0
+KeepsRoot old new = (i : ℕ) (e : Entry) → slice_get old i ≡ Some e → e.level ≡ 0 → slice_get new i ≡ Some e

@@ -1,0 +1,205 @@
+ghost use Rattle.std.specs.Prelude.{◌≡◌, ◌<◌, ◌≤◌, ◌+◌, ◌||◌, cond, ◌++◌, ◌∷◌, [], ℕ, Some, None, false, true, reverse, length, List, vec_len, IfOk, OnOk, IfSome, Contains};
+ghost use Rattle.cnf_core.specs.Literal.{Literal, negated};
+ghost use Rattle.proof_check.specs.Propagation.{negations};
+ghost use Rattle.proof_check.specs.Room.{Within};
+ghost use Rattle.cdcl.specs.Sources.{named};
+ghost use Rattle.cdcl.specs.Fits.{Fits};
+ghost use Rattle.cdcl.specs.Derives.{Derives, NamesWithin, MarksWithin};
+ghost use Rattle.cdcl.specs.Tidy.{AreApart};
+ghost use Rattle.cdcl.specs.Trails.{seen_at, names, follows, IsTrailOf, IsConflict, HasRoom, AllReasoned, IsDecision, lesson_clause};
+
+use crate::assigned::{Assigned, Entry};
+use crate::clauses::{ClauseId, Clauses};
+use cnf_core::Lit;
+use std::alloc::{AllocError, Global};
+
+/// A clause, and those from which it follows by unit propagation, in order.
+#[derive(Drop)]
+pub struct Lesson {
+    pub clause: Vec<Lit>,
+    pub hints: Vec<ClauseId>,
+}
+
+/// Marks the clause's variables, and answers how many of this level are newly marked.
+fn mark(seen: &mut Vec<bool>, clause: &[Lit], trail: &Assigned) -> usize
+    requires { Fits (vec_len seen.old) clause.now }
+    ensures room { vec_len seen.new ≡ vec_len seen.old }
+    ensures marks { (v : ℕ) → seen_at seen.new.items v ≡ (seen_at seen.old.items v || names v clause.now) }
+{
+    let mut fresh: usize = 0;
+    for literal in clause {
+        let variable = literal.variable() as usize;
+        if !seen[variable] && trail.levels.get(variable) == Some(&trail.level) {
+            fresh = fresh.saturating_add(1);
+        }
+        seen[variable] = true;
+    }
+    fresh
+}
+
+/// The negations of the marked literals among the first entries.
+fn marked_negations(alloc: Global, entries: &[Entry], seen: &[bool]) -> Result<Vec<Lit>, AllocError>
+    ensures { IfOk result (λ v. v.items ≡ lesson_clause seen.now entries.now) }
+{
+    entries
+        .iter()
+        .filter(|entry| seen.get(entry.literal.variable() as usize) == Some(&true))
+        .map(|entry| entry.literal.negated())
+        .collect(alloc)
+}
+
+/// The marked variables, the clauses read so far, the last one first, and how many marked variables
+/// are of the level.
+#[derive(Drop)]
+struct Work {
+    seen: Vec<bool>,
+    hints: Vec<ClauseId>,
+    open: usize,
+}
+
+fn is_marked(seen: &[bool], literal: Lit) -> bool
+    requires { literal.variable < length seen.now }
+    ensures { result ≡ seen_at seen.now literal.variable }
+{
+    seen[literal.variable() as usize]
+}
+
+/// The entry's reason, where it is wanted.
+fn resolvable(entry: &Entry, from: u32, wanted: bool) -> Option<ClauseId>
+    ensures reason { IfSome result (λ id. (entry.now.reason ≡ Some id) × (from ≤ entry.now.level)) }
+    ensures nothing { result ≡ None → wanted ≡ true → from ≡ 0 → entry.now.reason ≡ None }
+{
+    if wanted && entry.level >= from {
+        entry.reason
+    } else {
+        None
+    }
+}
+
+fn unmarked(alloc: Global, room: usize) -> Result<Vec<bool>, AllocError>
+    ensures room { IfOk result (λ seen. vec_len seen ≡ room) }
+    ensures marks { IfOk result (λ seen. (v : ℕ) → seen_at seen.items v ≡ false) }
+{
+    let seen = vec![in alloc; false; room]?;
+    Ok(seen)
+}
+
+impl Work {
+    /// The marks of the conflict's clause.
+    fn begin(
+        alloc: Global,
+        clauses: &Clauses,
+        trail: &Assigned,
+        conflict: ClauseId,
+        from: u32,
+    ) -> Result<Work, AllocError>
+        requires room { HasRoom (vec_len trail.now.levels) trail.now.entries.items }
+        requires conflict { IsConflict from clauses.now trail.now.entries.items conflict }
+        ensures room { IfOk result (λ w. vec_len w.seen ≡ vec_len trail.now.levels) }
+        ensures occurs { IfOk result (λ w. (vars : List ℕ) → NamesWithin vars (named from clauses.now) → MarksWithin vars w.seen.items) }
+        ensures derives { IfOk result (λ w. Derives (named from clauses.now) trail.now.entries.items (length trail.now.entries.items) w.seen.items (reverse w.hints.items)) }
+    {
+        let mut hints = Vec::new(alloc);
+        hints.push(conflict)?;
+        let mut seen = unmarked(alloc, trail.levels.len())?;
+        let open = mark(&mut seen, clauses.clause(conflict), trail);
+        Ok(Work { seen, hints, open })
+    }
+
+    /// Replaces the entry's mark by those of its reason's other literals.
+    fn resolve(
+        &mut self,
+        literal: Lit,
+        reason: ClauseId,
+        clause: &[Lit],
+        trail: &Assigned,
+    ) -> Result<(), AllocError>
+        requires fits { Fits (vec_len self.old.seen) clause.now }
+        requires literal { literal.variable < vec_len self.old.seen }
+        ensures room { vec_len self.new.seen ≡ vec_len self.old.seen }
+        ensures off { OnOk result (seen_at self.new.seen.items literal.variable ≡ false) }
+        ensures marks { OnOk result ((v : ℕ) → (v ≡ literal.variable → ⊥) → seen_at self.new.seen.items v ≡ (seen_at self.old.seen.items v || names v clause.now)) }
+        ensures hints { OnOk result (self.new.hints.items ≡ self.old.hints.items ++ reason ∷ []) }
+    {
+        self.hints.push(reason)?;
+        let fresh = mark(&mut self.seen, clause, trail);
+        self.seen[literal.variable() as usize] = false;
+        self.open = self.open.saturating_add(fresh).saturating_sub(1);
+        Ok(())
+    }
+
+    /// Goes below the entry, or answers false where the entry's mark stays.
+    fn descend(
+        &mut self,
+        clauses: &Clauses,
+        trail: &Assigned,
+        index: usize,
+        from: u32,
+    ) -> Result<bool, AllocError>
+        requires trail { IsTrailOf clauses.now trail.now }
+        requires index { index < length trail.now.entries.items }
+        requires seen { vec_len self.old.seen ≡ vec_len trail.now.levels }
+        requires derives { Derives (named from clauses.now) trail.now.entries.items (index + 1) self.old.seen.items (reverse self.old.hints.items) }
+        ensures seen { vec_len self.new.seen ≡ vec_len trail.now.levels }
+        ensures stuck { IfOk result (λ moved. moved ≡ false → from ≡ 0 → IsDecision trail.now.entries.items index) }
+        ensures occurs { OnOk result ((vars : List ℕ) → NamesWithin vars (named from clauses.now) → MarksWithin vars self.old.seen.items → MarksWithin vars self.new.seen.items) }
+        ensures derives { IfOk result (λ moved. Derives (named from clauses.now) trail.now.entries.items (cond moved index (index + 1)) self.new.seen.items (reverse self.new.hints.items)) }
+    {
+        let entry = &trail.entries[index];
+        if !is_marked(&self.seen, entry.literal) {
+            return Ok(true);
+        }
+        let wanted = (from == 0) | (self.open > 1);
+        let Some(reason) = resolvable(entry, from, wanted) else {
+            return Ok(false);
+        };
+        self.resolve(entry.literal, reason, clauses.clause(reason), trail)?;
+        Ok(true)
+    }
+
+    /// Goes down the trail as far as entries are resolved.
+    fn run(&mut self, clauses: &Clauses, trail: &Assigned, from: u32) -> Result<usize, AllocError>
+        requires trail { IsTrailOf clauses.now trail.now }
+        requires seen { vec_len self.old.seen ≡ vec_len trail.now.levels }
+        requires derives { Derives (named from clauses.now) trail.now.entries.items (length trail.now.entries.items) self.old.seen.items (reverse self.old.hints.items) }
+        ensures within { IfOk result (λ index. index ≤ length trail.now.entries.items) }
+        ensures bottom { IfOk result (λ index. from ≡ 0 → AllReasoned trail.now.entries.items → index ≡ 0) }
+        ensures occurs { OnOk result ((vars : List ℕ) → NamesWithin vars (named from clauses.now) → MarksWithin vars self.old.seen.items → MarksWithin vars self.new.seen.items) }
+        ensures derives { IfOk result (λ index. Derives (named from clauses.now) trail.now.entries.items index self.new.seen.items (reverse self.new.hints.items)) }
+    {
+        let mut index = trail.entries.len();
+        'entries: while index > 0 {
+            if !self.descend(clauses, trail, index - 1, from)? {
+                return Ok(index);
+            }
+            index -= 1;
+        }
+        Ok(index)
+    }
+}
+
+/// The clause that the conflict teaches: at its level's first unique implication point, or from
+/// level 0 the empty one.
+pub fn analyze(
+    alloc: Global,
+    clauses: &Clauses,
+    trail: &Assigned,
+    conflict: ClauseId,
+    from: u32,
+) -> Result<Lesson, AllocError>
+    requires trail { IsTrailOf clauses.now trail.now }
+    requires conflict { IsConflict from clauses.now trail.now.entries.items conflict }
+    ensures empty { IfOk result (λ lesson. from ≡ 0 → AllReasoned trail.now.entries.items → lesson.clause.items ≡ []) }
+    ensures apart { IfOk result (λ lesson. AreApart lesson.clause.items) }
+    ensures occurs { IfOk result (λ lesson. (vars : List ℕ) → NamesWithin vars (named from clauses.now) → Within vars lesson.clause.items) }
+    ensures valid { IfOk result (λ lesson. follows (named from clauses.now) (negations lesson.clause.items) lesson.hints.items ≡ true) }
+{
+    let mut work = Work::begin(alloc, clauses, trail, conflict, from)?;
+    let index = work.run(clauses, trail, from)?;
+    work.hints.reverse();
+    let clause = marked_negations(alloc, &trail.entries[..index], &work.seen)?;
+    Ok(Lesson {
+        clause,
+        hints: work.hints,
+    })
+}

@@ -1,0 +1,176 @@
+ghost use Rattle.std.specs.Prelude.{◌≡◌, ◌<◌, ◌≤◌, ◌+◌, ◌++◌, ◌^◌, [], ℕ, Some, None, true, false, length, slice_index_or, vec_len, IfOk, OnOk, MatchOption, IfSome};
+ghost use Rattle.cnf_core.specs.Literal.{Literal};
+ghost use Rattle.cnf_core.specs.Truth.{value_of, formula_holds};
+ghost use Rattle.proof_check.specs.Refutations.{IsRefutation, IsTrail};
+ghost use Rattle.cdcl.specs.Known.{known};
+ghost use Rattle.cdcl.specs.declared.clauses.ClauseId.TheVariants.{Assumed};
+ghost use Rattle.cdcl.specs.Fits.{Fits, AllFit};
+ghost use Rattle.cdcl.specs.Trails.{IsTrailOf, IsConflict};
+ghost use Rattle.cdcl.specs.Tidy.{AreTidy, units};
+ghost use Rattle.cdcl.specs.Searches.{AreLearnt, IsSearch, IsReady, AllTrue, CanRefute};
+ghost use Rattle.cdcl.specs.Answers.{IfSat, IfUnsat, IfSpent, IsSpent};
+
+use crate::answer::Answer;
+use crate::assigned::Assigned;
+use crate::choosing::Choice;
+use crate::clauses::{ClauseId, Clauses};
+use crate::search::{Event, Search};
+use cnf_core::{Assignment, Formula, Lit};
+use plain_data::Items;
+use proof_check::{Steps, Trail};
+use std::alloc::{AllocError, Global};
+use std::mem;
+
+/// A number above each variable, and at most 2^31.
+fn room_for(literals: &[Lit], least: usize) -> usize
+    requires { least ≤ 2 ^ 31 }
+    ensures small { result ≤ 2 ^ 31 }
+    ensures least { least ≤ result }
+    ensures fits { Fits result literals.now }
+{
+    let mut room = least;
+    for literal in literals {
+        room = room.max(literal.variable() as usize + 1);
+    }
+    room
+}
+
+impl Search {
+    /// No clauses.
+    pub fn new(alloc: Global) -> Search
+        ensures { result.clauses.given ≡ [] }
+    {
+        Search {
+            clauses: Clauses {
+                given: Formula::new(alloc),
+                assumed: Items::new(alloc),
+                learnt: Steps::new(alloc),
+            },
+            trail: Assigned::new(alloc),
+            choice: Choice::new(alloc),
+        }
+    }
+
+    /// Begins a question: nothing is learnt, and no literal is taken as true.
+    fn reset(&mut self, alloc: Global, assume: &[Lit]) -> Result<(), AllocError>
+        ensures search { OnOk result (IsSearch 0 self.new) }
+        ensures learnt { OnOk result (self.new.clauses.learnt ≡ []) }
+        ensures assumed { OnOk result (self.new.clauses.assumed ≡ assume.now) }
+        ensures level { OnOk result (self.new.trail.level ≡ 0) }
+        ensures given { self.new.clauses.given ≡ self.old.clauses.given }
+    {
+        if self.clauses.given.len() >= 0x8000_0000 || assume.len() >= 0x7fff_ffff {
+            return Err(AllocError);
+        }
+        self.clauses.assumed = Items::from_slice(alloc, assume)?;
+        self.clauses.learnt = Steps::new(alloc);
+        let room = room_for(self.clauses.given.literals(), room_for(assume, 0));
+        self.trail = Assigned::with_room(alloc, room)?;
+        self.choice = Choice::with_room(alloc, room)?;
+        Ok(())
+    }
+
+    /// Takes the assumption at an index as true, or answers true where it is false.
+    fn assume_at(&mut self, index: u32) -> Result<bool, AllocError>
+        requires index { index < length self.old.clauses.assumed }
+        requires search { IsSearch index self.old }
+        requires level { self.old.trail.level ≡ 0 }
+        ensures search { IfOk result (λ b. b ≡ false → IsSearch (index + 1) self.new) }
+        ensures conflict { IfOk result (λ b. b ≡ true → CanRefute self.new (Assumed index)) }
+        ensures level { self.new.trail.level ≡ 0 }
+        ensures clauses { self.new.clauses ≡ self.old.clauses }
+    {
+        let literal = self.clauses.assumed.as_slice()[index as usize];
+        if self.trail.holds(literal) {
+            return Ok(false);
+        }
+        if self.trail.holds(literal.negated()) {
+            return Ok(true);
+        }
+        self.take(literal, Some(ClauseId::Assumed(index)))?;
+        Ok(false)
+    }
+
+    /// Takes the assumptions as true, up to one that is false.
+    fn assume_all(&mut self) -> Result<Option<ClauseId>, AllocError>
+        requires search { IsSearch 0 self.old }
+        requires level { self.old.trail.level ≡ 0 }
+        ensures ready { IfOk result (λ o. o ≡ None → IsReady self.new) }
+        ensures conflict { IfOk result (λ o. IfSome o (CanRefute self.new)) }
+        ensures clauses { self.new.clauses ≡ self.old.clauses }
+    {
+        for index in 0..self.clauses.assumed.len() as u32 {
+            if self.assume_at(index)? {
+                return Ok(Some(ClauseId::Assumed(index)));
+            }
+        }
+        Ok(None)
+    }
+
+    /// The values that the literals taken as true give; a variable without one is false.
+    fn assignment(&self, alloc: Global) -> Result<Assignment, AllocError>
+        requires ready { IsReady self.now }
+        requires satisfied { AllTrue self.now }
+        ensures { IfOk result (λ values. formula_holds (value_of values) (self.now.clauses.given ++ units self.now.clauses.assumed) ≡ true) }
+    {
+        let mut values = Vec::new(alloc);
+        for variable in 0..self.trail.levels.len() {
+            values.push(self.trail.taken[2 * variable])?;
+        }
+        Ok(Assignment::from_vec(values))
+    }
+
+    /// Searches on, learning from at most so many conflicts.
+    fn run(&mut self, alloc: Global, conflicts: u32) -> Result<Answer, AllocError>
+        requires ready { IsReady self.old }
+        requires nothing { self.old.clauses.learnt ≡ [] }
+        requires some { 1 ≤ conflicts }
+        ensures sat { IfOk result (λ a. IfSat a (λ values. formula_holds (value_of values) (self.old.clauses.given ++ units self.old.clauses.assumed) ≡ true)) }
+        ensures unsat { IfOk result (λ a. IfUnsat a (λ r. IsRefutation (self.old.clauses.given ++ units self.old.clauses.assumed) r × AreTidy (self.old.clauses.given ++ units self.old.clauses.assumed) r × (length r ≤ conflicts))) }
+        ensures spent { IfOk result (λ a. IfSpent a (λ kept steps. IsTrail self.old.clauses.given kept steps × AreTidy self.old.clauses.given kept × AreTidy self.old.clauses.given steps × (length steps ≡ conflicts))) }
+        ensures given { self.new.clauses.given ≡ self.old.clauses.given }
+    {
+        for _met in 0..conflicts {
+            match self.until_event()? {
+                Event::Satisfied => return Ok(Answer::Sat(self.assignment(alloc)?)),
+                Event::Conflict(id) => {
+                    if self.trail.level == 0 {
+                        return Ok(Answer::Unsat(self.refute(alloc, id)?));
+                    }
+                    self.learn(alloc, id)?;
+                }
+            }
+        }
+        let steps = mem::replace(&mut self.clauses.learnt, Steps::new(alloc));
+        Ok(Answer::Spent(Trail {
+            kept: Steps::new(alloc),
+            steps,
+        }))
+    }
+
+    /// The answer to a question.
+    pub fn answer(
+        &mut self,
+        alloc: Global,
+        assume: &[Lit],
+        conflicts: u32,
+    ) -> Result<Answer, AllocError>
+        ensures sat { IfOk result (λ a. IfSat a (λ values. formula_holds (value_of values) (self.old.clauses.given ++ units assume.now) ≡ true)) }
+        ensures unsat { IfOk result (λ a. IfUnsat a (λ r. IsRefutation (self.old.clauses.given ++ units assume.now) r × AreTidy (self.old.clauses.given ++ units assume.now) r × (length r ≤ conflicts))) }
+        ensures spent { IfOk result (λ a. IfSpent a (λ kept steps. IsTrail self.old.clauses.given kept steps × AreTidy self.old.clauses.given kept × AreTidy self.old.clauses.given steps × (length steps ≡ conflicts))) }
+        ensures at_once { conflicts ≡ 0 → IfOk result IsSpent }
+        ensures given { self.new.clauses.given ≡ self.old.clauses.given }
+    {
+        if conflicts == 0 {
+            return Ok(Answer::Spent(Trail {
+                kept: Steps::new(alloc),
+                steps: Steps::new(alloc),
+            }));
+        }
+        self.reset(alloc, assume)?;
+        match self.assume_all()? {
+            Some(id) => Ok(Answer::Unsat(self.refute(alloc, id)?)),
+            None => self.run(alloc, conflicts),
+        }
+    }
+}

@@ -1,0 +1,179 @@
+ghost use Rattle.std.specs.Prelude.{◌≡◌, ◌<◌, ◌≤◌, ◌+◌, ◌*◌, ◌^◌, ◌++◌, ◌∷◌, [], ◌⊎◌, ℕ, List, Some, None, true, length, vec_len, IfOk, OnOk};
+ghost use Rattle.cnf_core.specs.Literal.{Literal};
+ghost use Rattle.proof_check.specs.Propagation.{taking};
+ghost use Rattle.cdcl.specs.declared.clauses.Clauses.{Clauses as ClausesValue};
+ghost use Rattle.cdcl.specs.Sources.{named};
+ghost use Rattle.cdcl.specs.Known.{known, Reads, IsOpen, open_count};
+ghost use Rattle.cdcl.specs.Trails.{IsTrailOf, Implies, KeepsRoot, top_level};
+
+use crate::clauses::ClauseId;
+use cnf_core::Lit;
+use std::alloc::{AllocError, Global};
+
+/// A literal that is taken as true: a decision, or implied by a clause. Assumptions stand at level 0.
+#[derive(Clone, Copy, Debug)]
+pub struct Entry {
+    pub literal: Lit,
+    pub reason: Option<ClauseId>,
+    pub level: u32,
+}
+
+/// What a clause says where some literals are taken as true.
+#[derive(Clone, Copy, Debug)]
+pub enum Reading {
+    /// A literal is true.
+    Satisfied,
+    /// All literals are false.
+    Falsified,
+    /// All literals but this one are false, and this one has no value.
+    Implied(Lit),
+    /// This literal has no value, and some other hasn't either.
+    Undecided(Lit),
+}
+
+/// The literals that are taken as true, in order: entries with their reasons and levels, a mark for
+/// each literal at its code, and the level of each variable.
+#[derive(Drop)]
+pub struct Assigned {
+    pub entries: Vec<Entry>,
+    pub taken: Vec<bool>,
+    pub levels: Vec<u32>,
+    pub level: u32,
+}
+
+impl Assigned {
+    /// No literals, over no variables. It takes no memory.
+    pub fn new(alloc: Global) -> Assigned {
+        Assigned {
+            entries: Vec::new(alloc),
+            taken: Vec::new(alloc),
+            levels: Vec::new(alloc),
+            level: 0,
+        }
+    }
+
+    /// No literals, over variables below `room`.
+    pub fn with_room(alloc: Global, room: usize) -> Result<Assigned, AllocError>
+        requires { room ≤ 2 ^ 31 }
+        ensures room { IfOk result (λ t. vec_len t.levels ≡ room) }
+        ensures level { IfOk result (λ t. t.level ≡ 0) }
+        ensures trail { IfOk result (λ t. (clauses : ClausesValue) → IsTrailOf clauses t) }
+    {
+        let taken = vec![in alloc; false; 2 * room]?;
+        let levels = vec![in alloc; 0; room]?;
+        Ok(Assigned {
+            entries: Vec::new(alloc),
+            taken,
+            levels,
+            level: 0,
+        })
+    }
+
+    /// Whether the literal is taken as true.
+    pub fn holds(&self, literal: Lit) -> bool
+        ensures { result ≡ known self.now.taken.items literal }
+    {
+        self.taken.get(literal.code() as usize) == Some(&true)
+    }
+
+    /// Whether neither the literal nor its negation is taken as true.
+    pub fn is_open(&self, literal: Lit) -> bool
+        ensures { result ≡ true → IsOpen (known self.now.taken.items) literal }
+    {
+        !self.holds(literal) && !self.holds(literal.negated())
+    }
+
+    /// What the clause says.
+    pub fn read(&self, clause: &[Lit]) -> Reading
+        ensures { Reads (known self.now.taken.items) clause.now result }
+    {
+        let mut candidate = None;
+        for literal in clause {
+            if self.holds(*literal) {
+                return Reading::Satisfied;
+            }
+            if !self.holds(literal.negated()) {
+                match candidate {
+                    None => candidate = Some(*literal),
+                    Some(first) => {
+                        if first != *literal {
+                            return Reading::Undecided(first);
+                        }
+                    }
+                }
+            }
+        }
+        match candidate {
+            None => Reading::Falsified,
+            Some(first) => Reading::Implied(first),
+        }
+    }
+
+    /// Takes one more literal as true, at this level.
+    pub fn push(&mut self, literal: Lit, reason: Option<ClauseId>) -> Result<(), AllocError>
+        requires room { literal.variable < vec_len self.old.levels }
+        requires paired { vec_len self.old.taken ≡ 2 * vec_len self.old.levels }
+        requires open { IsOpen (known self.old.taken.items) literal }
+        ensures trail { OnOk result ((clauses : ClausesValue) → IsTrailOf clauses self.old → ((id : _) → reason ≡ Some id → (c : List Literal) × (named self.old.level clauses id ≡ Some c) × Implies self.old.entries.items (length self.old.entries.items) literal c) → (reason ≡ None → 1 ≤ self.old.level) → IsTrailOf clauses self.new) }
+        ensures entries { OnOk result (self.new.entries.items ≡ self.old.entries.items ++ record { literal = literal; reason = reason; level = self.old.level } ∷ []) }
+        ensures fewer { OnOk result (open_count self.new.taken.items + 1 ≡ open_count self.old.taken.items) }
+        ensures room { vec_len self.new.levels ≡ vec_len self.old.levels }
+        ensures level { self.new.level ≡ self.old.level }
+    {
+        let level = self.level;
+        self.entries.push(Entry {
+            literal,
+            reason,
+            level,
+        })?;
+        self.taken[literal.code() as usize] = true;
+        self.levels[literal.variable() as usize] = level;
+        Ok(())
+    }
+
+    /// Begins a level above this one. It fails where the level would have no number below 2^32.
+    pub fn raise_level(&mut self) -> Result<(), AllocError>
+        ensures trail { OnOk result ((clauses : ClausesValue) → IsTrailOf clauses self.old → IsTrailOf clauses self.new) }
+        ensures level { OnOk result (self.new.level ≡ self.old.level + 1) }
+        ensures rest { OnOk result (self.new ≡ record self.old { level = self.old.level + 1 }) }
+    {
+        self.level = self.level.checked_add(1).ok_or(AllocError)?;
+        Ok(())
+    }
+
+    /// Takes the last literal back.
+    fn pop(&mut self)
+        requires { (clauses : ClausesValue) × IsTrailOf clauses self.old }
+        ensures trail { (clauses : ClausesValue) → IsTrailOf clauses self.old → IsTrailOf clauses self.new }
+        ensures shorter { (self.old.entries.items ≡ []) ⊎ ((e : _) × (self.old.entries.items ≡ self.new.entries.items ++ e ∷ [])) }
+        ensures room { vec_len self.new.levels ≡ vec_len self.old.levels }
+        ensures level { self.new.level ≡ self.old.level }
+    {
+        if let Some(entry) = self.entries.pop() {
+            self.taken[entry.literal.code() as usize] = false;
+        }
+    }
+
+    /// The level of the last entry, or 0.
+    fn last_level(&self) -> u32
+        ensures { result ≡ top_level self.now.entries.items }
+    {
+        match self.entries.last() {
+            None => 0,
+            Some(entry) => entry.level,
+        }
+    }
+
+    /// Takes back the literals above a level.
+    pub fn backjump(&mut self, level: u32)
+        requires { (clauses : ClausesValue) × IsTrailOf clauses self.old }
+        ensures trail { (clauses : ClausesValue) → IsTrailOf clauses self.old → IsTrailOf clauses self.new }
+        ensures root { KeepsRoot self.old.entries.items self.new.entries.items }
+        ensures room { vec_len self.new.levels ≡ vec_len self.old.levels }
+    {
+        while self.last_level() > level {
+            self.pop();
+        }
+        self.level = level;
+    }
+}

@@ -1,0 +1,52 @@
+ghost use Rattle.std.specs.Prelude.{◌≡◌, ◌<◌, ◌+◌, ◌^◌, ◌∷◌, [], length, slice_get, Some, IsSome};
+ghost use Rattle.cdcl.specs.Sources.{named};
+
+use cnf_core::{Formula, Lit};
+use plain_data::Items;
+use proof_check::Steps;
+
+/// Where a clause stands: among those given, the assumptions as unit clauses, or those learnt.
+#[derive(Clone, Copy, Debug, PartialEq, Eq)]
+pub enum ClauseId {
+    Given(u32),
+    Assumed(u32),
+    Learnt(u32),
+}
+
+/// The clauses of a question. Those learnt are steps over those given and the earlier ones.
+#[derive(Drop)]
+pub struct Clauses {
+    pub given: Formula,
+    pub assumed: Items<Lit>,
+    pub learnt: Steps,
+}
+
+/// The unit clause of the literal at an index.
+fn unit_at(literals: &[Lit], index: usize) -> &[Lit]
+    requires { index < length literals.now }
+    ensures { (l : _) → slice_get literals.now index ≡ Some l → result.now ≡ l ∷ [] }
+{
+    &literals[index..index + 1]
+}
+
+impl Clauses {
+    /// The literals of a clause.
+    pub fn clause(&self, id: ClauseId) -> &[Lit]
+        requires { IsSome (named 0 self.now id) }
+        ensures { named 0 self.now id ≡ Some result.now }
+    {
+        match id {
+            ClauseId::Given(index) => self.given.clause(index as usize),
+            ClauseId::Assumed(index) => unit_at(self.assumed.as_slice(), index as usize),
+            ClauseId::Learnt(index) => self.learnt.step(index as usize).clause,
+        }
+    }
+
+    /// How many clauses there are.
+    pub fn count(&self) -> usize
+        requires { length self.now.given + length self.now.assumed + length self.now.learnt < 2 ^ 32 }
+        ensures { result ≡ length self.now.given + length self.now.assumed + length self.now.learnt }
+    {
+        self.given.len() + self.assumed.len() + self.learnt.len()
+    }
+}

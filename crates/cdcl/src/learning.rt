@@ -1,0 +1,173 @@
+ghost use Rattle.std.specs.Prelude.{◌≡◌, ◌<◌, ◌+◌, ◌^◌, ◌++◌, ℕ, Some, true, map, length, IfOk, OnOk};
+ghost use Rattle.proof_check.specs.Propagation.{negations};
+ghost use Rattle.proof_check.specs.Room.{Within, variables_of};
+ghost use Rattle.proof_check.specs.Refutations.{IsRefutation};
+ghost use Rattle.cdcl.specs.Sources.{named, numbered, shifted, shifted_step};
+ghost use Rattle.cdcl.specs.Trails.{follows, IsTrailOf, IsConflict};
+ghost use Rattle.cdcl.specs.Tidy.{AreApart, AreTidy, units};
+ghost use Rattle.cdcl.specs.Searches.{AreLearnt, IsReady};
+
+use crate::analysis::{Lesson, analyze};
+use crate::assigned::Assigned;
+use crate::clauses::{ClauseId, Clauses};
+use crate::search::Search;
+use cnf_core::Lit;
+use proof_check::{Refutation, Step, Steps};
+use std::alloc::{AllocError, Global};
+
+/// The number of a clause where so many are given and so many assumptions are listed behind them.
+fn number(id: ClauseId, given: usize, listed: usize) -> u32
+    requires { given + listed < 2 ^ 32 }
+    ensures { result ≡ numbered given listed id }
+{
+    let number = match id {
+        ClauseId::Given(index) => index as usize + 1,
+        ClauseId::Assumed(index) => given + index as usize + 1,
+        ClauseId::Learnt(index) => given + listed + index as usize + 1,
+    };
+    number.min(4294967295) as u32
+}
+
+fn numbers(
+    alloc: Global,
+    ids: &[ClauseId],
+    given: usize,
+    listed: usize,
+) -> Result<Vec<u32>, AllocError>
+    requires { given + listed < 2 ^ 32 }
+    ensures { IfOk result (λ v. v.items ≡ map (numbered given listed) ids.now) }
+{
+    ids.iter()
+        .map(|id| number(*id, given, listed))
+        .collect(alloc)
+}
+
+/// The number of a clause once so many clauses stand behind those given.
+fn shifted_number(number: u32, given: usize, listed: usize) -> u32
+    requires { given + listed < 2 ^ 32 }
+    ensures { result ≡ shifted given listed number }
+{
+    if number as usize <= given {
+        number
+    } else {
+        (number as usize + listed).min(4294967295) as u32
+    }
+}
+
+fn shifted_numbers(
+    alloc: Global,
+    hints: &[u32],
+    given: usize,
+    listed: usize,
+) -> Result<Vec<u32>, AllocError>
+    requires { given + listed < 2 ^ 32 }
+    ensures { IfOk result (λ v. v.items ≡ map (shifted given listed) hints.now) }
+{
+    hints
+        .iter()
+        .map(|number| shifted_number(*number, given, listed))
+        .collect(alloc)
+}
+
+/// Steps over clauses given, as steps over these and so many more behind them.
+fn shifted_steps(
+    alloc: Global,
+    steps: &Steps,
+    given: usize,
+    listed: usize,
+) -> Result<Steps, AllocError>
+    requires { given + listed < 2 ^ 32 }
+    ensures { IfOk result (λ s. s ≡ map (shifted_step given listed) steps.now) }
+{
+    let mut moved = Steps::new(alloc);
+    for index in 0..steps.len() {
+        let step = steps.step(index);
+        let hints = shifted_numbers(alloc, step.hints, given, listed)?;
+        moved.push(Step {
+            clause: step.clause,
+            hints: &hints,
+        })?;
+    }
+    Ok(moved)
+}
+
+/// The highest level below the trail's own at which one of the literals was taken.
+fn second_level(clause: &[Lit], trail: &Assigned) -> u32 {
+    let mut highest = 0;
+    for literal in clause {
+        let variable = literal.variable() as usize;
+        let level = trail.levels.get(variable).copied().unwrap_or(0);
+        if level < trail.level && level > highest {
+            highest = level;
+        }
+    }
+    highest
+}
+
+impl Clauses {
+    /// Puts a lesson at the end of the clauses learnt.
+    fn learn(&mut self, alloc: Global, lesson: &Lesson) -> Result<(), AllocError>
+        requires learnt { AreLearnt self.old }
+        requires room { length self.old.given + length self.old.assumed + length self.old.learnt + 1 < 2 ^ 32 }
+        requires valid { follows (named 1 self.old) (negations lesson.now.clause.items) lesson.now.hints.items ≡ true }
+        requires apart { AreApart lesson.now.clause.items }
+        requires occurs { Within (variables_of self.old.given) lesson.now.clause.items }
+        ensures learnt { OnOk result (AreLearnt self.new) }
+        ensures more { OnOk result (length self.new.learnt ≡ length self.old.learnt + 1) }
+        ensures names { (level : ℕ) (id : _) (c : _) → named level self.old id ≡ Some c → named level self.new id ≡ Some c }
+        ensures given { self.new.given ≡ self.old.given }
+        ensures assumed { self.new.assumed ≡ self.old.assumed }
+    {
+        let hints = numbers(alloc, &lesson.hints, self.given.len(), 0)?;
+        self.learnt.push(Step {
+            clause: &lesson.clause,
+            hints: &hints,
+        })?;
+        Ok(())
+    }
+}
+
+impl Search {
+    /// Learns from a conflict above level 0, and goes back to where the learnt clause is unit.
+    pub fn learn(&mut self, alloc: Global, conflict: ClauseId) -> Result<(), AllocError>
+        requires ready { IsReady self.old }
+        requires conflict { IsConflict 1 self.old.clauses self.old.trail.entries.items conflict }
+        ensures ready { OnOk result (IsReady self.new) }
+        ensures more { OnOk result (length self.new.clauses.learnt ≡ length self.old.clauses.learnt + 1) }
+        ensures given { self.new.clauses.given ≡ self.old.clauses.given }
+        ensures assumed { self.new.clauses.assumed ≡ self.old.clauses.assumed }
+    {
+        if self.clauses.count() >= 4294967295 {
+            return Err(AllocError);
+        }
+        let lesson = analyze(alloc, &self.clauses, &self.trail, conflict, 1)?;
+        self.choice.begin_conflict();
+        self.choice.mark(&lesson.clause);
+        self.clauses.learn(alloc, &lesson)?;
+        let level = second_level(&lesson.clause, &self.trail);
+        self.trail.backjump(level);
+        Ok(())
+    }
+
+    /// The refutation that a conflict at level 0 ends: the clauses learnt, and the empty one.
+    pub fn refute(&self, alloc: Global, conflict: ClauseId) -> Result<Refutation, AllocError>
+        requires learnt { AreLearnt self.now.clauses }
+        requires trail { IsTrailOf self.now.clauses self.now.trail }
+        requires root { self.now.trail.level ≡ 0 }
+        requires conflict { IsConflict 0 self.now.clauses self.now.trail.entries.items conflict }
+        ensures refutes { IfOk result (λ r. IsRefutation (self.now.clauses.given ++ units self.now.clauses.assumed) r) }
+        ensures tidy { IfOk result (λ r. AreTidy (self.now.clauses.given ++ units self.now.clauses.assumed) r) }
+        ensures length { IfOk result (λ r. length r ≡ length self.now.clauses.learnt + 1) }
+    {
+        let given = self.clauses.given.len();
+        let listed = self.clauses.assumed.len();
+        let lesson = analyze(alloc, &self.clauses, &self.trail, conflict, 0)?;
+        let hints = numbers(alloc, &lesson.hints, given, listed)?;
+        let mut steps = shifted_steps(alloc, &self.clauses.learnt, given, listed)?;
+        steps.push(Step {
+            clause: &lesson.clause,
+            hints: &hints,
+        })?;
+        Ok(Refutation::from_steps(steps))
+    }
+}

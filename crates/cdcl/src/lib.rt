@@ -1,0 +1,19 @@
+//! A solver by conflict-driven clause learning that logs each learnt clause with the clauses from
+//! which it follows by unit propagation.
+#![tactic(auto)]
+
+mod analysis;
+mod answer;
+mod asking;
+mod assigned;
+mod choosing;
+mod clauses;
+mod learning;
+mod search;
+mod solver;
+
+pub use answer::{Answer, SolveFault};
+pub use solver::Solver;
+
+#[cfg(test)]
+mod tests;
