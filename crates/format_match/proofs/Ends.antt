@@ -1,15 +1,13 @@
 -- Lists of splits, and the ends that arguments meet in them.
-use Rattle.std.proofs.Common.{◌≡◌, ◌≢◌, ◌⊎◌, inl, inr, ℕ, zero, suc, ◌+◌, ◌<◌, ◌≤◌, Bool, true, false, cond, ◌&&◌, Option, Some, None, List, [], ◌∷◌, ◌++◌, length, map, All, append-nil, append_assoc, add-one, refl, sym, ap, subst, ◌∙◌, arith}
+use Rattle.std.proofs.Common.{◌≡◌, ◌≢◌, ◌⊎◌, inl, inr, ℕ, zero, suc, ◌+◌, ◌<◌, ◌≤◌, Bool, true, false, cond, ◌&&◌, Option, Some, None, List, [], ◌∷◌, ◌++◌, map, append-nil, append_assoc, add-one, refl, sym, ap, subst, ◌∙◌, arith}
 use Rattle.std.proofs.lemmas.List.Elements.{All-append, All-nil, All-cons}
-use Rattle.std.proofs.lemmas.Bool.{cases_eq, and_parts, and_from, false_from_ne_true, both_ways}
+use Rattle.std.proofs.lemmas.Bool.{cases_eq, and_from}
 use Rattle.printf_text.specs.Texts.{HasKind, HaveKinds, first}
 use Rattle.printf_text.specs.declared.kind.Kind.{Kind}
-use Rattle.printf_text.specs.declared.kind.Kind.TheVariants as kind
 use Rattle.printf_text.specs.declared.piece.Arg.{Arg}
 use Rattle.format_match.specs.Splits.{meets, meet_all, is_between, IsMet}
-use Rattle.format_match.specs.Ways.{met_ends, Describes, Adds, upto, range_kinds, range_marks, range_constraints, holds, IsHeld, after, ranged, AreHeld, sizes_kinds, sizes_marks, sizes_constraints, sized_ends}
+use Rattle.format_match.specs.Ways.{met_ends, Describes, Adds, upto, range_kinds, range_marks, range_constraints, holds, IsHeld, after, ranged, AreHeld, sized_ends}
 use Rattle.format_match.specs.declared.split.Constraint.{Constraint}
-use Rattle.format_match.specs.declared.split.Constraint.TheVariants.{Between}
 use Rattle.format_match.specs.declared.split.Split.{Split}
 use Rattle.format_match.specs.declared.way.Range.{Range}
 use Rattle.format_match.specs.declared.way.Sizes.{Sizes}

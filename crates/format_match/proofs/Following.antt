@@ -1,20 +1,18 @@
 -- Splits of later pieces after those of the pieces before them.
-use Rattle.std.proofs.Common.{◌≡◌, ◌≢◌, ◌⊎◌, inl, inr, ℕ, zero, suc, ◌+◌, ◌-◌, ◌<◌, ◌≤◌, Bool, true, false, cond, ◌&&◌, ◌||◌, eqb, List, [], ◌∷◌, ◌++◌, length, take, drop, map, get_or, All, append-nil, append_assoc, add-one, refl, sym, ap, subst, ◌∙◌, arith}
-use Rattle.std.specs.List.{flat_map, AllByRecursion}
+use Rattle.std.proofs.Common.{◌≡◌, ℕ, zero, suc, ◌+◌, ◌<◌, ◌≤◌, Bool, true, false, cond, ◌&&◌, eqb, List, [], ◌∷◌, ◌++◌, length, take, drop, map, All, append-nil, append_assoc, refl, sym, ap, subst, ◌∙◌, arith}
+use Rattle.std.specs.List.{flat_map}
 use Rattle.std.specs.Str.{bytes_eq}
 use Rattle.std.proofs.lemmas.Slice.Eq.{bytes_eq-Decides}
-use Rattle.std.proofs.lemmas.List.{length-append, drop-append-le, length-take-le, length-take, length-drop, map-append, take_at, drop_at, take-append-le, drop-drop, take-append-drop, take_more}
-use Rattle.std.proofs.lemmas.List.Concat.{flat_map-append}
+use Rattle.std.proofs.lemmas.List.{length-append, drop-append-le, length-take-le, length-drop, map-append, drop-drop}
 use Rattle.std.proofs.lemmas.List.Elements.{All-nil, All-cons, All-head, All-tail, All-append, All-map, All-weaker}
-use Rattle.std.proofs.lemmas.Bool.{and_parts, and_from, false_from_ne_true, both_ways, eqb-true, eq-eqb, cases_lt}
-use Rattle.printf_text.specs.Texts.{HasKind, HaveKinds, kinds, piece_kinds, piece_text, text_of, conversion_kinds, conversion_text, size_kinds, form_kind}
+use Rattle.std.proofs.lemmas.Bool.{and_parts, and_from, false_from_ne_true, both_ways, eqb-true, eq-eqb}
+use Rattle.printf_text.specs.Texts.{HaveKinds, kinds, piece_kinds, piece_text, text_of, size_kinds, form_kind}
 use Rattle.printf_text.specs.Texts.{formed, first, size_of}
 use Rattle.printf_text.proofs.KindLemmas.{HaveKinds-length}
 use Rattle.printf_text.proofs.Writing.{HaveKinds-rest}
 use Rattle.std.proofs.Common.{pos, negsuc}
 use Rattle.printf_text.specs.declared.kind.Kind.{Kind}
 use Rattle.printf_text.specs.declared.piece.Arg.{Arg}
-use Rattle.printf_text.specs.declared.piece.Conversion.{Conversion}
 use Rattle.printf_text.specs.declared.piece.Form.{Form}
 use Rattle.printf_text.specs.declared.piece.Flags.{Flags}
 use Rattle.printf_text.specs.declared.piece.Size.{Size}
@@ -22,7 +20,7 @@ use Rattle.printf_text.specs.declared.piece.Size.TheVariants.{Omitted, Written, 
 use Rattle.printf_text.specs.declared.piece.Piece.{Piece}
 use Rattle.printf_text.specs.declared.piece.Piece.TheVariants.{Literal, Converted}
 use Rattle.format_match.specs.Splits.{begins, meets, meet_all, is_between, IsMet, marks}
-use Rattle.format_match.specs.Ways.{met_ends, Describes, here, upto, ends_of, conversion_end, piece_marks, followed, AddsAfter, Follows}
+use Rattle.format_match.specs.Ways.{met_ends, Describes, here, upto, ends_of, piece_marks, followed, AddsAfter, Follows}
 use Rattle.format_match.specs.declared.split.Constraint.{Constraint}
 use Rattle.format_match.specs.declared.split.Split.{Split}
 use Rattle.format_match.proofs.Ends.{both, met_ends-append, upto_only, upto_below}

@@ -1,10 +1,10 @@
 -- Which arguments print given bytes, by form.
-use Rattle.std.proofs.Common.{◌≡◌, ◌≢◌, ℕ, zero, suc, ◌+◌, ◌-◌, ◌*◌, ◌%◌, ◌^◌, ◌<◌, ◌≤◌, max, Bool, true, false, not, cond, ◌&&◌, ◌||◌, eqb, ltb, ℤ, pos, negsuc, neg_ℤ, List, [], ◌∷◌, ◌++◌, length, take, drop, map, replicate, reverse, All, append-nil, append_assoc, refl, sym, ap, subst, ◌∙◌, arith}
-use Rattle.std.specs.Int.{is_negative, int_rem_euclid}
+use Rattle.std.proofs.Common.{◌≡◌, ℕ, ◌-◌, ◌^◌, ◌<◌, Bool, true, false, cond, ◌||◌, eqb, pos, List, [], ◌∷◌, ◌++◌, replicate, append-nil, refl, sym, ap, subst, ◌∙◌, arith}
+use Rattle.std.specs.Int.{is_negative}
 use Rattle.std.specs.Int.RustNames.{unsigned_abs}
 use Rattle.std.specs.Str.{bytes_eq}
 use Rattle.std.proofs.lemmas.Slice.Eq.{bytes_eq-Decides}
-use Rattle.std.proofs.lemmas.Bool.{false_from_ne_true, eqb-true, eqb-false, eq-eqb, ne_eqb, cases_Bool, both_ways}
+use Rattle.std.proofs.lemmas.Bool.{false_from_ne_true, eqb-true, eqb-false, eq-eqb, both_ways}
 use Rattle.std.proofs.lemmas.Int.{ints}
 use Rattle.std.proofs.Math.Nat.{mod-eq_of_lt}
 use Rattle.std.proofs.lemmas.List.{reverse-append}
@@ -12,20 +12,16 @@ use Rattle.bit_words.specs.Words.{bits, word, signed}
 use Rattle.bit_words.specs.declared.width.Width.{Width}
 use Rattle.bit_words.specs.declared.width.Width.TheVariants.{W8, W16, W32, W64}
 use Rattle.bit_words.proofs.WordLaws.{word_below, word-signed}
-use Rattle.printf_text.specs.Texts.{HasKind, Parts, form_kind, formed, in_field, parts, plain, base, number_of, fills_zeros, signed_parts, unsigned_parts, digits_wanted, cut, text_bytes}
-use Rattle.printf_text.specs.declared.kind.Kind.{Kind}
+use Rattle.printf_text.specs.Texts.{HasKind, form_kind, formed, in_field, plain, number_of, fills_zeros, signed_parts, unsigned_parts}
 use Rattle.printf_text.specs.declared.kind.Kind.TheVariants as kind
 use Rattle.printf_text.specs.declared.piece.Arg.{Arg}
 use Rattle.printf_text.specs.declared.piece.Arg.TheVariants as arg
 use Rattle.printf_text.specs.declared.piece.Flags.{Flags}
-use Rattle.printf_text.specs.declared.piece.Radix.{Radix}
-use Rattle.printf_text.specs.declared.piece.Radix.TheVariants.{Decimal, Octal, LowerHex, UpperHex}
 use Rattle.printf_text.specs.declared.piece.Form.{Form}
 use Rattle.printf_text.specs.declared.piece.Form.TheVariants.{Signed, Unsigned, Char, Text, Pointer}
 use Rattle.format_match.specs.Splits.{meets}
-use Rattle.format_match.specs.Reading.{digits_read, signed_read, first_byte, last_byte, pads_right, form_width, is_integer, word_read}
+use Rattle.format_match.specs.Reading.{digits_read, first_byte, last_byte, form_width, is_integer, word_read}
 use Rattle.format_match.specs.Ways.{here, formed_end, null_end, shown_end}
-use Rattle.format_match.specs.declared.split.Constraint.{Constraint}
 use Rattle.format_match.specs.declared.split.Constraint.TheVariants.{Equal, Null, Shown}
 use Rattle.format_match.specs.declared.way.Sizes.{Sizes}
 use Rattle.format_match.proofs.Fields.{unsigned_value, signed_value, shown_value}

@@ -1,18 +1,17 @@
 -- Widths and precisions that arguments give: which of them print alike.
-use Rattle.std.proofs.Common.{◌≡◌, ◌≢◌, ◌⊎◌, inl, inr, ℕ, zero, suc, ◌+◌, ◌-◌, ◌*◌, ◌%◌, ◌^◌, ◌<◌, ◌≤◌, max, Bool, true, false, not, cond, ◌&&◌, ◌||◌, eqb, ltb, ℤ, pos, negsuc, neg_ℤ, Option, Some, None, List, [], ◌∷◌, ◌++◌, length, take, drop, map, replicate, append-nil, append_assoc, refl, sym, ap, subst, ◌∙◌, arith}
+use Rattle.std.proofs.Common.{◌≡◌, ◌≢◌, ◌⊎◌, inl, inr, ℕ, zero, suc, ◌+◌, ◌-◌, ◌^◌, ◌<◌, ◌≤◌, Bool, true, false, not, cond, ◌&&◌, ◌||◌, eqb, ltb, ℤ, pos, negsuc, neg_ℤ, Option, Some, List, [], ◌∷◌, ◌++◌, length, take, drop, map, replicate, append-nil, refl, sym, ap, subst, ◌∙◌, arith}
 use Rattle.std.specs.Int.{is_negative}
 use Rattle.std.specs.Int.RustNames.{unsigned_abs, int_lt}
 use Rattle.std.specs.Int.Digits.{digits_of}
 use Rattle.std.specs.Str.{bytes_eq}
 use Rattle.std.proofs.lemmas.Int.{ints}
-use Rattle.std.proofs.lemmas.Bool.{false_from_ne_true, eqb-true, eqb-false, eq-eqb, ne_eqb, both_ways, lt-ltb, le-ltb, cases_lt, cases_eq, or_from}
+use Rattle.std.proofs.lemmas.Bool.{false_from_ne_true, eq-eqb, ne_eqb, lt-ltb, le-ltb, cases_lt, cases_eq, or_from}
 use Rattle.std.proofs.lemmas.Bool.Decides.{nat_tests}
-use Rattle.std.proofs.lemmas.Slice.Eq.{bytes_eq-Decides}
 use Rattle.std.proofs.lemmas.List.{length-append, length-replicate, length-take, take_all}
-use Rattle.bit_words.specs.Words.{bits, word, signed, is_signed}
-use Rattle.bit_words.specs.declared.width.Width.TheVariants.{W8, W32}
+use Rattle.bit_words.specs.Words.{word, signed, is_signed}
+use Rattle.bit_words.specs.declared.width.Width.TheVariants.{W32}
 use Rattle.bit_words.proofs.WordLaws.{word_below, signed-word}
-use Rattle.printf_text.specs.Texts.{HasKind, HaveKinds, Parts, first, int_of, number_of, formed, in_field, parts, plain, cut, text_bytes, fills_zeros, form_kind, size_of, size_kinds, signed_parts, unsigned_parts, pointer_parts, marked, with_zero, digit, digits, digits_wanted, base}
+use Rattle.printf_text.specs.Texts.{HaveKinds, Parts, first, int_of, number_of, formed, in_field, parts, plain, text_bytes, fills_zeros, form_kind, size_of, size_kinds, marked, with_zero, digit, digits, base}
 use Rattle.printf_text.proofs.TextLaws.{length-in_field}
 use Rattle.printf_text.specs.declared.kind.Kind.{Kind}
 use Rattle.printf_text.specs.declared.kind.Kind.TheVariants as kind
@@ -26,14 +25,12 @@ use Rattle.printf_text.specs.declared.piece.Form.TheVariants.{Signed, Unsigned, 
 use Rattle.printf_text.specs.declared.piece.Size.{Size}
 use Rattle.printf_text.specs.declared.piece.Size.TheVariants.{Omitted, Written, Star}
 use Rattle.printf_text.specs.declared.piece.Conversion.{Conversion}
-use Rattle.format_match.specs.Splits.{meets, star_marks}
-use Rattle.format_match.specs.Ways.{Adds, AreHeld, IsHeld, IsInt, is_star, range_kinds, range_marks, ranged, holds, after, here, upto, precision_end, no_precision_end, precision_at_end, short_precisions_end, long_precisions_end, written_precision_end, star_precision_end, thin_widths_end, exact_width_end, star_width_end, written_width_end, conversion_end, width_kinds, width_marks}
-use Rattle.format_match.specs.declared.split.Constraint.{Constraint}
-use Rattle.format_match.specs.declared.split.Constraint.TheVariants.{Between}
+use Rattle.format_match.specs.Splits.{star_marks}
+use Rattle.format_match.specs.Ways.{Adds, IsHeld, IsInt, is_star, range_kinds, range_marks, ranged, here, upto, precision_end, no_precision_end, precision_at_end, short_precisions_end, long_precisions_end, star_precision_end, thin_widths_end, exact_width_end, star_width_end, width_kinds}
 use Rattle.format_match.specs.declared.split.Split.{Split}
 use Rattle.format_match.specs.declared.way.Range.{Range}
-use Rattle.format_match.proofs.Ends.{both, upto_one, upto_none, upto_below, ranged_same, ranged_append, Adds-same, Adds-both}
-use Rattle.format_match.proofs.Printing.{same_bytes, here_false}
+use Rattle.format_match.proofs.Ends.{both, upto_one, upto_none, upto_below}
+use Rattle.format_match.proofs.Printing.{same_bytes}
 
 -- ---- values of `int`
 

@@ -1,16 +1,15 @@
 -- The value that a printed number would have, whatever stands around its digits.
-use Rattle.std.specs.Prelude.{ℕ, ◌%◌, ◌^◌, ◌<◌, ◌==◌, Bool, true, false, ◌||◌, if◌then◌else◌, ℤ, pos, neg_ℤ, List, [], ◌∷◌, reverse, ◌≡◌}
+use Rattle.std.specs.Prelude.{ℕ, ◌%◌, ◌^◌, ◌==◌, Bool, true, false, ◌||◌, if◌then◌else◌, ℤ, pos, neg_ℤ, List, [], ◌∷◌, reverse}
 use Rattle.std.specs.List.{filter, list_any}
 use Rattle.std.specs.Char.{is_digit}
 use Rattle.std.specs.Int.{is_negative}
 use Rattle.std.specs.Str.Parse.{digits_value}
-use Rattle.bit_words.specs.Words.{bits, word}
+use Rattle.bit_words.specs.Words.{word}
 use Rattle.bit_words.specs.declared.width.Width.{Width}
-use Rattle.bit_words.specs.declared.width.Width.TheVariants.{W8, W16, W32, W64}
+use Rattle.bit_words.specs.declared.width.Width.TheVariants.{W8}
 use Rattle.printf_text.specs.declared.piece.Flags.{Flags}
 use Rattle.printf_text.specs.declared.piece.Form.{Form}
 use Rattle.printf_text.specs.declared.piece.Form.TheVariants.{Signed, Unsigned, Char, Text, Pointer}
-use Rattle.printf_text.specs.declared.piece.Radix.TheVariants.{Decimal}
 use Rattle.printf_text.specs.Texts.{base}
 use Rattle.format_match.specs.declared.way.Sizes.{Sizes}
 

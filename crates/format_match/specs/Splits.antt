@@ -1,5 +1,5 @@
 -- Which arguments a split stands for, and when splits are all ways of a format to spell a stretch of a log.
-use Rattle.std.specs.Prelude.{ℕ, ◌+◌, ◌-◌, ◌≤◌, ◌≡◌, ◌==◌, Bool, true, false, not, ◌&&◌, ◌||◌, if◌then◌else◌, List, [], ◌∷◌, ◌++◌, length, take, drop, map, All, IsTrue, ◌↔◌, int_lt}
+use Rattle.std.specs.Prelude.{ℕ, ◌-◌, ◌≤◌, ◌≡◌, ◌==◌, Bool, true, false, not, ◌&&◌, ◌||◌, if◌then◌else◌, List, [], ◌∷◌, ◌++◌, length, take, drop, map, All, IsTrue, ◌↔◌, int_lt}
 use Rattle.std.specs.List.{Contains, filter}
 use Rattle.std.specs.Str.{bytes_eq}
 use Rattle.bit_words.specs.Words.{word}

@@ -1,9 +1,9 @@
 -- What the parts of the matcher add to a list of splits, as the ends that arguments meet in it.
-use Rattle.std.specs.Prelude.{ℕ, zero, suc, ◌+◌, ◌-◌, ◌≡◌, ◌==◌, nat_lt, unsigned_abs, Bool, true, false, not, ◌&&◌, ◌||◌, if◌then◌else◌, ℤ, pos, negsuc, neg_ℤ, Option, Some, None, List, [], ◌∷◌, ◌++◌, length, take, drop, map, All, IsTrue}
-use Rattle.std.specs.List.{filter, flat_map, list_any, list_all}
+use Rattle.std.specs.Prelude.{ℕ, zero, suc, ◌+◌, ◌-◌, ◌≡◌, ◌==◌, nat_lt, unsigned_abs, Bool, true, false, not, ◌&&◌, ◌||◌, if◌then◌else◌, ℤ, pos, negsuc, neg_ℤ, Option, Some, None, List, [], ◌∷◌, ◌++◌, length, take, drop, map, All}
+use Rattle.std.specs.List.{list_any, list_all}
 use Rattle.std.specs.Int.{is_negative}
 use Rattle.std.specs.Str.{bytes_eq}
-use Rattle.bit_words.specs.Words.{word, is_signed}
+use Rattle.bit_words.specs.Words.{is_signed}
 use Rattle.bit_words.specs.declared.width.Width.TheVariants.{W32}
 use Rattle.printf_text.specs.declared.kind.Kind.{Kind}
 use Rattle.printf_text.specs.declared.kind.Kind.TheVariants as kind
@@ -17,8 +17,8 @@ use Rattle.printf_text.specs.declared.piece.Size.TheVariants.{Omitted, Written, 
 use Rattle.printf_text.specs.declared.piece.Conversion.{Conversion}
 use Rattle.printf_text.specs.declared.piece.Piece.{Piece}
 use Rattle.printf_text.specs.declared.piece.Piece.TheVariants.{Literal, Converted}
-use Rattle.printf_text.specs.Texts.{HasKind, HaveKinds, kinds, form_kind, conversion_kinds, piece_kinds, piece_text, size_kinds, int_of, first, size_of, formed, conversion_text, text_of, cut, text_bytes}
-use Rattle.format_match.specs.Splits.{begins, meets, meet_all, is_between, conversion_marks, star_marks, marks, IsMet}
+use Rattle.printf_text.specs.Texts.{HasKind, HaveKinds, form_kind, piece_kinds, piece_text, size_kinds, int_of, first, size_of, formed, conversion_text, cut, text_bytes}
+use Rattle.format_match.specs.Splits.{begins, meets, meet_all, is_between, conversion_marks, star_marks, IsMet}
 use Rattle.format_match.specs.Reading.{pads_right}
 use Rattle.format_match.specs.declared.split.Constraint.{Constraint}
 use Rattle.format_match.specs.declared.split.Constraint.TheVariants.{Between}

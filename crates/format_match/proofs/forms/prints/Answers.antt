@@ -1,4 +1,4 @@
-use Rattle.std.proofs.Common.{◌<◌, ◌≤◌, ◌≡◌, length, sym, ap, subst, false, true, ◌∙◌, arith, rules, w64, to_z, of_z, ltb}
+use Rattle.std.proofs.Common.{◌≡◌, length, sym, ap, ◌∙◌, rules, w64, to_z, of_z, ltb}
 use Rattle.std.specs.Int.RustNames.{unsigned_abs}
 use Rattle.std.proofs.lemmas.Bool.{ltb-true}
 use Rattle.format_match.proofs.Padding.{too_wide}

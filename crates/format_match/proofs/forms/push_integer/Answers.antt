@@ -1,4 +1,4 @@
-use Rattle.std.proofs.Common.{◌≡◌, Bool, true, false, refl, sym, ap, subst, ◌∙◌, ◌^◌, arith, rules}
+use Rattle.std.proofs.Common.{◌≡◌, true, false, refl, sym, ◌∙◌, rules}
 use Rattle.printf_text.specs.Texts.{form_kind}
 use Rattle.printf_text.specs.declared.piece.Arg.TheVariants as arg
 use Rattle.format_match.specs.Ways.{formed_end}

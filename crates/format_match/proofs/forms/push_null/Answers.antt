@@ -1,4 +1,4 @@
-use Rattle.std.proofs.Common.{◌≡◌, refl, sym, ◌∙◌}
+use Rattle.std.proofs.Common.{refl, sym, ◌∙◌}
 use Rattle.printf_text.specs.declared.kind.Kind.TheVariants as kind
 use Rattle.printf_text.specs.declared.piece.Arg.TheVariants as arg
 use Rattle.format_match.specs.Ways.{null_end}

@@ -1,4 +1,4 @@
-use Rattle.std.proofs.Common.{◌≡◌, Bool, true, false, refl, sym, ap, subst, ◌∙◌, ◌^◌, arith}
+use Rattle.std.proofs.Common.{refl, sym, ◌∙◌}
 use Rattle.std.proofs.lemmas.Bool.{eq-eqb}
 use Rattle.printf_text.specs.declared.kind.Kind.TheVariants as kind
 use Rattle.printf_text.specs.declared.piece.Arg.TheVariants as arg

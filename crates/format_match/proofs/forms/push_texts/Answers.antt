@@ -1,4 +1,4 @@
-use Rattle.std.proofs.Common.{◌≡◌, ◌<◌, ℕ, length, unsigned_abs, sym, ap, ◌∙◌, ◌+◌, refl, arith, rules, subst, w64, to_z, of_z}
+use Rattle.std.proofs.Common.{◌≡◌, unsigned_abs, ap, ◌∙◌, ◌+◌, arith, rules, w64, to_z, of_z}
 use Rattle.printf_text.specs.declared.kind.Kind.TheVariants as kind
 use Rattle.printf_text.specs.declared.piece.Form.TheVariants as form
 use Rattle.format_match.specs.Ways.{padded_end, formed_end, upto}

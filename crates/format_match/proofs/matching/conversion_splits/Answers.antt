@@ -1,7 +1,7 @@
-use Rattle.std.proofs.Common.{◌≡◌, ◌+◌, ◌∙◌, take, drop, length, refl, ap, sym, subst, arith}
+use Rattle.std.proofs.Common.{◌≡◌, ◌+◌, ◌∙◌, take, length, ap, arith}
 use Rattle.printf_text.specs.Texts.{conversion_text}
-use Rattle.format_match.specs.Ways.{upto, here, ends_of}
-use Rattle.format_match.proofs.Ends.{Describes-nil, Describes-grown, Describes-same, upto_more}
+use Rattle.format_match.specs.Ways.{upto, here}
+use Rattle.format_match.proofs.Ends.{Describes-grown, Describes-same, upto_more}
 use Rattle.format_match.proofs.Following.{upto_ends}
 use Rattle.format_match.proofs.matching.conversion_splits.Goals as goal
 

@@ -1,4 +1,4 @@
-use Rattle.std.proofs.Common.{take, drop, ◌+◌}
+use Rattle.std.proofs.Common.{take, ◌+◌}
 use Rattle.printf_text.specs.Texts.{conversion_kinds, conversion_text}
 use Rattle.format_match.specs.Splits.{conversion_marks}
 use Rattle.format_match.specs.Ways.{Describes, upto, here}

@@ -1,6 +1,6 @@
-use Rattle.std.proofs.Common.{◌≡◌, ◌∙◌, ◌+◌, ◌++◌, ◌∷◌, [], true, false, length, drop, ap, sym, arith, rules}
+use Rattle.std.proofs.Common.{◌≡◌, ◌∙◌, ◌+◌, ◌++◌, ◌∷◌, [], true, drop, ap, sym, rules}
 use Rattle.format_match.specs.Splits.{begins}
-use Rattle.format_match.proofs.Following.{literal_one, literal_none}
+use Rattle.format_match.proofs.Following.{literal_one}
 use Rattle.format_match.proofs.matching.push_literal.Goals as goal
 
 pub returns : goal.returns

@@ -1,4 +1,4 @@
-use Rattle.std.proofs.Common.{◌+◌, ◌^◌, ◌∙◌, refl, arith, rules, lit<}
+use Rattle.std.proofs.Common.{◌^◌, ◌∙◌, refl, arith}
 use Rattle.format_match.proofs.Numbers.{read_more, read_all}
 use Rattle.format_match.proofs.reading.digits_read.Goals as goal
 

@@ -1,4 +1,4 @@
-use Rattle.std.proofs.Common.{◌≡◌, ◌∙◌, rules, ap, sym, w64, to_z, of_z}
+use Rattle.std.proofs.Common.{◌≡◌, ◌∙◌, rules, ap, w64, to_z, of_z}
 use Rattle.bit_words.specs.Words.{is_signed}
 use Rattle.bit_words.specs.declared.width.Width.TheVariants.{W32}
 use Rattle.format_match.proofs.StarLaws.{held_exact}

@@ -1,4 +1,4 @@
-use Rattle.std.proofs.Common.{◌≡◌, ◌∙◌, rules, w64, to_z, of_z, refl, arith, [], ◌∷◌, ◌+◌, length}
+use Rattle.std.proofs.Common.{◌≡◌, ◌∙◌, rules, w64, to_z, of_z, arith, [], ◌∷◌, ◌+◌, length}
 use Rattle.printf_text.specs.Texts.{form_kind}
 use Rattle.printf_text.specs.declared.kind.Kind.TheVariants as kind
 use Rattle.format_match.specs.Ways.{long_precisions_end}

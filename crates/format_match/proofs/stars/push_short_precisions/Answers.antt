@@ -1,4 +1,4 @@
-use Rattle.std.proofs.Common.{refl, arith, [], ◌∷◌, ◌+◌, ◌++◌, ◌≡◌, ◌∙◌, length, subst, ap}
+use Rattle.std.proofs.Common.{refl, arith, [], ◌∷◌, ◌+◌, ◌++◌, ◌≡◌, ◌∙◌, length, ap}
 use Rattle.printf_text.specs.Texts.{form_kind}
 use Rattle.printf_text.specs.declared.kind.Kind.TheVariants as kind
 use Rattle.format_match.specs.Ways.{short_precisions_end, precision_at_end, ranged}

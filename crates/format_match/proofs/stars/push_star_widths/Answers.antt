@@ -1,4 +1,4 @@
-use Rattle.std.proofs.Common.{sym, ◌∙◌, arith, length, ◌≡◌, [], refl}
+use Rattle.std.proofs.Common.{sym, ◌∙◌, length, ◌≡◌}
 use Rattle.std.proofs.lemmas.Bool.{eqb-true, eqb-false}
 use Rattle.format_match.proofs.Ends.{Adds-both, Adds-same}
 use Rattle.format_match.proofs.StarLaws.{star_widths, star_widths_empty, positive_length}
