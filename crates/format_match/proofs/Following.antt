@@ -1,10 +1,10 @@
 -- Splits of later pieces after those of the pieces before them.
-use Rattle.std.proofs.Common.{◌≡◌, ℕ, zero, suc, ◌+◌, ◌<◌, ◌≤◌, Bool, true, false, cond, ◌&&◌, eqb, List, [], ◌∷◌, ◌++◌, length, take, drop, map, All, append-nil, append_assoc, refl, sym, ap, subst, ◌∙◌, arith}
+use Rattle.std.proofs.Common.{◌≡◌, ℕ, zero, suc, ◌+◌, ◌<◌, ◌≤◌, Bool, true, false, cond, ◌&&◌, eqb, List, [], ◌∷◌, ◌++◌, length, take, drop, map, All, append-nil, append_assoc, refl, sym, ap, subst, ◌∙◌, arith, get_or}
 use Rattle.std.specs.List.{flat_map}
 use Rattle.std.specs.Str.{bytes_eq}
 use Rattle.std.proofs.lemmas.Slice.Eq.{bytes_eq-Decides}
-use Rattle.std.proofs.lemmas.List.{length-append, drop-append-le, length-take-le, length-drop, map-append, drop-drop}
-use Rattle.std.proofs.lemmas.List.Elements.{All-nil, All-cons, All-head, All-tail, All-append, All-map, All-weaker}
+use Rattle.std.proofs.lemmas.List.{length-append, drop-append-le, length-take-le, length-drop, map-append, drop-drop, drop_more, drop_all}
+use Rattle.std.proofs.lemmas.List.Elements.{All-nil, All-cons, All-head, All-tail, All-append, All-map, All-weaker, All-filter}
 use Rattle.std.proofs.lemmas.Bool.{and_parts, and_from, false_from_ne_true, both_ways, eqb-true, eq-eqb}
 use Rattle.printf_text.specs.Texts.{HaveKinds, kinds, piece_kinds, piece_text, text_of, size_kinds, form_kind}
 use Rattle.printf_text.specs.Texts.{formed, first, size_of}
@@ -20,7 +20,7 @@ use Rattle.printf_text.specs.declared.piece.Size.TheVariants.{Omitted, Written, 
 use Rattle.printf_text.specs.declared.piece.Piece.{Piece}
 use Rattle.printf_text.specs.declared.piece.Piece.TheVariants.{Literal, Converted}
 use Rattle.format_match.specs.Splits.{begins, meets, meet_all, is_between, IsMet, marks}
-use Rattle.format_match.specs.Ways.{met_ends, Describes, here, upto, ends_of, piece_marks, followed, AddsAfter, Follows}
+use Rattle.format_match.specs.Ways.{met_ends, Describes, here, upto, ends_of, piece_marks, followed, AddsAfter, Moves, Follows, kept_ends, kept_here, next_literal}
 use Rattle.format_match.specs.declared.split.Constraint.{Constraint}
 use Rattle.format_match.specs.declared.split.Split.{Split}
 use Rattle.format_match.proofs.Ends.{both, met_ends-append, upto_only, upto_below}
@@ -66,20 +66,30 @@ ends_append s t log from =
     by true l = sym (append-nil (cond (begins t (drop (from + length s) log)) ((from + length s + length t) ∷ []) []))
     by false l = refl
 
--- a text stands there where it is one of the slices that begin there
-pub upto_ends : (t log : List ℕ) (from : ℕ) → from ≤ length log → upto (λ len. here t (take len (drop from log)) (from + len)) (length (drop from log) + 1) ≡ ends_of t log from
-upto_ends t log from h = by (begins t (drop from log)) refl
+-- a text stands there where it is one of the slices that begin there, of which those are looked at that it may be
+pub upto_kept : (next t log : List ℕ) (from most : ℕ) → from ≤ length log → most ≤ length (drop from log) → (begins t (drop from log) ≡ true → length t ≤ most)
+    → upto (λ len. kept_here next (drop len (drop from log)) (here t (take len (drop from log)) (from + len))) (most + 1) ≡ kept_ends next log (ends_of t log from)
+upto_kept next t log from most h m reach = by (begins t (drop from log)) refl
   where
-    by : (b : Bool) → begins t (drop from log) ≡ b → upto (λ len. here t (take len (drop from log)) (from + len)) (length (drop from log) + 1) ≡ cond b ((from + length t) ∷ []) []
+    none : (len : ℕ) → (bytes_eq t (take len (drop from log)) ≡ true → ⊥) → kept_here next (drop len (drop from log)) (here t (take len (drop from log)) (from + len)) ≡ []
+    none len f =
+        ap (λ l. cond (begins next (drop len (drop from log))) l []) (ap (λ b. cond b ((from + len) ∷ []) []) (false_from_ne_true (bytes_eq t (take len (drop from log))) f))
+        ∙ empty (begins next (drop len (drop from log))) []
+      where
+        empty : (b : Bool) (l : List ℕ) → cond b l l ≡ l
+        empty true l = refl
+        empty false l = refl
+
+    by : (b : Bool) → begins t (drop from log) ≡ b
+        → upto (λ len. kept_here next (drop len (drop from log)) (here t (take len (drop from log)) (from + len))) (most + 1) ≡ kept_ends next log (cond b ((from + length t) ∷ []) [])
     by true e =
-        upto_only (λ len. here t (take len (drop from log)) (from + len)) (length t) (length (drop from log) + 1) (omega (arith, begins_short t (drop from log) e))
-        (λ len l d. ap (λ b. cond b ((from + len) ∷ []) []) (false_from_ne_true (bytes_eq t (take len (drop from log)))
-        (λ p. d (sym (ap length (same_bytes t (take len (drop from log)) p) ∙ length-take-le len (drop from log) (omega arith))))))
-        ∙ ap (λ b. cond b ((from + length t) ∷ []) []) ((bytes_eq-Decides t (take (length t) (drop from log))).1 (begins_is t (drop from log) e))
+        upto_only (λ len. kept_here next (drop len (drop from log)) (here t (take len (drop from log)) (from + len))) (length t) (most + 1) (omega (arith, reach e))
+        (λ len l d. none len (λ p. d (sym (ap length (same_bytes t (take len (drop from log)) p) ∙ length-take-le len (drop from log) (omega arith)))))
+        ∙ ap (λ b. cond (begins next (drop (length t) (drop from log))) (cond b ((from + length t) ∷ []) []) []) ((bytes_eq-Decides t (take (length t) (drop from log))).1 (begins_is t (drop from log) e))
+        ∙ ap (λ r. cond (begins next r) ((from + length t) ∷ []) []) (drop-drop (length t) from log)
     by false e =
-        upto_below (λ len. here t (take len (drop from log)) (from + len)) (length (drop from log) + 1)
-        (λ len l. ap (λ b. cond b ((from + len) ∷ []) []) (false_from_ne_true (bytes_eq t (take len (drop from log)))
-        (λ p. both_ways (begins t (drop from log)) e (ap (λ s. begins s (drop from log)) (same_bytes t (take len (drop from log)) p) ∙ take_begins len (drop from log) (omega arith)))))
+        upto_below (λ len. kept_here next (drop len (drop from log)) (here t (take len (drop from log)) (from + len))) (most + 1)
+        (λ len l. none len (λ p. both_ways (begins t (drop from log)) e (ap (λ s. begins s (drop from log)) (same_bytes t (take len (drop from log)) p) ∙ take_begins len (drop from log) (omega arith))))
 
 -- ---- arguments in two parts
 
@@ -136,11 +146,11 @@ followed_ends s (p ∷ parts) xs ys h =
     by true false l m e = e
     by false q l m e = e
 
-module _ (piece : Piece) (log : List ℕ) (K : List Kind) (M : List Bool) where
+module _ (next : List ℕ) (piece : Piece) (log : List ℕ) (K : List Kind) (M : List Bool) where
   abbrev then_ends : List Arg → ℕ → List ℕ
-  then_ends ys mid = ends_of (piece_text piece ys) log mid
+  then_ends ys mid = kept_ends next log (ends_of (piece_text piece ys) log mid)
 
-  follow_ends : (before now : List Split) (xs ys : List Arg) → Follows piece log before now → All (λ s. IsMet K s) before → HaveKinds K xs → HaveKinds (piece_kinds piece) ys
+  follow_ends : (before now : List Split) (xs ys : List Arg) → Follows next piece log before now → All (λ s. IsMet K s) before → HaveKinds K xs → HaveKinds (piece_kinds piece) ys
       → met_ends now (xs ++ ys) ≡ flat_map (then_ends ys) (met_ends before xs)
   follow_ends [] now xs ys f m h k = ap (λ l. met_ends l (xs ++ ys)) f
   follow_ends (s ∷ before) now xs ys f m h k =
@@ -164,7 +174,7 @@ module _ (piece : Piece) (log : List ℕ) (K : List Kind) (M : List Bool) where
     meet = meet_append s.constraints p.constraints m.args n.args (meet_length s.constraints m.args m.meet) ∙ and_from _ _ m.meet n.meet;
   }
 
-  follow_met : (before now : List Split) → Follows piece log before now → All (λ s. IsMet K s) before → All (λ s. IsMet (K ++ piece_kinds piece) s) now
+  follow_met : (before now : List Split) → Follows next piece log before now → All (λ s. IsMet K s) before → All (λ s. IsMet (K ++ piece_kinds piece) s) now
   follow_met [] now f m = subst (λ l. All (λ s. IsMet (K ++ piece_kinds piece) s) l) (sym f) (All-nil (λ s. IsMet (K ++ piece_kinds piece) s))
   follow_met (s ∷ before) now f m =
       let P : Split → Type 0 = λ s. IsMet (K ++ piece_kinds piece) s in
@@ -174,7 +184,7 @@ module _ (piece : Piece) (log : List ℕ) (K : List Kind) (M : List Bool) where
       (All-map P (followed s) f.1.added (All-weaker (λ p. IsMet (piece_kinds piece) p) (λ p. IsMet (K ++ piece_kinds piece) (followed s p)) (λ p n. met_after s p (All-head (λ s. IsMet K s) s before m) n) f.1.added f.1.describes.met)))
       (follow_met before f.2.0 f.2.1 (All-tail (λ s. IsMet K s) s before m)))
 
-  follow_stars : (before now : List Split) → Follows piece log before now → All (λ s. map is_between s.constraints ≡ M) before → All (λ s. map is_between s.constraints ≡ M ++ piece_marks piece) now
+  follow_stars : (before now : List Split) → Follows next piece log before now → All (λ s. map is_between s.constraints ≡ M) before → All (λ s. map is_between s.constraints ≡ M ++ piece_marks piece) now
   follow_stars [] now f m = subst (λ l. All (λ s. map is_between s.constraints ≡ M ++ piece_marks piece) l) (sym f) (All-nil (λ s. map is_between s.constraints ≡ M ++ piece_marks piece))
   follow_stars (s ∷ before) now f m =
       let P : Split → Type 0 = λ s. map is_between s.constraints ≡ M ++ piece_marks piece in
@@ -242,33 +252,58 @@ text_append (q ∷ ps) p xs ys h =
     ∙ text_append ps p (drop (length (piece_kinds q)) xs) ys (HaveKinds-rest (piece_kinds q) (kinds ps) xs h))
     ∙ sym (append_assoc (piece_text q xs) (text_of ps (drop (length (piece_kinds q)) xs)) (piece_text p ys))
 
+-- ends that can't be followed may be left out
+kept_step : (next next' s t log : List ℕ) (from : ℕ) → ((mid : ℕ) → begins next (drop mid log) ≡ false → ends_of t log mid ≡ [])
+    → flat_map (λ mid. kept_ends next' log (ends_of t log mid)) (kept_ends next log (ends_of s log from)) ≡ kept_ends next' log (flat_map (λ mid. ends_of t log mid) (ends_of s log from))
+kept_step next next' s t log from skip = by (begins s (drop from log))
+  where
+    one : (k : Bool) → begins next (drop (from + length s) log) ≡ k
+        → flat_map (λ mid. kept_ends next' log (ends_of t log mid)) (cond k ((from + length s) ∷ []) []) ≡ kept_ends next' log (ends_of t log (from + length s) ++ [])
+    one true e = append-nil (kept_ends next' log (ends_of t log (from + length s))) ∙ ap (kept_ends next' log) (sym (append-nil (ends_of t log (from + length s))))
+    one false e = ap (λ l. kept_ends next' log (l ++ [])) (sym (skip (from + length s) e))
+
+    by : (b : Bool) → flat_map (λ mid. kept_ends next' log (ends_of t log mid)) (kept_ends next log (cond b ((from + length s) ∷ []) []))
+        ≡ kept_ends next' log (flat_map (λ mid. ends_of t log mid) (cond b ((from + length s) ∷ []) []))
+    by true = one (begins next (drop (from + length s) log)) refl
+    by false = refl
+
+pub kept_all : (log ends : List ℕ) → kept_ends [] log ends ≡ ends
+kept_all log [] = refl
+kept_all log (e ∷ ends) = ap (λ r. e ∷ r) (kept_all log ends)
+
+-- where the next piece is a literal that doesn't stand there, nothing follows
+pub skipped : (piece : Piece) (pieces : List Piece) (ys : List Arg) (log : List ℕ) (mid : ℕ) → begins (next_literal (piece ∷ pieces)) (drop mid log) ≡ false → ends_of (piece_text piece ys) log mid ≡ []
+skipped (Literal bytes) pieces ys log mid e = ap (λ b. cond b ((mid + length bytes) ∷ []) []) e
+skipped (Converted c) pieces ys log mid e = absurd cc
+
 -- the splits of pieces, and then of one piece more
-pub Describes-piece : (ps : List Piece) (p : Piece) (log : List ℕ) (from : ℕ) (before now : List Split)
-    → Describes (kinds ps) (marks ps) (λ args. ends_of (text_of ps args) log from) before → Follows p log before now
-    → Describes (kinds (ps ++ p ∷ [])) (marks (ps ++ p ∷ [])) (λ args. ends_of (text_of (ps ++ p ∷ []) args) log from) now
-Describes-piece ps p log from before now d f =
-    subst (λ K. Describes K (marks (ps ++ p ∷ [])) (λ args. ends_of (text_of (ps ++ p ∷ []) args) log from) now) (sym (kinds_append ps p))
-    (subst (λ M. Describes (kinds ps ++ piece_kinds p) M (λ args. ends_of (text_of (ps ++ p ∷ []) args) log from) now) (sym (marks_append ps p))
+pub Describes-piece : (ps rest : List Piece) (p : Piece) (log next' : List ℕ) (from : ℕ) (before now : List Split)
+    → Describes (kinds ps) (marks ps) (λ args. kept_ends (next_literal (p ∷ rest)) log (ends_of (text_of ps args) log from)) before → Follows next' p log before now
+    → Describes (kinds (ps ++ p ∷ [])) (marks (ps ++ p ∷ [])) (λ args. kept_ends next' log (ends_of (text_of (ps ++ p ∷ []) args) log from)) now
+Describes-piece ps rest p log next' from before now d f =
+    subst (λ K. Describes K (marks (ps ++ p ∷ [])) (λ args. kept_ends next' log (ends_of (text_of (ps ++ p ∷ []) args) log from)) now) (sym (kinds_append ps p))
+    (subst (λ M. Describes (kinds ps ++ piece_kinds p) M (λ args. kept_ends next' log (ends_of (text_of (ps ++ p ∷ []) args) log from)) now) (sym (marks_append ps p))
     (record {
       exact = λ args h. by args (parted (kinds ps) (piece_kinds p) args h);
-      met = follow_met p log (kinds ps) (marks ps) before now f d.met;
-      stars_are = follow_stars p log (kinds ps) (marks ps) before now f d.stars_are;
+      met = follow_met next' p log (kinds ps) (marks ps) before now f d.met;
+      stars_are = follow_stars next' p log (kinds ps) (marks ps) before now f d.stars_are;
     }))
   where
-    by : (args : List Arg) → IsParted (kinds ps) (piece_kinds p) args → met_ends now args ≡ ends_of (text_of (ps ++ p ∷ []) args) log from
+    by : (args : List Arg) → IsParted (kinds ps) (piece_kinds p) args → met_ends now args ≡ kept_ends next' log (ends_of (text_of (ps ++ p ∷ []) args) log from)
     by args r =
-        ap (met_ends now) r.is ∙ follow_ends p log (kinds ps) (marks ps) before now r.front r.back f d.met r.front_have r.back_have
-        ∙ ap (flat_map (λ mid. ends_of (piece_text p r.back) log mid)) (d.exact r.front r.front_have)
-        ∙ sym (ends_append (text_of ps r.front) (piece_text p r.back) log from)
-        ∙ ap (λ t. ends_of t log from) (sym (text_append ps p r.front r.back r.front_have))
-        ∙ ap (λ a. ends_of (text_of (ps ++ p ∷ []) a) log from) (sym r.is)
+        ap (met_ends now) r.is ∙ follow_ends next' p log (kinds ps) (marks ps) before now r.front r.back f d.met r.front_have r.back_have
+        ∙ ap (flat_map (λ mid. kept_ends next' log (ends_of (piece_text p r.back) log mid))) (d.exact r.front r.front_have)
+        ∙ kept_step (next_literal (p ∷ rest)) next' (text_of ps r.front) (piece_text p r.back) log from (skipped p rest r.back log)
+        ∙ ap (kept_ends next' log) (sym (ends_append (text_of ps r.front) (piece_text p r.back) log from))
+        ∙ ap (λ t. kept_ends next' log (ends_of t log from)) (sym (text_append ps p r.front r.back r.front_have))
+        ∙ ap (λ a. kept_ends next' log (ends_of (text_of (ps ++ p ∷ []) a) log from)) (sym r.is)
 
 -- one more split that is followed
-pub Follows-more : (piece : Piece) (log : List ℕ) (before : List Split) (s : Split) (now now' : List Split) → Follows piece log before now → AddsAfter piece log s now now' → Follows piece log (before ++ s ∷ []) now'
-Follows-more piece log [] s now now' f a =
+pub Follows-more : (next : List ℕ) (piece : Piece) (log : List ℕ) (before : List Split) (s : Split) (now now' : List Split) → Follows next piece log before now → AddsAfter next piece log s now now' → Follows next piece log (before ++ s ∷ []) now'
+Follows-more next piece log [] s now now' f a =
     (map (followed s) a.added, record { added = a.added; is = refl; describes = a.describes }, ([], refl, a.is ∙ ap (λ l. l ++ map (followed s) a.added) f ∙ sym (append-nil (map (followed s) a.added))))
-Follows-more piece log (t ∷ before) s now now' f a =
-    let r = Follows-more piece log before s f.2.0 (f.2.0 ++ map (followed s) a.added) f.2.1 (record { added = a.added; is = refl; describes = a.describes }) in
+Follows-more next piece log (t ∷ before) s now now' f a =
+    let r = Follows-more next piece log before s f.2.0 (f.2.0 ++ map (followed s) a.added) f.2.1 (record { added = a.added; is = refl; describes = a.describes }) in
     (f.0, f.1, (f.2.0 ++ map (followed s) a.added, r, a.is ∙ ap (λ l. l ++ map (followed s) a.added) f.2.2 ∙ append_assoc f.0 f.2.0 (map (followed s) a.added)))
 
 -- ---- splits end in the log
@@ -289,10 +324,10 @@ met_all P (s ∷ splits) args h = by (meet_all s.constraints args) refl h (λ g.
     by true e h r = All-cons (λ t. meet_all t.constraints args ≡ true → P t.end) s splits (λ m. All-head P s.end (met_ends splits args) h) (r (All-tail P s.end (met_ends splits args) h))
     by false e h r = All-cons (λ t. meet_all t.constraints args ≡ true → P t.end) s splits (λ m. absurd (both_ways (meet_all s.constraints args) e m)) (r h)
 
-pub splits_within : (ps : List Piece) (log : List ℕ) (from : ℕ) (splits : List Split) → from ≤ length log → Describes (kinds ps) (marks ps) (λ args. ends_of (text_of ps args) log from) splits → All (λ s. s.end ≤ length log) splits
-splits_within ps log from splits h d = λ k x l.
+pub splits_within : (ps : List Piece) (next log : List ℕ) (from : ℕ) (splits : List Split) → from ≤ length log → Describes (kinds ps) (marks ps) (λ args. kept_ends next log (ends_of (text_of ps args) log from)) splits → All (λ s. s.end ≤ length log) splits
+splits_within ps next log from splits h d = λ k x l.
     let m = d.met k x l in
-    met_all (λ e. e ≤ length log) splits m.args (subst (λ e. All (λ e. e ≤ length log) e) (sym (d.exact m.args m.have)) (ends_within (text_of ps m.args) log from h)) k x l m.meet
+    met_all (λ e. e ≤ length log) splits m.args (subst (λ e. All (λ e. e ≤ length log) e) (sym (d.exact m.args m.have)) (All-filter (λ e. begins next (drop e log)) (λ e. e ≤ length log) (ends_of (text_of ps m.args) log from) (ends_within (text_of ps m.args) log from h))) k x l m.meet
 
 -- a literal's one split, or none
 begins_same : (t rest : List ℕ) → length t ≤ length rest → begins t rest ≡ bytes_eq t (take (length t) rest)
@@ -310,27 +345,81 @@ nothing_kinds : (args : List Arg) → HaveKinds [] args → args ≡ []
 nothing_kinds [] h = refl
 nothing_kinds (a ∷ args) h = absurd h
 
-pub literal_none : (bytes log : List ℕ) (before : Split) (old : List Split) → begins bytes (drop before.end log) ≡ false → AddsAfter (Literal bytes) log before old old
-literal_none bytes log before old h = record {
+pub literal_none : (next bytes log : List ℕ) (before : Split) (old : List Split) → begins bytes (drop before.end log) ≡ false → AddsAfter next (Literal bytes) log before old old
+literal_none next bytes log before old h = record {
   added = [];
   is = sym (append-nil old);
   describes = record {
-    exact = λ args k. sym (ap (λ b. cond b ((before.end + length bytes) ∷ []) []) h);
+    exact = λ args k. sym (ap (λ b. kept_ends next log (cond b ((before.end + length bytes) ∷ []) [])) h);
     met = All-nil (λ s. IsMet [] s);
     stars_are = All-nil (λ s. map is_between s.constraints ≡ []);
   };
 }
 
-pub literal_one : (bytes log : List ℕ) (before : Split) (old now : List Split) → begins bytes (drop before.end log) ≡ true
-    → now ≡ old ++ record { end = before.end + length bytes; constraints = before.constraints } ∷ [] → AddsAfter (Literal bytes) log before old now
-literal_one bytes log before old now h e =
+pub literal_left : (next bytes log : List ℕ) (before : Split) (old : List Split) → begins next (drop (before.end + length bytes) log) ≡ false → AddsAfter next (Literal bytes) log before old old
+literal_left next bytes log before old h = record {
+  added = [];
+  is = sym (append-nil old);
+  describes = record {
+    exact = λ args k. by (begins bytes (drop before.end log));
+    met = All-nil (λ s. IsMet [] s);
+    stars_are = All-nil (λ s. map is_between s.constraints ≡ []);
+  };
+}
+  where
+    by : (b : Bool) → [] ≡ kept_ends next log (cond b ((before.end + length bytes) ∷ []) [])
+    by true = sym (ap (λ b. cond b ((before.end + length bytes) ∷ []) []) h)
+    by false = refl
+
+pub literal_one : (next bytes log : List ℕ) (before : Split) (old now : List Split) → begins bytes (drop before.end log) ≡ true → begins next (drop (before.end + length bytes) log) ≡ true
+    → now ≡ old ++ record { end = before.end + length bytes; constraints = before.constraints } ∷ [] → AddsAfter next (Literal bytes) log before old now
+literal_one next bytes log before old now h g e =
     let s : Split = record { end = before.end + length bytes; constraints = [] } in
     record {
       added = s ∷ [];
       is = e ∙ ap (λ c. old ++ record { end = before.end + length bytes; constraints = c } ∷ []) (sym (append-nil before.constraints));
       describes = record {
-        exact = λ args k. ap (λ a. met_ends (s ∷ []) a) (nothing_kinds args k) ∙ sym (ap (λ b. cond b ((before.end + length bytes) ∷ []) []) h);
+        exact = λ args k. ap (λ a. met_ends (s ∷ []) a) (nothing_kinds args k) ∙ sym (ap (λ b. kept_ends next log (cond b ((before.end + length bytes) ∷ []) [])) h ∙ ap (λ b. cond b ((before.end + length bytes) ∷ []) []) g);
         met = All-cons (λ s. IsMet [] s) s [] (record { args = []; have = tt; meet = refl }) (All-nil (λ s. IsMet [] s));
         stars_are = All-cons (λ s. map is_between s.constraints ≡ []) s [] refl (All-nil (λ s. map is_between s.constraints ≡ []));
       };
     }
+
+pub literal_moves : (next bytes log : List ℕ) (before : Split) (old now : List Split) → begins bytes (drop before.end log) ≡ true → Moves next log (length bytes) before old now → AddsAfter next (Literal bytes) log before old now
+literal_moves next bytes log before old now h e = by (begins next (drop (before.end + length bytes) log)) refl e
+  where
+    by : (b : Bool) → begins next (drop (before.end + length bytes) log) ≡ b
+        → now ≡ old ++ cond b (record { end = before.end + length bytes; constraints = before.constraints } ∷ []) [] → AddsAfter next (Literal bytes) log before old now
+    by true g f = literal_one next bytes log before old now h g f
+    by false g f = subst (λ l. AddsAfter next (Literal bytes) log before old l) (sym (f ∙ append-nil old)) (literal_left next bytes log before old g)
+
+pub literal_fits : (bytes log : List ℕ) (end : ℕ) → end ≤ length log → begins bytes (drop end log) ≡ true → end + length bytes ≤ length log
+literal_fits bytes log end h e = omega (arith, begins_short bytes (drop end log) e, length-drop end log)
+
+-- before all pieces
+pub start_none : (next log : List ℕ) (from : ℕ) → begins next (drop from log) ≡ false → Describes [] [] (λ args. kept_ends next log (ends_of [] log from)) []
+start_none next log from h = record {
+  exact = λ args k. sym (ap (λ n. kept_ends next log (n ∷ [])) (omega arith) ∙ ap (λ b. cond b (from ∷ []) []) h);
+  met = All-nil (λ s. IsMet [] s);
+  stars_are = All-nil (λ s. map is_between s.constraints ≡ []);
+}
+
+pub start_one : (next log : List ℕ) (from : ℕ) (splits : List Split) → begins next (drop from log) ≡ true → splits ≡ record { end = from; constraints = [] } ∷ [] → Describes [] [] (λ args. kept_ends next log (ends_of [] log from)) splits
+start_one next log from splits h e =
+    subst (λ l. Describes [] [] (λ args. kept_ends next log (ends_of [] log from)) l) (sym e)
+    (record {
+      exact = λ args k. ap (λ a. met_ends (record { end = from; constraints = [] } ∷ []) a) (nothing_kinds args k)
+          ∙ sym (ap (λ n. kept_ends next log (n ∷ [])) (omega arith) ∙ ap (λ b. cond b (from ∷ []) []) h);
+      met = All-cons (λ s. IsMet [] s) (record { end = from; constraints = [] }) [] (record { args = []; have = tt; meet = refl }) (All-nil (λ s. IsMet [] s));
+      stars_are = All-cons (λ s. map is_between s.constraints ≡ []) (record { end = from; constraints = [] }) [] refl (All-nil (λ s. map is_between s.constraints ≡ []));
+    })
+
+pub next_at : (pieces : List Piece) (i : ℕ) (p : Piece) → i < length pieces → p ≡ get_or pieces i p → next_literal (p ∷ []) ≡ next_literal (drop i pieces)
+next_at pieces i p h e = heads p (drop (i + 1) pieces) ∙ ap next_literal (sym (drop_more pieces i p h ∙ ap (λ q. q ∷ drop (i + 1) pieces) (sym e)))
+  where
+    heads : (p : Piece) (rest : List Piece) → next_literal (p ∷ []) ≡ next_literal (p ∷ rest)
+    heads (Literal bytes) rest = refl
+    heads (Converted c) rest = refl
+
+pub next_past : (pieces : List Piece) (i : ℕ) → length pieces ≤ i → [] ≡ next_literal (drop i pieces)
+next_past pieces i h = ap next_literal (sym (drop_all i pieces h))

@@ -6,3 +6,4 @@ pub mod Padding
 pub mod StarLaws
 pub mod Following
 pub mod Exact
+pub mod Lines

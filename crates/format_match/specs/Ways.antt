@@ -1,6 +1,6 @@
 -- What the parts of the matcher add to a list of splits, as the ends that arguments meet in it.
 use Rattle.std.specs.Prelude.{ℕ, zero, suc, ◌+◌, ◌-◌, ◌≡◌, ◌==◌, nat_lt, unsigned_abs, Bool, true, false, not, ◌&&◌, ◌||◌, if◌then◌else◌, ℤ, pos, negsuc, neg_ℤ, Option, Some, None, List, [], ◌∷◌, ◌++◌, length, take, drop, map, All}
-use Rattle.std.specs.List.{list_any, list_all}
+use Rattle.std.specs.List.{filter, list_any, list_all}
 use Rattle.std.specs.Int.{is_negative}
 use Rattle.std.specs.Str.{bytes_eq}
 use Rattle.bit_words.specs.Words.{is_signed}
@@ -11,7 +11,7 @@ use Rattle.printf_text.specs.declared.piece.Arg.{Arg}
 use Rattle.printf_text.specs.declared.piece.Arg.TheVariants as arg
 use Rattle.printf_text.specs.declared.piece.Flags.{Flags}
 use Rattle.printf_text.specs.declared.piece.Form.{Form}
-use Rattle.printf_text.specs.declared.piece.Form.TheVariants.{Text, Pointer}
+use Rattle.printf_text.specs.declared.piece.Form.TheVariants.{Signed, Unsigned, Char, Text, Pointer}
 use Rattle.printf_text.specs.declared.piece.Size.{Size}
 use Rattle.printf_text.specs.declared.piece.Size.TheVariants.{Omitted, Written, Star}
 use Rattle.printf_text.specs.declared.piece.Conversion.{Conversion}
@@ -186,6 +186,25 @@ IsInt z = is_signed W32 z ≡ true
 
 -- ---- one piece after others
 
+-- the bytes that must follow, as the next piece says: those of a literal, and else none
+abbrev pub next_literal : List Piece → List ℕ
+next_literal [] = []
+next_literal (Literal bytes ∷ pieces) = bytes
+next_literal (Converted c ∷ pieces) = []
+
+-- the forms whose texts hold no newline
+abbrev pub is_in_line : Form → Bool
+is_in_line Char = false
+is_in_line Text = false
+is_in_line _ = true
+
+-- the ends that these bytes follow
+abbrev pub kept_ends : List ℕ → List ℕ → List ℕ → List ℕ
+kept_ends next log ends = filter (λ e. begins next (drop e log)) ends
+
+abbrev pub kept_here : List ℕ → List ℕ → List ℕ → List ℕ
+kept_here next tail ends = if begins next tail then ends else []
+
 abbrev pub piece_marks : Piece → List Bool
 piece_marks (Literal bytes) = []
 piece_marks (Converted c) = conversion_marks c
@@ -194,16 +213,21 @@ piece_marks (Converted c) = conversion_marks c
 abbrev pub followed : Split → Split → Split
 followed before after = record { end = after.end; constraints = before.constraints ++ after.constraints }
 
--- what follows a split by a piece was put at the end
-pub record AddsAfter (piece : Piece) (log : List ℕ) (before : Split) (old now : List Split) : Type 0 where
+-- what follows a split by a piece was put at the end, where the next bytes follow
+pub record AddsAfter (next : List ℕ) (piece : Piece) (log : List ℕ) (before : Split) (old now : List Split) : Type 0 where
   pub added : List Split
   pub is : now ≡ old ++ map (followed before) added
-  pub describes : Describes (piece_kinds piece) (piece_marks piece) (λ args. ends_of (piece_text piece args) log before.end) added
+  pub describes : Describes (piece_kinds piece) (piece_marks piece) (λ args. kept_ends next log (ends_of (piece_text piece args) log before.end)) added
+
+-- the split, with its end so many bytes on, was put at the end where the next bytes follow
+abbrev pub Moves : List ℕ → List ℕ → ℕ → Split → List Split → List Split → Type 0
+Moves next log len before old now =
+    now ≡ old ++ (if begins next (drop (before.end + len) log) then record { end = before.end + len; constraints = before.constraints } ∷ [] else [])
 
 -- what follows each of the splits, in order
-abbrev pub Follows : Piece → List ℕ → List Split → List Split → Type 0
-Follows piece log [] now = now ≡ []
-Follows piece log (s ∷ splits) now = (old : List Split) × AddsAfter piece log s [] old × ((rest : List Split) × Follows piece log splits rest × (now ≡ old ++ rest))
+abbrev pub Follows : List ℕ → Piece → List ℕ → List Split → List Split → Type 0
+Follows next piece log [] now = now ≡ []
+Follows next piece log (s ∷ splits) now = (old : List Split) × AddsAfter next piece log s [] old × ((rest : List Split) × Follows next piece log splits rest × (now ≡ old ++ rest))
 
 -- ---- texts
 
