@@ -9,7 +9,7 @@ mod printing;
 pub use kind::{Kind, Kinds, have_kinds, kinds};
 pub use parse::{FormatFault, parse_format};
 pub use piece::{Arg, Args, Conversion, Flags, Form, Piece, Pieces, Radix, Size};
-pub use printing::{TextFault, text};
+pub use printing::{TextFault, text, write_formed};
 
 #[cfg(test)]
 mod tests;

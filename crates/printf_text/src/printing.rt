@@ -336,8 +336,9 @@ fn cut_text(precision: i64, arg: &Arg) -> &[u8]
     &bytes[..precision as usize]
 }
 
-/// Puts a converted argument's text at the end, with the width and precision that hold.
-fn write_formed(
+/// Puts a converted argument's text at the end, with the width and precision that hold. It fails for
+/// want of memory alone.
+pub fn write_formed(
     out: &mut Bytes,
     flags: Flags,
     form: Form,

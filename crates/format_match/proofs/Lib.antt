@@ -1,0 +1,9 @@
+pub mod Numbers
+pub mod Ends
+pub mod Fields
+pub mod Printing
+pub mod Padding
+pub mod StarLaws
+pub mod Following
+pub mod Exact
+pub mod Lines

@@ -1,0 +1,3 @@
+pub mod Splits
+pub mod Ways
+pub mod Reading

@@ -1,0 +1,16 @@
+//! All ways in which a printf format spells a log from a position on, with what each says of the
+//! arguments (C99 7.19.6.1 read backwards).
+#![tactic(auto)]
+
+mod forms;
+mod matching;
+mod reading;
+mod split;
+mod stars;
+mod way;
+
+pub use matching::{MatchFault, splits};
+pub use split::{Constraint, Constraints, Split, SplitList};
+
+#[cfg(test)]
+mod tests;
