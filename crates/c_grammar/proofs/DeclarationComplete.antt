@@ -165,17 +165,21 @@ module _ (complete : (limit : ℕ) → CompleteBelow limit (rules limit)) where
 
   value_base : (value : Expr) → Again (initial.Value value)
   unfolding initializer_at initializer_by
-  value_base value = record { reads = λ below s z. rw initializer-Value (λ (x : _) low loose.
-      let b = not_opening mark.LeftBrace s.0 (starts value s z x.1).opens refl in
-      let read = (complete below).expr 15 s z value (record { spans = x.1; fits = x.0; low = omega arith }) loose in
-      rw (b, read) refl) }
+  value_base value = record {
+    reads = λ below s z. rw initializer-Value (λ (x : _) low loose.
+        let b = not_opening mark.LeftBrace s.0 (starts value s z x.1).opens refl in
+        let read = (complete below).expr 15 s z value (record { spans = x.1; fits = x.0; low = omega arith }) loose in
+        rw (b, read) refl);
+  }
 
   list_base : (at : ℕ) (items : List InitializerItem) (trailing : Bool) → EachValue Again items → Again (initial.List at items trailing)
   unfolding initializer_at initializer_by initializer_list_at
-  list_base at items trailing each = record { reads = λ below s z. rw initializer-List (λ (x : _) low loose.
-      let p = split (items_parts (map item_of items) trailing) (takes_mark mark.RightBrace ∷ []) (x.0, s.1) z x.2 in
-      let read = items_again below items trailing (x.0, s.1) p.0 p.2.0 p.2.1 each (omega arith) p.1 p.2.2 in
-      rw (taken x.1, read, taken p.2.2) (ap (λ (w : State). Some (initial.List at items trailing, w)) p.2.3)) }
+  list_base at items trailing each = record {
+    reads = λ below s z. rw initializer-List (λ (x : _) low loose.
+        let p = split (items_parts (map item_of items) trailing) (takes_mark mark.RightBrace ∷ []) (x.0, s.1) z x.2 in
+        let read = items_again below items trailing (x.0, s.1) p.0 p.2.0 p.2.1 each (omega arith) p.1 p.2.2 in
+        rw (taken x.1, read, taken p.2.2) (ap (λ (w : State). Some (initial.List at items trailing, w)) p.2.3));
+  }
 
   again_steps : InitialSteps Again
   again_steps = record { on_value = value_base; on_list = list_base }

@@ -164,19 +164,23 @@ module _ (complete : (limit : ℕ) → CompleteBelow limit (rules limit)) where
 
   block_base : (at : ℕ) (items : List Stmt) → EachStmt Again items → Again (stmt.Block at items)
   unfolding block_at
-  block_base at items each = record { reads = λ below rank s z. rw stmt-Block (λ (x : _) fits low.
-      let rest = closes ∷ takes_mark mark.RightBrace ∷ [] in
-      let m : State = (x.0, entered s.1) in
-      let p = split (joined_shapes (map stmt_shape items)) rest m z x.2 in
-      let read = items_again below (suc (length x.0)) items m p.0 each (omega arith) (omega arith) p.1 (rw (taken p.2.2) refl) in
-      by_brace below rank at x.0 s x.1 ∙ rw (read, taken p.2.2) (ap (λ (w : State). Some (stmt.Block at items, w)) p.2.3)) }
+  block_base at items each = record {
+    reads = λ below rank s z. rw stmt-Block (λ (x : _) fits low.
+        let rest = closes ∷ takes_mark mark.RightBrace ∷ [] in
+        let m : State = (x.0, entered s.1) in
+        let p = split (joined_shapes (map stmt_shape items)) rest m z x.2 in
+        let read = items_again below (suc (length x.0)) items m p.0 each (omega arith) (omega arith) p.1 (rw (taken p.2.2) refl) in
+        by_brace below rank at x.0 s x.1 ∙ rw (read, taken p.2.2) (ap (λ (w : State). Some (stmt.Block at items, w)) p.2.3));
+  }
 
   declared_base : (d : Declaration) → Again (stmt.Declared d)
   unfolding stmt_at stmt_by declared_statement_at
-  declared_base d = record { reads = λ below rank s z. rw stmt-Declared (λ (x : _) fits low.
-      let b = declaration_begins d s z x in
-      let read = declared_again below d s z x (omega arith) in
-      rw (b.unlabelled, b.specifies, nat_le_is 1 rank fits, read) refl) }
+  declared_base d = record {
+    reads = λ below rank s z. rw stmt-Declared (λ (x : _) fits low.
+        let b = declaration_begins d s z x in
+        let read = declared_again below d s z x (omega arith) in
+        rw (b.unlabelled, b.specifies, nat_le_is 1 rank fits, read) refl);
+  }
 
   -- an expression, where one stands before the mark
   optional_again : (limit : ℕ) (w : Punctuator) (value : Option Expr) (s m : State) → opening (kind.Punctuator w) ≡ false → Spans (value_parts value) s m → value_height value ≤ limit → begins w m ≡ true → 16 < binds m → optional_at (rules limit) w s ≡ Some (value, m)
@@ -206,26 +210,32 @@ module _ (complete : (limit : ℕ) → CompleteBelow limit (rules limit)) where
 
   label_base : (at : ℕ) (name : Name) (body : Stmt) → Again body → Again (stmt.Label at name body)
   unfolding stmt_at stmt_by label_at
-  label_base at name body a = record { reads = λ below rank s z. rw stmt-Label (λ (x : _) fits low.
-      let y = x.2 in
-      let read = inner body a below 0 (y.1, s.1) z y.3.1 y.3.0 (omega arith) in
-      rw (taken x.1, taken y.2, read) refl) }
+  label_base at name body a = record {
+    reads = λ below rank s z. rw stmt-Label (λ (x : _) fits low.
+        let y = x.2 in
+        let read = inner body a below 0 (y.1, s.1) z y.3.1 y.3.0 (omega arith) in
+        rw (taken x.1, taken y.2, read) refl);
+  }
 
   case_base : (at : ℕ) (value : Expr) (body : Stmt) → Again body → Again (stmt.Case at value body)
   unfolding case_at
-  case_base at value body a = record { reads = λ below rank s z. rw stmt-Case (λ (x : _) fits low.
-      let ps = takes_mark mark.Colon ∷ only_statement (stmt_shape body) in
-      let p = split (shape value).parts ps (x.0, s.1) z x.2.1 in
-      let read = (complete below).expr 14 (x.0, s.1) p.0 value (record { spans = p.1; fits = x.2.0; low = omega arith }) (rw (taken p.2.2) (omega arith)) in
-      let read' = inner body a below 0 (p.2.1, p.0.1) z p.2.3.1 p.2.3.0 (omega arith) in
-      by_keyword below rank at keyword.Case x.0 s x.1 refl ∙ rw (read, taken p.2.2, read') refl) }
+  case_base at value body a = record {
+    reads = λ below rank s z. rw stmt-Case (λ (x : _) fits low.
+        let ps = takes_mark mark.Colon ∷ only_statement (stmt_shape body) in
+        let p = split (shape value).parts ps (x.0, s.1) z x.2.1 in
+        let read = (complete below).expr 14 (x.0, s.1) p.0 value (record { spans = p.1; fits = x.2.0; low = omega arith }) (rw (taken p.2.2) (omega arith)) in
+        let read' = inner body a below 0 (p.2.1, p.0.1) z p.2.3.1 p.2.3.0 (omega arith) in
+        by_keyword below rank at keyword.Case x.0 s x.1 refl ∙ rw (read, taken p.2.2, read') refl);
+  }
 
   default_base : (at : ℕ) (body : Stmt) → Again body → Again (stmt.Default at body)
   unfolding default_at
-  default_base at body a = record { reads = λ below rank s z. rw stmt-Default (λ (x : _) fits low.
-      let y = x.2 in
-      let read = inner body a below 0 (y.1, s.1) z y.3.1 y.3.0 (omega arith) in
-      by_keyword below rank at keyword.Default x.0 s x.1 refl ∙ rw (taken y.2, read) refl) }
+  default_base at body a = record {
+    reads = λ below rank s z. rw stmt-Default (λ (x : _) fits low.
+        let y = x.2 in
+        let read = inner body a below 0 (y.1, s.1) z y.3.1 y.3.0 (omega arith) in
+        by_keyword below rank at keyword.Default x.0 s x.1 refl ∙ rw (taken y.2, read) refl);
+  }
 
   condition_again : (limit : ℕ) (e : Expr) (s z : State) → Spans (condition_parts e) s z → (shape e).height ≤ limit → condition_at (rules limit) s ≡ Some (e, z)
   unfolding condition_at
@@ -252,58 +262,66 @@ module _ (complete : (limit : ℕ) → CompleteBelow limit (rules limit)) where
 
   if_base : (at : ℕ) (condition : Expr) (positive : Stmt) (negative : Option Stmt) → Again positive → MaybeStmt Again negative → Again (stmt.If at condition positive negative)
   unfolding if_at
-  if_base at condition positive negative a b = record { reads = λ below rank s z. rw stmt-If (λ (x : _) fits low.
-      let m : State = (x.0, entered s.1) in
-      let p2 = else_parts (option_map stmt_shape negative) in
-      let p1 = substatement (stmt_shape positive) in
-      let p = split (condition_parts condition ++ (p1 ++ p2)) (closes ∷ []) m z x.2 in
-      let q = split (condition_parts condition) (p1 ++ p2) m p.0 p.1 in
-      let u = split p1 p2 q.0 p.0 q.2 in
-      let read = condition_again below condition m q.0 q.1 (omega arith) in
-      let read' = substatement_again below positive q.0 u.0 a u.1 (omega arith) in
-      let read'' = else_again below negative u.0 p.0 b u.2 (omega arith) in
-      by_keyword below rank at keyword.If x.0 s x.1 refl ∙ rw (read, read', read'') (ap (λ (w : State). Some (stmt.If at condition positive negative, w)) p.2)) }
+  if_base at condition positive negative a b = record {
+    reads = λ below rank s z. rw stmt-If (λ (x : _) fits low.
+        let m : State = (x.0, entered s.1) in
+        let p2 = else_parts (option_map stmt_shape negative) in
+        let p1 = substatement (stmt_shape positive) in
+        let p = split (condition_parts condition ++ (p1 ++ p2)) (closes ∷ []) m z x.2 in
+        let q = split (condition_parts condition) (p1 ++ p2) m p.0 p.1 in
+        let u = split p1 p2 q.0 p.0 q.2 in
+        let read = condition_again below condition m q.0 q.1 (omega arith) in
+        let read' = substatement_again below positive q.0 u.0 a u.1 (omega arith) in
+        let read'' = else_again below negative u.0 p.0 b u.2 (omega arith) in
+        by_keyword below rank at keyword.If x.0 s x.1 refl ∙ rw (read, read', read'') (ap (λ (w : State). Some (stmt.If at condition positive negative, w)) p.2));
+  }
 
   switch_base : (at : ℕ) (value : Expr) (body : Stmt) → Again body → Again (stmt.Switch at value body)
   unfolding switch_at
-  switch_base at value body a = record { reads = λ below rank s z. rw stmt-Switch (λ (x : _) fits low.
-      let m : State = (x.0, entered s.1) in
-      let p1 = substatement (stmt_shape body) in
-      let p = split (condition_parts value ++ p1) (closes ∷ []) m z x.2 in
-      let q = split (condition_parts value) p1 m p.0 p.1 in
-      let read = condition_again below value m q.0 q.1 (omega arith) in
-      let read' = substatement_again below body q.0 p.0 a q.2 (omega arith) in
-      by_keyword below rank at keyword.Switch x.0 s x.1 refl ∙ rw (read, read') (ap (λ (w : State). Some (stmt.Switch at value body, w)) p.2)) }
+  switch_base at value body a = record {
+    reads = λ below rank s z. rw stmt-Switch (λ (x : _) fits low.
+        let m : State = (x.0, entered s.1) in
+        let p1 = substatement (stmt_shape body) in
+        let p = split (condition_parts value ++ p1) (closes ∷ []) m z x.2 in
+        let q = split (condition_parts value) p1 m p.0 p.1 in
+        let read = condition_again below value m q.0 q.1 (omega arith) in
+        let read' = substatement_again below body q.0 p.0 a q.2 (omega arith) in
+        by_keyword below rank at keyword.Switch x.0 s x.1 refl ∙ rw (read, read') (ap (λ (w : State). Some (stmt.Switch at value body, w)) p.2));
+  }
 
   while_base : (at : ℕ) (condition : Expr) (body : Stmt) → Again body → Again (stmt.While at condition body)
   unfolding while_at
-  while_base at condition body a = record { reads = λ below rank s z. rw stmt-While (λ (x : _) fits low.
-      let m : State = (x.0, entered s.1) in
-      let p1 = substatement (stmt_shape body) in
-      let p = split (condition_parts condition ++ p1) (closes ∷ []) m z x.2 in
-      let q = split (condition_parts condition) p1 m p.0 p.1 in
-      let read = condition_again below condition m q.0 q.1 (omega arith) in
-      let read' = substatement_again below body q.0 p.0 a q.2 (omega arith) in
-      by_keyword below rank at keyword.While x.0 s x.1 refl ∙ rw (read, read') (ap (λ (w : State). Some (stmt.While at condition body, w)) p.2)) }
+  while_base at condition body a = record {
+    reads = λ below rank s z. rw stmt-While (λ (x : _) fits low.
+        let m : State = (x.0, entered s.1) in
+        let p1 = substatement (stmt_shape body) in
+        let p = split (condition_parts condition ++ p1) (closes ∷ []) m z x.2 in
+        let q = split (condition_parts condition) p1 m p.0 p.1 in
+        let read = condition_again below condition m q.0 q.1 (omega arith) in
+        let read' = substatement_again below body q.0 p.0 a q.2 (omega arith) in
+        by_keyword below rank at keyword.While x.0 s x.1 refl ∙ rw (read, read') (ap (λ (w : State). Some (stmt.While at condition body, w)) p.2));
+  }
 
   do_base : (at : ℕ) (body : Stmt) (condition : Expr) → Again body → Again (stmt.Do at body condition)
   unfolding do_at
-  do_base at body condition a = record { reads = λ below rank s z. rw stmt-Do (λ (x : _) fits low.
-      let m : State = (x.0, entered s.1) in
-      let p1 = substatement (stmt_shape body) in
-      let p2 = condition_parts condition ++ takes_mark mark.Semicolon ∷ [] in
-      let p = split (p1 ++ takes (kind.Keyword keyword.While) ∷ p2) (closes ∷ []) m z x.2 in
-      let q = split p1 (takes (kind.Keyword keyword.While) ∷ p2) m p.0 p.1 in
-      let y = q.2 in
-      let u = split (condition_parts condition) (takes_mark mark.Semicolon ∷ []) (y.1, q.0.1) p.0 y.3 in
-      let read = substatement_again below body m q.0 a q.1 (omega arith) in
-      let read' = condition_again below condition (y.1, q.0.1) u.0 u.1 (omega arith) in
-      let e : (u.2.1, left u.0.1) ≡ z = ap (λ (w : State). (w.0, left w.1)) u.2.3 ∙ p.2 in
-      by_keyword below rank at keyword.Do x.0 s x.1 refl ∙ rw (read, taken y.2, read', taken u.2.2) (ap (λ (w : State). Some (stmt.Do at body condition, w)) e)) }
+  do_base at body condition a = record {
+    reads = λ below rank s z. rw stmt-Do (λ (x : _) fits low.
+        let m : State = (x.0, entered s.1) in
+        let p1 = substatement (stmt_shape body) in
+        let p2 = condition_parts condition ++ takes_mark mark.Semicolon ∷ [] in
+        let p = split (p1 ++ takes (kind.Keyword keyword.While) ∷ p2) (closes ∷ []) m z x.2 in
+        let q = split p1 (takes (kind.Keyword keyword.While) ∷ p2) m p.0 p.1 in
+        let y = q.2 in
+        let u = split (condition_parts condition) (takes_mark mark.Semicolon ∷ []) (y.1, q.0.1) p.0 y.3 in
+        let read = substatement_again below body m q.0 a q.1 (omega arith) in
+        let read' = condition_again below condition (y.1, q.0.1) u.0 u.1 (omega arith) in
+        let e : (u.2.1, left u.0.1) ≡ z = ap (λ (w : State). (w.0, left w.1)) u.2.3 ∙ p.2 in
+        by_keyword below rank at keyword.Do x.0 s x.1 refl ∙ rw (read, taken y.2, read', taken u.2.2) (ap (λ (w : State). Some (stmt.Do at body condition, w)) e));
+  }
 
   for_start_again : (below : ℕ) (x : ForStart) (s z : State) → Spans (for_start_parts x) s z → for_start_height x ≤ below → for_start_at (rules below) (initializer_at below) s ≡ Some (x, z)
   unfolding for_value_at for_declaration_at
-  for_start_again below (start.Value None) s z y low = 
+  for_start_again below (start.Value None) s z y low =
       let o = optional_again below mark.Semicolon None s s refl refl low (rw (taken y.2) refl) (rw (taken y.2) (omega arith)) in
       let b : specifies_in false s.0 s.1 ≡ false = rw (taken y.2) refl in
       rw (b, o, taken y.2) (ap (λ (w : State). Some (start.Value None, w)) y.3)
@@ -319,45 +337,55 @@ module _ (complete : (limit : ℕ) → CompleteBelow limit (rules limit)) where
 
   for_base : (at : ℕ) (first : ForStart) (condition step : Option Expr) (body : Stmt) → Again body → Again (stmt.For at first condition step body)
   unfolding for_at
-  for_base at first condition step body a = record { reads = λ below rank s z. rw stmt-For (λ (x : _) fits low.
-      let m : State = (x.0, entered s.1) in
-      let p4 = substatement (stmt_shape body) in
-      let p3 = value_parts step ++ takes_mark mark.RightParen ∷ p4 in
-      let p2 = value_parts condition ++ takes_mark mark.Semicolon ∷ p3 in
-      let p1 = for_start_parts first ++ p2 in
-      let p = split (takes_mark mark.LeftParen ∷ p1) (closes ∷ []) m z x.2 in
-      let y = p.1 in
-      let q = split (for_start_parts first) p2 (y.1, m.1) p.0 y.3 in
-      let u = split (value_parts condition) (takes_mark mark.Semicolon ∷ p3) q.0 p.0 q.2 in
-      let v = split (value_parts step) (takes_mark mark.RightParen ∷ p4) (u.2.1, u.0.1) p.0 u.2.3 in
-      let read1 = for_start_again below first (y.1, m.1) q.0 q.1 (omega arith) in
-      let read2 = optional_again below mark.Semicolon condition q.0 u.0 refl u.1 (omega arith) (rw (taken u.2.2) refl) (rw (taken u.2.2) (omega arith)) in
-      let read3 = optional_again below mark.RightParen step (u.2.1, u.0.1) v.0 refl v.1 (omega arith) (rw (taken v.2.2) refl) (rw (taken v.2.2) (omega arith)) in
-      let read4 = substatement_again below body (v.2.1, v.0.1) p.0 a v.2.3 (omega arith) in
-      by_keyword below rank at keyword.For x.0 s x.1 refl ∙ rw (taken y.2, read1, read2, taken u.2.2, read3, taken v.2.2, read4) (ap (λ (w : State). Some (stmt.For at first condition step body, w)) p.2)) }
+  for_base at first condition step body a = record {
+    reads = λ below rank s z. rw stmt-For (λ (x : _) fits low.
+        let m : State = (x.0, entered s.1) in
+        let p4 = substatement (stmt_shape body) in
+        let p3 = value_parts step ++ takes_mark mark.RightParen ∷ p4 in
+        let p2 = value_parts condition ++ takes_mark mark.Semicolon ∷ p3 in
+        let p1 = for_start_parts first ++ p2 in
+        let p = split (takes_mark mark.LeftParen ∷ p1) (closes ∷ []) m z x.2 in
+        let y = p.1 in
+        let q = split (for_start_parts first) p2 (y.1, m.1) p.0 y.3 in
+        let u = split (value_parts condition) (takes_mark mark.Semicolon ∷ p3) q.0 p.0 q.2 in
+        let v = split (value_parts step) (takes_mark mark.RightParen ∷ p4) (u.2.1, u.0.1) p.0 u.2.3 in
+        let read1 = for_start_again below first (y.1, m.1) q.0 q.1 (omega arith) in
+        let read2 = optional_again below mark.Semicolon condition q.0 u.0 refl u.1 (omega arith) (rw (taken u.2.2) refl) (rw (taken u.2.2) (omega arith)) in
+        let read3 = optional_again below mark.RightParen step (u.2.1, u.0.1) v.0 refl v.1 (omega arith) (rw (taken v.2.2) refl) (rw (taken v.2.2) (omega arith)) in
+        let read4 = substatement_again below body (v.2.1, v.0.1) p.0 a v.2.3 (omega arith) in
+        by_keyword below rank at keyword.For x.0 s x.1 refl ∙ rw (taken y.2, read1, read2, taken u.2.2, read3, taken v.2.2, read4) (ap (λ (w : State). Some (stmt.For at first condition step body, w)) p.2));
+  }
 
   goto_base : (at : ℕ) (name : Name) → Again (stmt.Goto at name)
   unfolding goto_at
-  goto_base at name = record { reads = λ below rank s z. rw stmt-Goto (λ (x : _) fits low.
-      let y = x.2 in
-      by_keyword below rank at keyword.Goto x.0 s x.1 refl ∙ rw (taken y.2, taken y.3.2) (ap (λ (w : State). Some (stmt.Goto at name, w)) y.3.3)) }
+  goto_base at name = record {
+    reads = λ below rank s z. rw stmt-Goto (λ (x : _) fits low.
+        let y = x.2 in
+        by_keyword below rank at keyword.Goto x.0 s x.1 refl ∙ rw (taken y.2, taken y.3.2) (ap (λ (w : State). Some (stmt.Goto at name, w)) y.3.3));
+  }
 
   continue_base : (at : ℕ) → Again (stmt.Continue at)
   unfolding continue_at
-  continue_base at = record { reads = λ below rank s z. rw stmt-Continue (λ (x : _) fits low.
-      by_keyword below rank at keyword.Continue x.0 s x.1 refl ∙ rw (taken x.2.2) (ap (λ (w : State). Some (stmt.Continue at, w)) x.2.3)) }
+  continue_base at = record {
+    reads = λ below rank s z. rw stmt-Continue (λ (x : _) fits low.
+        by_keyword below rank at keyword.Continue x.0 s x.1 refl ∙ rw (taken x.2.2) (ap (λ (w : State). Some (stmt.Continue at, w)) x.2.3));
+  }
 
   break_base : (at : ℕ) → Again (stmt.Break at)
   unfolding break_at
-  break_base at = record { reads = λ below rank s z. rw stmt-Break (λ (x : _) fits low.
-      by_keyword below rank at keyword.Break x.0 s x.1 refl ∙ rw (taken x.2.2) (ap (λ (w : State). Some (stmt.Break at, w)) x.2.3)) }
+  break_base at = record {
+    reads = λ below rank s z. rw stmt-Break (λ (x : _) fits low.
+        by_keyword below rank at keyword.Break x.0 s x.1 refl ∙ rw (taken x.2.2) (ap (λ (w : State). Some (stmt.Break at, w)) x.2.3));
+  }
 
   return_base : (at : ℕ) (value : Option Expr) → Again (stmt.Return at value)
   unfolding return_at
-  return_base at value = record { reads = λ below rank s z. rw stmt-Return (λ (x : _) fits low.
-      let p = split (value_parts value) (takes_mark mark.Semicolon ∷ []) (x.0, s.1) z x.2 in
-      let read = optional_again below mark.Semicolon value (x.0, s.1) p.0 refl p.1 (omega arith) (rw (taken p.2.2) refl) (rw (taken p.2.2) (omega arith)) in
-      by_keyword below rank at keyword.Return x.0 s x.1 refl ∙ rw (read, taken p.2.2) (ap (λ (w : State). Some (stmt.Return at value, w)) p.2.3)) }
+  return_base at value = record {
+    reads = λ below rank s z. rw stmt-Return (λ (x : _) fits low.
+        let p = split (value_parts value) (takes_mark mark.Semicolon ∷ []) (x.0, s.1) z x.2 in
+        let read = optional_again below mark.Semicolon value (x.0, s.1) p.0 refl p.1 (omega arith) (rw (taken p.2.2) refl) (rw (taken p.2.2) (omega arith)) in
+        by_keyword below rank at keyword.Return x.0 s x.1 refl ∙ rw (read, taken p.2.2) (ap (λ (w : State). Some (stmt.Return at value, w)) p.2.3));
+  }
 
   again_steps : StmtSteps Again
   again_steps = record {

@@ -34,10 +34,13 @@ module _ (sound : (limit : ℕ) → SoundBelow limit (rules limit)) (complete : 
   spelled_by : (tokens : List Token) (scope : Scope) (first : Token) (r : Reading Stmt) → stmt_at limit 0 (tokens, scope) ≡ r → Spelled tokens scope first (whole first.start r)
   spelled_by tokens scope first None e = (refl, λ x d. let f = stmt_again complete limit 0 (tokens, scope) ([], d.0) x d.1 in cc)
   spelled_by tokens scope first (Some (x, ([], after))) e = (after, stmt_takes sound limit 0 (tokens, scope) ([], after) x e)
-  spelled_by tokens scope first (Some (x, (t ∷ rest, after))) e = (refl, λ x' d.
-      let f = stmt_again complete limit 0 (tokens, scope) ([], d.0) x' d.1 in
-      let g = ap (λ (p : Stmt × State). p.1.0) (same_Some (x', ([], d.0)) (x, (t ∷ rest, after)) (sym f ∙ e)) in
-      cc)
+  spelled_by tokens scope first (Some (x, (t ∷ rest, after))) e = (
+    refl,
+    λ x' d.
+        let f = stmt_again complete limit 0 (tokens, scope) ([], d.0) x' d.1 in
+        let g = ap (λ (p : Stmt × State). p.1.0) (same_Some (x', ([], d.0)) (x, (t ∷ rest, after)) (sym f ∙ e)) in
+        cc,
+  )
 
   whole_by : (tokens : List Token) (scope : Scope) (first : Token) (b : Body) (r : Reading Stmt) → stmt_at limit 0 (tokens, scope) ≡ r → Spelled tokens scope first b → whole first.start r ≡ b
   whole_by tokens scope first (body.Read x) r e d = let f = stmt_again complete limit 0 (tokens, scope) ([], d.0) x d.1 in rw (sym e ∙ f) refl

@@ -92,8 +92,8 @@ unfoldable pub more_items_at : Rules → Inside → ℕ → State → Reading (L
 more_items_at r inside zero s = None
 more_items_at r inside (suc n) s = cond (begins mark.Comma s)
     (expect mark.Comma s >>= (λ c. cond (begins mark.RightBrace c.2)
-        (Some (([], true), c.2))
-        (item_at r inside c.2 >>= (λ x. more_items_at r inside n x.1 >>= (λ more. Some ((x.0 ∷ more.0.0, more.0.1), more.1))))))
+    (Some (([], true), c.2))
+    (item_at r inside c.2 >>= (λ x. more_items_at r inside n x.1 >>= (λ more. Some ((x.0 ∷ more.0.0, more.0.1), more.1))))))
     (Some (([], false), s))
 
 unfoldable pub items_at : Rules → Inside → State → Reading (List InitializerItem × Bool)
@@ -175,8 +175,8 @@ unfoldable pub declaration_at : Rules → Inside → State → Reading Declarati
 declaration_at r inside s = do
   xs ← specification_at r s
   cond (begins mark.Semicolon xs.1)
-    (expect mark.Semicolon xs.1 >>= (λ end. Some (no_declarators xs.0, end.2)))
-    (declaring_at r (makes_types xs.0) xs.1 >>= (λ d. declaration_behind_at r inside xs.0 d.0 d.1))
+      (expect mark.Semicolon xs.1 >>= (λ end. Some (no_declarators xs.0, end.2)))
+      (declaring_at r (makes_types xs.0) xs.1 >>= (λ d. declaration_behind_at r inside xs.0 d.0 d.1))
 
 -- ---- statements
 
@@ -422,8 +422,8 @@ unfoldable pub declared_external_at : State → Reading External
 declared_external_at s = do
   xs ← specification_at (rules limit) s
   cond (begins mark.Semicolon xs.1)
-    (expect mark.Semicolon xs.1 >>= (λ end. Some (external.Declared (no_declarators xs.0), end.2)))
-    (declaring_at (rules limit) (makes_types xs.0) xs.1 >>= (λ d. behind_declarator_at xs.0 d.0 d.1))
+      (expect mark.Semicolon xs.1 >>= (λ end. Some (external.Declared (no_declarators xs.0), end.2)))
+      (declaring_at (rules limit) (makes_types xs.0) xs.1 >>= (λ d. behind_declarator_at xs.0 d.0 d.1))
 
 unfoldable pub external_at : State → Reading External
 external_at s = cond (begins mark.Semicolon s) (expect mark.Semicolon s >>= (λ end. Some (external.Empty end.1, end.2))) (declared_external_at s)

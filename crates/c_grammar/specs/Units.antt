@@ -81,7 +81,7 @@ makes_types [] = false
 makes_types (x ∷ xs) = is_typedef_word x || makes_types xs
 
 abbrev pub name_of : Form → Name
-name_of d = elim d.name as (λ _. Name) [ | None ↦ [] | Some name ↦ name ]
+name_of d = elim d.name as (λ _. Name) [ None ↦ [] | Some name ↦ name ]
 
 -- a declarator of a declaration; its name is in scope from its end on (6.2.1)
 abbrev pub declaring_parts : Bool → Declarator → List Part

@@ -12,3 +12,6 @@ pub use operators::{
     unary_of, word_specifier,
 };
 pub use type_words::{TypeKind, TypeWords};
+
+#[cfg(test)]
+mod tests;

@@ -1,0 +1,5 @@
+pub mod Same
+pub mod Found
+pub mod KindMap
+pub mod Knowing
+pub mod Usual
