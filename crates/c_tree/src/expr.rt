@@ -109,22 +109,38 @@ pub enum ArrayWord {
 #[derive(Drop)]
 pub enum Expr {
     /// An integer constant (C99 6.4.4.1).
-    Integer { at: u32, constant: IntegerConstant },
+    Integer {
+        at: u32,
+        constant: IntegerConstant,
+    },
     /// A floating constant (C99 6.4.4.2), whose value no rule uses.
-    Floating { at: u32 },
+    Floating {
+        at: u32,
+    },
     /// A character constant (C99 6.4.4.4), by its value.
-    Character { at: u32, value: i32 },
+    Character {
+        at: u32,
+        value: i32,
+    },
     /// Adjacent string literals (C99 6.4.5), each by the bytes that it stands for; there is one at least.
     StringLiteral {
         at: u32,
         pieces: Items<Shared<Bytes>>,
     },
     /// `__func__` (C99 6.4.2.2).
-    FunctionName { at: u32 },
+    FunctionName {
+        at: u32,
+    },
     /// A name of an object, a function or an enumeration constant (C99 6.5.1).
-    Identifier { at: u32, name: Name },
+    Identifier {
+        at: u32,
+        name: Name,
+    },
     /// An expression in parentheses (C99 6.5.1).
-    Parenthesized { at: u32, inner: Shared<Expr> },
+    Parenthesized {
+        at: u32,
+        inner: Shared<Expr>,
+    },
     /// `array[index]` (C99 6.5.2.1).
     Subscript {
         at: u32,
@@ -162,7 +178,10 @@ pub enum Expr {
         operand: Shared<Expr>,
     },
     /// `sizeof operand` (C99 6.5.3.4).
-    SizeofExpr { at: u32, operand: Shared<Expr> },
+    SizeofExpr {
+        at: u32,
+        operand: Shared<Expr>,
+    },
     /// `sizeof (type)` (C99 6.5.3.4).
     SizeofType {
         at: u32,
@@ -215,12 +234,26 @@ pub struct TypeName {
 #[cycle(syntax)]
 #[derive(Drop)]
 pub enum Specifier {
-    Storage { at: u32, class: StorageClass },
-    Qualifier { at: u32, qualifier: Qualifier },
-    Inline { at: u32 },
-    Word { at: u32, word: TypeWord },
+    Storage {
+        at: u32,
+        class: StorageClass,
+    },
+    Qualifier {
+        at: u32,
+        qualifier: Qualifier,
+    },
+    Inline {
+        at: u32,
+    },
+    Word {
+        at: u32,
+        word: TypeWord,
+    },
     /// A typedef name (C99 6.7.7).
-    Typedef { at: u32, name: Name },
+    Typedef {
+        at: u32,
+        name: Name,
+    },
     /// `struct tag` or `union tag` without members (C99 6.7.2.3).
     Tag {
         at: u32,
@@ -235,7 +268,10 @@ pub enum Specifier {
         members: Items<Shared<MemberDeclaration>>,
     },
     /// `enum tag` without enumerators (C99 6.7.2.3).
-    EnumTag { at: u32, tag: Name },
+    EnumTag {
+        at: u32,
+        tag: Name,
+    },
     /// An enumeration with its enumerators, one at least (C99 6.7.2.2), and whether a comma follows the last.
     Enumeration {
         at: u32,
@@ -257,7 +293,9 @@ pub struct MemberDeclaration {
 #[cycle(syntax)]
 #[derive(Drop)]
 pub enum Field {
-    Plain { declarator: Shared<Declarator> },
+    Plain {
+        declarator: Shared<Declarator>,
+    },
     /// A bit-field, by the offset of its `:`; one without a name has no declarator.
     Bits {
         at: u32,
@@ -281,11 +319,17 @@ pub struct Enumerator {
 #[derive(Drop)]
 pub enum Declarator {
     /// The name that is declared.
-    Name { at: u32, name: Name },
+    Name {
+        at: u32,
+        name: Name,
+    },
     /// Where an abstract declarator has no name.
     Omitted,
     /// A declarator in parentheses.
-    Grouped { at: u32, inner: Shared<Declarator> },
+    Grouped {
+        at: u32,
+        inner: Shared<Declarator>,
+    },
     /// A pointer (C99 6.7.5.1).
     Pointer {
         at: u32,

@@ -16,7 +16,9 @@ pub enum Designator {
 #[cycle(initializer)]
 #[derive(Drop)]
 pub enum Initializer {
-    Value { value: Expr },
+    Value {
+        value: Expr,
+    },
     /// A braced list, by the offset of its brace, and whether a comma follows the last item.
     List {
         at: u32,
@@ -64,8 +66,13 @@ pub enum Stmt {
         at: u32,
         items: Items<Shared<Stmt>>,
     },
-    Declared { declaration: Declaration },
-    Value { at: u32, value: Option<Expr> },
+    Declared {
+        declaration: Declaration,
+    },
+    Value {
+        at: u32,
+        value: Option<Expr>,
+    },
     Label {
         at: u32,
         name: Name,
@@ -76,7 +83,10 @@ pub enum Stmt {
         value: Expr,
         body: Shared<Stmt>,
     },
-    Default { at: u32, body: Shared<Stmt> },
+    Default {
+        at: u32,
+        body: Shared<Stmt>,
+    },
     If {
         at: u32,
         condition: Expr,
@@ -105,10 +115,20 @@ pub enum Stmt {
         step: Option<Expr>,
         body: Shared<Stmt>,
     },
-    Goto { at: u32, name: Name },
-    Continue { at: u32 },
-    Break { at: u32 },
-    Return { at: u32, value: Option<Expr> },
+    Goto {
+        at: u32,
+        name: Name,
+    },
+    Continue {
+        at: u32,
+    },
+    Break {
+        at: u32,
+    },
+    Return {
+        at: u32,
+        value: Option<Expr>,
+    },
 }
 
 /// The body of a function (C99 6.9.1), by the offset of its `{`.
@@ -128,6 +148,10 @@ pub enum External {
         declarator: Declarator,
         body: Body,
     },
-    Declared { declaration: Declaration },
-    Empty { at: u32 },
+    Declared {
+        declaration: Declaration,
+    },
+    Empty {
+        at: u32,
+    },
 }
