@@ -101,27 +101,35 @@ fn with_units(alloc: Global, formula: &Formula, units: &[Lit]) -> Result<Formula
     Ok(whole)
 }
 
-/// The answer as a text, where its evidence holds.
-fn examined(alloc: Global, formula: &Formula, assume: &[Lit], answer: Answer) -> Result<String> {
-    let whole = with_units(alloc, formula, assume)?;
+/// How many steps a refutation of the formula has.
+fn refutation_steps(alloc: Global, formula: &Formula, refutation: &Refutation) -> Result<usize> {
+    let mut checker = Checker::with_room(alloc, formula, refutation)?;
+    checker.check(formula, refutation)?;
+    Ok(refutation.steps().len())
+}
+
+/// How many steps a trail over the formula has.
+fn trail_steps(alloc: Global, formula: &Formula, trail: &Refutation) -> Result<usize> {
+    let mut checker = Checker::with_room(alloc, formula, trail)?;
+    if checker.check(formula, trail) != Err(StepFault::NoEmptyClause) {
+        bail!("no trail");
+    }
+    Ok(trail.steps().len())
+}
+
+/// The answer as a text, where its evidence holds; `whole` is the formula with the assumptions as unit clauses last.
+fn examined(alloc: Global, formula: &Formula, whole: &Formula, answer: Answer) -> Result<String> {
     match answer {
         Answer::Sat(values) => {
-            ensure!(satisfies(&whole, &values), "no model");
+            ensure!(satisfies(whole, &values), "no model");
             Ok(format!(in alloc; "sat")?)
         }
         Answer::Unsat(refutation) => {
-            let mut checker = Checker::with_room(alloc, &whole, &refutation)?;
-            checker.check(&whole, &refutation)?;
-            let steps = refutation.steps().len();
+            let steps = refutation_steps(alloc, whole, &refutation)?;
             Ok(format!(in alloc; "unsat {steps}")?)
         }
         Answer::Spent(trail) => {
-            let steps = trail.steps.len();
-            let trail = Refutation::from_steps(trail.steps);
-            let mut checker = Checker::with_room(alloc, formula, &trail)?;
-            if checker.check(formula, &trail) != Err(StepFault::NoEmptyClause) {
-                bail!("no trail");
-            }
+            let steps = trail_steps(alloc, formula, &Refutation::from_steps(trail.steps))?;
             Ok(format!(in alloc; "spent {steps}")?)
         }
     }
@@ -163,7 +171,8 @@ fn solve(rt: &impl Print, alloc: Global, text: &str, conflicts: u32) -> Result<(
     let mut solver = solver_of(alloc, &formula)?;
     for assume in &questions {
         let answer = solver.solve(alloc, assume, conflicts)?;
-        let answer = examined(alloc, &formula, assume, answer)?;
+        let whole = with_units(alloc, &formula, assume)?;
+        let answer = examined(alloc, &formula, &whole, answer)?;
         println!(rt; "{answer}")?;
     }
     Ok(())
