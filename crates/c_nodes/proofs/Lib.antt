@@ -1,1 +1,4 @@
+pub mod DeclaratorNodes
 pub mod ExprNodes
+pub mod PieceNodes
+pub mod SpecifierNodes

@@ -1,0 +1,91 @@
+-- The heights and names of declarators that are made.
+use Rattle.std.proofs.Common.{◌≡◌, ℕ, List, [], ◌∷◌, ◌++◌, Option, Some, None, Bool, true, false, sym, ap, ◌∙◌, arith, ◌+◌}
+use Rattle.std.specs.Prelude.{max, map, option_map}
+use Rattle.c_tree.specs.declared.expr.Qualifier.{Qualifier}
+use Rattle.c_tree.specs.declared.expr.ArrayWord.{ArrayWord}
+use Rattle.c_tree.specs.declared.expr.Expr.{Expr}
+use Rattle.c_tree.specs.declared.expr.Parameter.{Parameter}
+use Rattle.c_tree.specs.declared.expr.Specifier.{Specifier}
+use Rattle.c_tree.specs.declared.expr.Declarator.{Declarator}
+use Rattle.c_tree.specs.declared.expr.Declarator.TheVariants as declarator
+use Rattle.c_grammar.specs.Parts.{Name}
+use Rattle.c_grammar.specs.Grammar.{shape, form, height_of, highest, highest_specifier, specifier_of, parameter_of}
+use Rattle.c_grammar.proofs.Equations.{form-Name, form-Omitted, form-Grouped, form-Pointer, form-Array, form-Function, parameter-is}
+
+pub height_name : (at : ℕ) (name : Name) → 1 ≡ (form (declarator.Name at name)).height
+height_name at name = sym (ap (λ w. w.height) (form-Name at name))
+
+pub name_name : (at : ℕ) (name : Name) → Some name ≡ (form (declarator.Name at name)).name
+name_name at name = sym (ap (λ w. w.name) (form-Name at name))
+
+pub derived_name : (at : ℕ) (name : Name) → false ≡ (form (declarator.Name at name)).derived
+derived_name at name = sym (ap (λ w. w.derived) (form-Name at name))
+
+pub height_omitted : 1 ≡ (form declarator.Omitted).height
+height_omitted = sym (ap (λ w. w.height) form-Omitted)
+
+pub name_omitted : None ≡ (form declarator.Omitted).name
+name_omitted = sym (ap (λ w. w.name) form-Omitted)
+
+pub derived_omitted : false ≡ (form declarator.Omitted).derived
+derived_omitted = sym (ap (λ w. w.derived) form-Omitted)
+
+pub height_grouped : (at : ℕ) (inner : Declarator) (h0 h : ℕ) → h0 ≡ (form inner).height → h ≡ h0 → h + 1 ≡ (form (declarator.Grouped at inner)).height
+height_grouped at inner h0 h e0 g =
+    let s = ap (λ w. w.height) (form-Grouped at inner) in
+    omega (arith, s)
+
+pub name_grouped : (at : ℕ) (inner : Declarator) (n : Option Name) → n ≡ (form inner).name → n ≡ (form (declarator.Grouped at inner)).name
+name_grouped at inner n e = e ∙ sym (ap (λ w. w.name) (form-Grouped at inner))
+
+pub derived_grouped : (at : ℕ) (inner : Declarator) (b : Bool) → b ≡ (form inner).derived → b ≡ (form (declarator.Grouped at inner)).derived
+derived_grouped at inner b e = e ∙ sym (ap (λ w. w.derived) (form-Grouped at inner))
+
+pub height_pointer : (at : ℕ) (qualifiers : List Qualifier) (target : Declarator) (h0 h : ℕ) → h0 ≡ (form target).height → h ≡ h0 → h + 1 ≡ (form (declarator.Pointer at qualifiers target)).height
+height_pointer at qualifiers target h0 h e0 g =
+    let s = ap (λ w. w.height) (form-Pointer at qualifiers target) in
+    omega (arith, s)
+
+pub name_pointer : (at : ℕ) (qualifiers : List Qualifier) (target : Declarator) (n : Option Name) → n ≡ (form target).name → n ≡ (form (declarator.Pointer at qualifiers target)).name
+name_pointer at qualifiers target n e = e ∙ sym (ap (λ w. w.name) (form-Pointer at qualifiers target))
+
+pub derived_pointer : (at : ℕ) (qualifiers : List Qualifier) (target : Declarator) → true ≡ (form (declarator.Pointer at qualifiers target)).derived
+derived_pointer at qualifiers target = sym (ap (λ w. w.derived) (form-Pointer at qualifiers target))
+
+pub height_array : (at : ℕ) (element : Declarator) (words : List ArrayWord) (length' : Option Expr) (h0 h1 h : ℕ) → h0 ≡ (form element).height → h1 ≡ height_of (option_map shape length') → h ≡ (max h0 h1) → h + 1 ≡ (form (declarator.Array at element words length')).height
+height_array at element words length' h0 h1 h e0 e1 g =
+    let s = ap (λ w. w.height) (form-Array at element words length') in
+    omega (arith, s)
+
+pub name_array : (at : ℕ) (element : Declarator) (words : List ArrayWord) (length' : Option Expr) (n : Option Name) → n ≡ (form element).name → n ≡ (form (declarator.Array at element words length')).name
+name_array at element words length' n e = e ∙ sym (ap (λ w. w.name) (form-Array at element words length'))
+
+pub derived_array : (at : ℕ) (element : Declarator) (words : List ArrayWord) (length' : Option Expr) → true ≡ (form (declarator.Array at element words length')).derived
+derived_array at element words length' = sym (ap (λ w. w.derived) (form-Array at element words length'))
+
+pub height_function : (at : ℕ) (result : Declarator) (parameters : List Parameter) (variadic : Bool) (h0 h1 h : ℕ) → h0 ≡ (form result).height → h1 ≡ highest (map parameter_of parameters) → h ≡ (max h0 h1) → h + 1 ≡ (form (declarator.Function at result parameters variadic)).height
+height_function at result parameters variadic h0 h1 h e0 e1 g =
+    let s = ap (λ w. w.height) (form-Function at result parameters variadic) in
+    omega (arith, s)
+
+pub name_function : (at : ℕ) (result : Declarator) (parameters : List Parameter) (variadic : Bool) (n : Option Name) → n ≡ (form result).name → n ≡ (form (declarator.Function at result parameters variadic)).name
+name_function at result parameters variadic n e = e ∙ sym (ap (λ w. w.name) (form-Function at result parameters variadic))
+
+pub derived_function : (at : ℕ) (result : Declarator) (parameters : List Parameter) (variadic : Bool) → true ≡ (form (declarator.Function at result parameters variadic)).derived
+derived_function at result parameters variadic = sym (ap (λ w. w.derived) (form-Function at result parameters variadic))
+
+pub height_parameter : (specifiers : List Specifier) (declarator : Declarator) (h0 h1 h : ℕ) → h0 ≡ highest_specifier (map specifier_of specifiers) → h1 ≡ (form declarator).height → h ≡ max h0 h1 → h ≡ (parameter_of (record { specifiers = specifiers; declarator = declarator })).height
+height_parameter specifiers declarator h0 h1 h e0 e1 g =
+    let s = ap (λ w. w.height) (parameter-is (record { specifiers = specifiers; declarator = declarator })) in
+    omega (arith, s)
+
+highest_more : (xs : List Parameter) (x : Parameter) → highest (map parameter_of (xs ++ x ∷ [])) ≡ max (highest (map parameter_of xs)) (parameter_of x).height
+highest_more [] x = omega arith
+highest_more (y ∷ ys) x =
+    let m = highest_more ys x in
+    omega (arith, m)
+
+pub height_parameters : (xs : List Parameter) (x : Parameter) (h0 h1 h : ℕ) → h0 ≡ highest (map parameter_of xs) → h1 ≡ (parameter_of x).height → h ≡ max h0 h1 → h ≡ highest (map parameter_of (xs ++ x ∷ []))
+height_parameters xs x h0 h1 h e0 e1 g =
+    let m = highest_more xs x in
+    omega (arith, m)

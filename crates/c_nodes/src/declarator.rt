@@ -1,0 +1,222 @@
+//! Declarators made of declarators, with their heights and names.
+ghost use Rattle.std.specs.Prelude.{◌≡◌, ◌≤◌, ◌<◌, ◌+◌, ◌++◌, ◌∷◌, [], false, true, IfOk, max};
+ghost use Rattle.c_tree.specs.declared.expr.Declarator.TheVariants as declarator;
+
+use crate::expr::most;
+use crate::found::{
+    FoundDeclarator, FoundOptional, FoundParameter, FoundParameters, FoundSpecifiers,
+};
+use c_lexer::Name;
+use c_tree::{ArrayWord, Declarator, Parameter, Qualifier};
+use plain_data::{Items, Shared};
+use std::alloc::{AllocError, Global};
+
+/// The name that is declared.
+#[tactic(auto, using(crate::proofs::DeclaratorNodes::height_name, crate::proofs::DeclaratorNodes::name_name, crate::proofs::DeclaratorNodes::derived_name))]
+pub fn name(at: u32, name: Name) -> Result<FoundDeclarator, AllocError>
+    ensures tree { IfOk result (λ f. f.tree ≡ declarator.Name at name) }
+    ensures height { IfOk result (λ f. f.height ≡ 1) }
+{
+    let tree = Declarator::Name {
+        at,
+        name: name.clone()?,
+    };
+    Ok(FoundDeclarator {
+        tree,
+        height: 1,
+        name: Some(name),
+        derived: false,
+    })
+}
+
+/// No name.
+#[tactic(auto, using(crate::proofs::DeclaratorNodes::height_omitted, crate::proofs::DeclaratorNodes::name_omitted, crate::proofs::DeclaratorNodes::derived_omitted))]
+pub fn omitted() -> FoundDeclarator
+    ensures tree { result.tree ≡ declarator.Omitted }
+    ensures height { result.height ≡ 1 }
+{
+    FoundDeclarator {
+        tree: Declarator::Omitted,
+        height: 1,
+        name: None,
+        derived: false,
+    }
+}
+
+/// A declarator in parentheses.
+#[tactic(auto, using(crate::proofs::DeclaratorNodes::height_grouped, crate::proofs::DeclaratorNodes::name_grouped, crate::proofs::DeclaratorNodes::derived_grouped))]
+pub fn grouped(
+    alloc: Global,
+    at: u32,
+    inner: FoundDeclarator,
+) -> Result<FoundDeclarator, AllocError>
+    requires low_inner { inner.height < 1000 }
+    ensures tree { IfOk result (λ f. f.tree ≡ declarator.Grouped at inner.tree) }
+    ensures height { IfOk result (λ f. f.height ≡ inner.height + 1) }
+{
+    let height = inner.height + 1;
+    let name = inner.name;
+    let derived = inner.derived;
+    let inner = Shared::new(alloc, inner.tree)?;
+    Ok(FoundDeclarator {
+        tree: Declarator::Grouped { at, inner },
+        height,
+        name,
+        derived,
+    })
+}
+
+/// A pointer.
+#[tactic(auto, using(crate::proofs::DeclaratorNodes::height_pointer, crate::proofs::DeclaratorNodes::name_pointer, crate::proofs::DeclaratorNodes::derived_pointer))]
+pub fn pointer(
+    alloc: Global,
+    at: u32,
+    qualifiers: Items<Qualifier>,
+    target: FoundDeclarator,
+) -> Result<FoundDeclarator, AllocError>
+    requires low_target { target.height < 1000 }
+    ensures tree { IfOk result (λ f. f.tree ≡ declarator.Pointer at qualifiers target.tree) }
+    ensures height { IfOk result (λ f. f.height ≡ target.height + 1) }
+{
+    let height = target.height + 1;
+    let name = target.name;
+    let target = Shared::new(alloc, target.tree)?;
+    Ok(FoundDeclarator {
+        tree: Declarator::Pointer {
+            at,
+            qualifiers,
+            target,
+        },
+        height,
+        name,
+        derived: true,
+    })
+}
+
+/// An array.
+#[tactic(auto, using(crate::proofs::DeclaratorNodes::height_array, crate::proofs::DeclaratorNodes::name_array, crate::proofs::DeclaratorNodes::derived_array))]
+pub fn array(
+    alloc: Global,
+    at: u32,
+    element: FoundDeclarator,
+    words: Items<ArrayWord>,
+    length: FoundOptional,
+) -> Result<FoundDeclarator, AllocError>
+    requires low_element { element.height < 1000 }
+    requires low_length { length.height < 1000 }
+    ensures tree { IfOk result (λ f. f.tree ≡ declarator.Array at element.tree words length.tree) }
+    ensures height { IfOk result (λ f. f.height ≡ (max element.height length.height) + 1) }
+{
+    let height = most(element.height, length.height) + 1;
+    let name = element.name;
+    let element = Shared::new(alloc, element.tree)?;
+    Ok(FoundDeclarator {
+        tree: Declarator::Array {
+            at,
+            element,
+            words,
+            length: length.tree,
+        },
+        height,
+        name,
+        derived: true,
+    })
+}
+
+/// A function and its parameters.
+#[tactic(auto, using(crate::proofs::DeclaratorNodes::height_function, crate::proofs::DeclaratorNodes::name_function, crate::proofs::DeclaratorNodes::derived_function))]
+pub fn function(
+    alloc: Global,
+    at: u32,
+    returned: FoundDeclarator,
+    parameters: FoundParameters,
+) -> Result<FoundDeclarator, AllocError>
+    requires low_returned { returned.height < 1000 }
+    requires low_parameters { parameters.height < 1000 }
+    ensures tree { IfOk result (λ f. f.tree ≡ declarator.Function at returned.tree parameters.trees parameters.variadic) }
+    ensures height { IfOk result (λ f. f.height ≡ (max returned.height parameters.height) + 1) }
+{
+    let height = most(returned.height, parameters.height) + 1;
+    let name = returned.name;
+    let result = Shared::new(alloc, returned.tree)?;
+    Ok(FoundDeclarator {
+        tree: Declarator::Function {
+            at,
+            result,
+            parameters: parameters.trees,
+            variadic: parameters.variadic,
+        },
+        height,
+        name,
+        derived: true,
+    })
+}
+
+/// A parameter.
+#[tactic(auto, using(crate::proofs::DeclaratorNodes::height_parameter))]
+pub fn parameter(
+    alloc: Global,
+    specifiers: FoundSpecifiers,
+    declarator: FoundDeclarator,
+) -> Result<FoundParameter, AllocError>
+    ensures tree { IfOk result (λ f. f.tree ≡ record { specifiers = specifiers.trees; declarator = declarator.tree }) }
+    ensures height { IfOk result (λ f. f.height ≡ max specifiers.height declarator.height) }
+{
+    let height = most(specifiers.height, declarator.height);
+    let declarator = Shared::new(alloc, declarator.tree)?;
+    Ok(FoundParameter {
+        tree: Parameter {
+            specifiers: specifiers.trees,
+            declarator,
+        },
+        height,
+    })
+}
+
+/// No parameters yet.
+pub fn no_parameters(alloc: Global) -> FoundParameters
+    ensures trees { result.trees ≡ [] }
+    ensures height { result.height ≡ 0 }
+    ensures variadic { result.variadic ≡ false }
+{
+    FoundParameters {
+        trees: Items::new(alloc),
+        variadic: false,
+        height: 0,
+    }
+}
+
+/// Parameters and one more behind them.
+#[tactic(auto, using(crate::proofs::DeclaratorNodes::height_parameters))]
+pub fn and_parameter(
+    alloc: Global,
+    all: FoundParameters,
+    last: FoundParameter,
+) -> Result<FoundParameters, AllocError>
+    ensures trees { IfOk result (λ f. f.trees ≡ all.trees ++ last.tree ∷ []) }
+    ensures height { IfOk result (λ f. f.height ≡ max all.height last.height) }
+    ensures variadic { IfOk result (λ f. f.variadic ≡ all.variadic) }
+{
+    let height = most(all.height, last.height);
+    let variadic = all.variadic;
+    let mut trees = all.trees;
+    trees.push(Shared::new(alloc, last.tree)?)?;
+    Ok(FoundParameters {
+        trees,
+        variadic,
+        height,
+    })
+}
+
+/// Parameters with `...` behind them.
+pub fn variadic(all: FoundParameters) -> FoundParameters
+    ensures trees { result.trees ≡ all.trees }
+    ensures height { result.height ≡ all.height }
+    ensures variadic { result.variadic ≡ true }
+{
+    FoundParameters {
+        trees: all.trees,
+        variadic: true,
+        height: all.height,
+    }
+}
