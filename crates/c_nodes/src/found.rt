@@ -1,12 +1,14 @@
 //! Trees that were read, with what the grammar says of them, found as they are made and never computed again.
 ghost use Rattle.std.specs.Prelude.{◌≡◌, map, option_map};
-ghost use Rattle.c_grammar.specs.Grammar.{shape, type_name_of, specifier_of, parameter_of, form, form_height, enumerator_of, field_of, height_of, highest, highest_specifier};
+ghost use Rattle.c_grammar.specs.Grammar.{shape, type_name_of, specifier_of, parameter_of, form, form_height, enumerator_of, field_of, member_of, height_of, highest, highest_specifier};
 ghost use Rattle.c_grammar.specs.Reading.{kind_of};
 ghost use Rattle.c_grammar.specs.TypeWords.{none, words_from};
 
 use c_grammar::{TypeKind, TypeWords};
 use c_lexer::Name;
-use c_tree::{Declarator, Enumerator, Expr, Field, Parameter, Specifier, TypeName};
+use c_tree::{
+    Declarator, Enumerator, Expr, Field, MemberDeclaration, Parameter, Specifier, TypeName,
+};
 use plain_data::{Items, Shared};
 
 /// An expression, how loosely it binds, and its height.
@@ -106,4 +108,28 @@ pub struct FoundField {
     pub tree: Field,
     pub height: u32,
     pub ghost height_is: { height ≡ (field_of tree).height },
+}
+
+/// Members of one declaration, and the height of the highest.
+#[derive(Drop)]
+pub struct FoundFields {
+    pub trees: Items<Shared<Field>>,
+    pub height: u32,
+    pub ghost height_is: { height ≡ highest (map field_of trees) },
+}
+
+/// A declaration of members and its height.
+#[derive(Drop)]
+pub struct FoundMember {
+    pub tree: MemberDeclaration,
+    pub height: u32,
+    pub ghost height_is: { height ≡ (member_of tree).height },
+}
+
+/// Declarations of members, and the height of the highest.
+#[derive(Drop)]
+pub struct FoundMembers {
+    pub trees: Items<Shared<MemberDeclaration>>,
+    pub height: u32,
+    pub ghost height_is: { height ≡ highest (map member_of trees) },
 }

@@ -8,6 +8,7 @@ pub mod pieces;
 pub mod specifier;
 
 pub use found::{
-    FoundDeclarator, FoundEnumerator, FoundExpr, FoundField, FoundFieldName, FoundOptional,
-    FoundParameter, FoundParameters, FoundSpecifier, FoundSpecifiers, FoundType,
+    FoundDeclarator, FoundEnumerator, FoundExpr, FoundField, FoundFieldName, FoundFields,
+    FoundMember, FoundMembers, FoundOptional, FoundParameter, FoundParameters, FoundSpecifier,
+    FoundSpecifiers, FoundType,
 };

@@ -1,14 +1,15 @@
 //! Enumerators and members, with their heights.
-ghost use Rattle.std.specs.Prelude.{◌≡◌, IfOk, Some, None, max};
+ghost use Rattle.std.specs.Prelude.{◌≡◌, ◌++◌, ◌∷◌, [], IfOk, Some, None, max};
 ghost use Rattle.c_tree.specs.declared.expr.Field.TheVariants as field;
 
 use crate::expr::most;
 use crate::found::{
-    FoundDeclarator, FoundEnumerator, FoundExpr, FoundField, FoundFieldName, FoundOptional,
+    FoundDeclarator, FoundEnumerator, FoundExpr, FoundField, FoundFieldName, FoundFields,
+    FoundMember, FoundMembers, FoundOptional, FoundSpecifiers,
 };
 use c_lexer::Name;
-use c_tree::{Enumerator, Field};
-use plain_data::Shared;
+use c_tree::{Enumerator, Field, MemberDeclaration};
+use plain_data::{Items, Shared};
 use std::alloc::{AllocError, Global};
 
 /// An enumerator.
@@ -86,4 +87,74 @@ pub fn bits(
         },
         height,
     })
+}
+
+/// No members yet.
+pub fn no_fields(alloc: Global) -> FoundFields
+    ensures trees { result.trees ≡ [] }
+    ensures height { result.height ≡ 0 }
+{
+    FoundFields {
+        trees: Items::new(alloc),
+        height: 0,
+    }
+}
+
+/// Members and one more behind them.
+#[tactic(auto, using(crate::proofs::PieceNodes::height_fields))]
+pub fn and_field(
+    alloc: Global,
+    all: FoundFields,
+    last: FoundField,
+) -> Result<FoundFields, AllocError>
+    ensures trees { IfOk result (λ f. f.trees ≡ all.trees ++ last.tree ∷ []) }
+    ensures height { IfOk result (λ f. f.height ≡ max all.height last.height) }
+{
+    let height = most(all.height, last.height);
+    let mut trees = all.trees;
+    trees.push(Shared::new(alloc, last.tree)?)?;
+    Ok(FoundFields { trees, height })
+}
+
+/// A declaration of members.
+#[tactic(auto, using(crate::proofs::PieceNodes::height_member))]
+pub fn member(specifiers: FoundSpecifiers, fields: FoundFields) -> FoundMember
+    ensures tree { result.tree ≡ record { specifiers = specifiers.trees; fields = fields.trees } }
+    ensures height { result.height ≡ max specifiers.height fields.height }
+{
+    let height = most(specifiers.height, fields.height);
+    FoundMember {
+        tree: MemberDeclaration {
+            specifiers: specifiers.trees,
+            fields: fields.trees,
+        },
+        height,
+    }
+}
+
+/// No declarations of members yet.
+pub fn no_members(alloc: Global) -> FoundMembers
+    ensures trees { result.trees ≡ [] }
+    ensures height { result.height ≡ 0 }
+{
+    FoundMembers {
+        trees: Items::new(alloc),
+        height: 0,
+    }
+}
+
+/// Declarations of members and one more behind them.
+#[tactic(auto, using(crate::proofs::PieceNodes::height_members))]
+pub fn and_member(
+    alloc: Global,
+    all: FoundMembers,
+    last: FoundMember,
+) -> Result<FoundMembers, AllocError>
+    ensures trees { IfOk result (λ f. f.trees ≡ all.trees ++ last.tree ∷ []) }
+    ensures height { IfOk result (λ f. f.height ≡ max all.height last.height) }
+{
+    let height = most(all.height, last.height);
+    let mut trees = all.trees;
+    trees.push(Shared::new(alloc, last.tree)?)?;
+    Ok(FoundMembers { trees, height })
 }

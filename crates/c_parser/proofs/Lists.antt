@@ -2,19 +2,18 @@
 use Rattle.std.proofs.Common.{◌≡◌, ◌-◌, ◌+◌, ℕ, zero, suc, List, [], ◌∷◌, ◌++◌, length, drop, Option, Some, None, Bool, true, false, refl, sym, ap, ◌∙◌, arith, append_assoc, ◌||◌}
 use Rattle.c_lexer.specs.declared.token.TokenKind.{TokenKind}
 use Rattle.c_lexer.specs.declared.token.Token.{Token}
+use Rattle.c_lexer.specs.declared.token.Punctuator.TheVariants as mark
 use Rattle.c_tree.specs.declared.expr.Specifier.{Specifier}
+use Rattle.c_tree.specs.declared.expr.Field.{Field}
+use Rattle.c_tree.specs.declared.expr.MemberDeclaration.{MemberDeclaration}
 use Rattle.c_grammar.specs.declared.type_words.TypeKind.{TypeKind}
 use Rattle.c_grammar.specs.Grammar.{specifier_of}
 use Rattle.c_grammar.specs.TypeWords.{is_type}
 use Rattle.c_grammar.specs.Parts.{State, Scope, specifies_in}
-use Rattle.c_grammar.specs.Reading.{Reading, Rules, ◌>>=◌, run_at, begins_by, kind_of, specifiers_at}
+use Rattle.c_grammar.specs.Reading.{Reading, Rules, ◌>>=◌, run_at, begins_by, kind_of, specifiers_at, begins, expect, field_at, more_fields_at, member_at, members_at}
 use Rattle.c_parser.specs.declared.fault.ParseFault.{ParseFault}
 use Rattle.c_parser.specs.declared.fault.ParseFault.TheVariants as fault
-use Rattle.c_parser.specs.Cursor.{Fails, Takes, taken_by}
-
--- what was read, with these before it
-abbrev pub after : {A : Type 0} → List A → Reading (List A) → Reading (List A)
-after front read = read >>= (λ x. Some (front ++ x.0, x.1))
+use Rattle.c_parser.specs.Cursor.{Fails, Takes, after, taken_by}
 
 pub after_nothing : {A : Type 0} (read : Reading (List A)) → after [] read ≡ read
 after_nothing None = refl
@@ -112,3 +111,61 @@ specifiers_next r m left typed now front all k x s z whole e goes is kind typing
     ap (λ l. after l (specifiers_at r m now z)) appended
     ∙ ap (λ b. after (front ++ x ∷ []) (specifiers_at r m b z)) (typing ∙ ap (λ w. typed || is_type w) kind)
     ∙ specifiers_go r m left typed front x s z whole e goes is reads
+
+-- ---- fields
+
+field_none : (r : Rules) (m left : ℕ) (s : State) → left ≡ suc m → begins mark.Comma s ≡ false → more_fields_at r left s ≡ Some ([], s)
+unfolding more_fields_at
+field_none r m left s e none = rw (e, none) refl
+
+field_step : (r : Rules) (m left at : ℕ) (s z : State) (read : Reading Field) → left ≡ suc m → begins mark.Comma s ≡ true → expect mark.Comma s ≡ Some (tt, at, z) → field_at r z ≡ read
+    → more_fields_at r left s ≡ (read >>= (λ x. more_fields_at r m x.1 >>= (λ more. Some (x.0 ∷ more.0, more.1))))
+unfolding more_fields_at
+field_step r m left at s z read e goes is reads = rw (e, goes, is, reads) refl
+
+field_zero : (r : Rules) (left : ℕ) (s : State) → left ≡ 0 → more_fields_at r left s ≡ None
+unfolding more_fields_at
+field_zero r left s e = rw e refl
+
+pub fields_stop : (r : Rules) (m left : ℕ) (front : List Field) (s : State) (whole : Reading (List Field)) → left ≡ suc m → begins mark.Comma s ≡ false → after front (more_fields_at r left s) ≡ whole → whole ≡ Some (front, s)
+fields_stop r m left front s whole e none reads = stopped front (more_fields_at r left s) whole s (field_none r m left s e none) reads
+
+pub fields_fail : (r : Rules) (m left at : ℕ) (front : List Field) (s z : State) (whole : Reading (List Field)) (f : ParseFault) → left ≡ suc m → begins mark.Comma s ≡ true → expect mark.Comma s ≡ Some (tt, at, z) → Fails f (field_at r z) → after front (more_fields_at r left s) ≡ whole → Fails f whole
+fields_fail r m left at front s z whole fault.Memory e goes is none reads = tt
+fields_fail r m left at front s z whole (fault.Syntax p) e goes is none reads = failed front (more_fields_at r left s) whole (field_step r m left at s z None e goes is none) reads
+
+pub fields_next : (r : Rules) (m left at : ℕ) (front all : List Field) (x : Field) (s z w : State) (whole : Reading (List Field)) → left ≡ suc m → begins mark.Comma s ≡ true → expect mark.Comma s ≡ Some (tt, at, z) → field_at r z ≡ Some (x, w) → all ≡ front ++ x ∷ [] → after front (more_fields_at r left s) ≡ whole → after all (more_fields_at r m w) ≡ whole
+fields_next r m left at front all x s z w whole e goes is took appended reads =
+    ap (λ l. after l (more_fields_at r m w)) appended ∙ turned front x (more_fields_at r left s) (more_fields_at r m w) whole (field_step r m left at s z (Some (x, w)) e goes is took) reads
+
+pub fields_out : (r : Rules) (left : ℕ) (front : List Field) (s : State) (whole : Reading (List Field)) → left ≡ 0 → after front (more_fields_at r left s) ≡ whole → whole ≡ None
+fields_out r left front s whole e reads = failed front (more_fields_at r left s) whole (field_zero r left s e) reads
+
+-- ---- members
+
+member_none : (r : Rules) (m left : ℕ) (s : State) → left ≡ suc m → begins mark.RightBrace s ≡ true → members_at r left s ≡ Some ([], s)
+unfolding members_at
+member_none r m left s e none = rw (e, none) refl
+
+member_step : (r : Rules) (m left : ℕ) (s : State) (read : Reading MemberDeclaration) → left ≡ suc m → begins mark.RightBrace s ≡ false → member_at r s ≡ read
+    → members_at r left s ≡ (read >>= (λ x. members_at r m x.1 >>= (λ more. Some (x.0 ∷ more.0, more.1))))
+unfolding members_at
+member_step r m left s read e goes reads = rw (e, goes, reads) refl
+
+member_zero : (r : Rules) (left : ℕ) (s : State) → left ≡ 0 → members_at r left s ≡ None
+unfolding members_at
+member_zero r left s e = rw e refl
+
+pub members_stop : (r : Rules) (m left : ℕ) (front : List MemberDeclaration) (s : State) (whole : Reading (List MemberDeclaration)) → left ≡ suc m → begins mark.RightBrace s ≡ true → after front (members_at r left s) ≡ whole → whole ≡ Some (front, s)
+members_stop r m left front s whole e none reads = stopped front (members_at r left s) whole s (member_none r m left s e none) reads
+
+pub members_fail : (r : Rules) (m left : ℕ) (front : List MemberDeclaration) (s : State) (whole : Reading (List MemberDeclaration)) (f : ParseFault) → left ≡ suc m → begins mark.RightBrace s ≡ false → Fails f (member_at r s) → after front (members_at r left s) ≡ whole → Fails f whole
+members_fail r m left front s whole fault.Memory e goes none reads = tt
+members_fail r m left front s whole (fault.Syntax p) e goes none reads = failed front (members_at r left s) whole (member_step r m left s None e goes none) reads
+
+pub members_next : (r : Rules) (m left : ℕ) (front all : List MemberDeclaration) (x : MemberDeclaration) (s w : State) (whole : Reading (List MemberDeclaration)) → left ≡ suc m → begins mark.RightBrace s ≡ false → member_at r s ≡ Some (x, w) → all ≡ front ++ x ∷ [] → after front (members_at r left s) ≡ whole → after all (members_at r m w) ≡ whole
+members_next r m left front all x s w whole e goes took appended reads =
+    ap (λ l. after l (members_at r m w)) appended ∙ turned front x (members_at r left s) (members_at r m w) whole (member_step r m left s (Some (x, w)) e goes took) reads
+
+pub members_out : (r : Rules) (left : ℕ) (front : List MemberDeclaration) (s : State) (whole : Reading (List MemberDeclaration)) → left ≡ 0 → after front (members_at r left s) ≡ whole → whole ≡ None
+members_out r left front s whole e reads = failed front (members_at r left s) whole (member_zero r left s e) reads

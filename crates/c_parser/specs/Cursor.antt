@@ -39,3 +39,7 @@ Takes wanted (Some a) s z = taken_by wanted s.0 s.1 ≡ Some (a, z)
 -- what was read of a list, with these before it
 abbrev pub behind : {A B : Type 0} → List A → Reading (List A × B) → Reading (List A × B)
 behind front read = read >>= (λ x. Some ((front ++ x.0.0, x.0.1), x.1))
+
+-- the same of a list whose end says no more
+abbrev pub after : {A : Type 0} → List A → Reading (List A) → Reading (List A)
+after front read = read >>= (λ x. Some (front ++ x.0, x.1))

@@ -19,6 +19,7 @@ impl<'a> Source<'a> {
         self.tokens.len().saturating_sub(c.position) + 1
     }
 
+    /// Takes the next token where it is a type qualifier.
     fn take_qualifier(&self, c: &mut Cursor) -> Option<Qualifier>
         ensures { Takes spec.a_qualifier result (here self.now c.old) (here self.now c.new) }
     {
@@ -37,6 +38,7 @@ impl<'a> Source<'a> {
         }
     }
 
+    /// Takes the next token where it may stand first between the brackets of an array.
     fn take_array_word(&self, c: &mut Cursor) -> Option<ArrayWord>
         ensures { Takes spec.an_array_word result (here self.now c.old) (here self.now c.new) }
     {

@@ -1,7 +1,6 @@
 use Rattle.std.proofs.Common.{◌≡◌, ◌≤◌, length, suc, false}
 use Rattle.c_grammar.specs.Reading.{rules, specifiers_at}
-use Rattle.c_parser.specs.Cursor.{here}
-use Rattle.c_parser.proofs.Lists.{after}
+use Rattle.c_parser.specs.Cursor.{here, after}
 use Rattle.c_parser.proofs.below.Below.specifiers.Given as goal
 
 abbrev pub invariant-specifiers : goal.invariant-specifiers

@@ -1,7 +1,6 @@
 use Rattle.std.proofs.Common.{◌≡◌, length, suc}
 use Rattle.c_grammar.specs.Reading.{run_at, an_array_word}
-use Rattle.c_parser.specs.Cursor.{here}
-use Rattle.c_parser.proofs.Lists.{after}
+use Rattle.c_parser.specs.Cursor.{here, after}
 use Rattle.c_parser.proofs.cursor.Source.array_words.Given as goal
 
 abbrev pub invariant-run : goal.invariant-run
