@@ -6,10 +6,7 @@ if ! command -v cc >/dev/null; then
     echo "rows: skipped, there is no cc"
     exit 0
 fi
-program=$PWD/crates/text_rows/out/text_rows
-if [ ! -x "$program" ] || [ -n "$(find crates/*/src -newer "$program" -name '*.rt' -print -quit)" ]; then
-    (cd crates/text_rows && rt run <stdin >/dev/null 2>&1)
-fi
+program=$(tools/program.sh text_rows) || exit 1
 folder=$(mktemp -d)
 trap 'rm -rf "$folder"' EXIT
 for table in words printf; do

@@ -8,10 +8,7 @@ if ! command -v cc >/dev/null; then
     echo "solver: skipped, there is no cc"
     exit 0
 fi
-program=$PWD/crates/sat_bench/out/sat_bench
-if [ ! -x "$program" ] || [ -n "$(find crates/*/src -newer "$program" -name '*.rt' -print -quit)" ]; then
-    (cd crates/sat_bench && rt run <stdin >/dev/null 2>&1)
-fi
+program=$(tools/program.sh sat_bench) || exit 1
 others=()
 for tool in minisat cadical; do
     if command -v "$tool" >/dev/null; then

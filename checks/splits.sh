@@ -6,10 +6,7 @@ if ! command -v cc >/dev/null; then
     echo "splits: skipped, there is no cc"
     exit 0
 fi
-program=$PWD/crates/split_rows/out/split_rows
-if [ ! -x "$program" ] || [ -n "$(find crates/*/src -newer "$program" -name '*.rt' -print -quit)" ]; then
-    (cd crates/split_rows && rt run <stdin >/dev/null 2>&1)
-fi
+program=$(tools/program.sh split_rows) || exit 1
 folder=$(mktemp -d)
 trap 'rm -rf "$folder"' EXIT
 cc -std=gnu99 -O1 -w -o "$folder/rows_of_c" checks/split_rows.c
