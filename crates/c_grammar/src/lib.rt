@@ -8,8 +8,8 @@ mod type_words;
 
 pub use declarator_place::DeclaratorPlace;
 pub use operators::{
-    Infix, aggregate_of, array_word_of, binding_of, infix_of, operand_rank, qualifier_of, rank_of,
-    unary_of, word_specifier,
+    Infix, aggregate_of, array_word_of, binding_of, class_of, infix_of, operand_rank, qualifier_of,
+    rank_of, type_word_of, unary_of, word_specifier,
 };
 pub use type_words::{TypeKind, TypeWords};
 

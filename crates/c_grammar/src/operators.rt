@@ -170,7 +170,8 @@ pub fn aggregate_of(keyword: Keyword) -> Option<AggregateKind>
     }
 }
 
-fn class_of(keyword: Keyword) -> Option<StorageClass>
+/// The storage class that a keyword is (C99 6.7.1).
+pub fn class_of(keyword: Keyword) -> Option<StorageClass>
     ensures { result ≡ spec.class_of keyword }
 {
     match keyword {
@@ -183,7 +184,8 @@ fn class_of(keyword: Keyword) -> Option<StorageClass>
     }
 }
 
-fn type_word_of(keyword: Keyword) -> Option<TypeWord>
+/// The type specifier that a keyword is by itself (C99 6.7.2).
+pub fn type_word_of(keyword: Keyword) -> Option<TypeWord>
     ensures { result ≡ spec.type_word_of keyword }
 {
     match keyword {

@@ -1,3 +1,10 @@
-pub mod Lists
-pub mod Suffixing
-pub mod Tails
+pub mod BlockItems
+pub mod BlockReads
+pub mod Cutting
+pub mod Declaring
+pub mod Faults
+pub mod Initializing
+pub mod Levels
+pub mod Parses
+pub mod Splits
+pub mod UnitLists

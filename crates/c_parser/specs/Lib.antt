@@ -1,3 +1,6 @@
-pub mod Below
-pub mod Conditional
-pub mod Cursor
+pub mod Bodies
+pub mod Control
+pub mod Groups
+pub mod Inside
+pub mod Parsing
+pub mod Turns

@@ -1,19 +1,21 @@
-//! The parser of C (C99 6.5 to 6.9): from the tokens of a source to the one tree that they derive.
+//! The parser of C: from the tokens of a source to the one unit that they derive (C99 6.9).
 #![tactic(auto)]
 
-pub mod aggregates;
-pub mod below;
-pub mod cursor;
-pub mod declarators;
-pub mod enumerators;
-mod fault;
-pub mod members;
-pub mod parameters;
-pub mod postfix;
-pub mod primary;
+mod blocks;
+mod bodies;
+mod control;
+mod declarations;
+mod designators;
+mod dispatch;
+mod externals;
+mod for_loop;
+mod groups;
+mod initializers;
+mod jumps;
+mod names;
 mod scopes;
-pub mod specifiers;
-pub mod suffixes;
-mod words;
+mod statements;
+mod turns;
+pub mod unit;
 
-pub use fault::ParseFault;
+pub use c_exprs::ParseFault;

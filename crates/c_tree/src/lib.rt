@@ -13,5 +13,5 @@ pub use expr::{
 pub use places::Places;
 pub use unit::{
     Body, Declaration, Designator, External, ForStart, InitDeclarator, Initializer,
-    InitializerItem, Stmt,
+    InitializerItem, Stmt, Unit,
 };

@@ -1,8 +1,12 @@
 //! Initializers (C99 6.7.8), declarations (C99 6.7), statements (C99 6.8) and external definitions (C99 6.9).
 
+ghost use Rattle.std.specs.Prelude.{◌≡◌};
+ghost use Rattle.c_tree.specs.PlaceTables.{place_at, file_at};
+
 use crate::expr::{Declarator, Expr, Specifier};
+use crate::places::Places;
 use bit_words::Bytes;
-use c_lexer::Name;
+use c_lexer::{Name, Place};
 use plain_data::{Items, Shared};
 
 /// A designator (C99 6.7.8), by the offset of its `.` or `[`.
@@ -154,4 +158,28 @@ pub enum External {
     Empty {
         at: u32,
     },
+}
+
+/// A translation unit (C99 6.9): its external declarations in order, and the places of its tokens.
+#[derive(Drop)]
+pub struct Unit {
+    pub externals: Items<External>,
+    pub places: Places,
+}
+
+impl Unit {
+    /// The place of the token at a byte offset; at an offset where none begins all its numbers are 0. It takes no
+    /// memory, and time in the logarithm of the number of tokens.
+    pub fn place(&self, at: u32) -> Place
+        ensures { result ≡ place_at self.now.places.places at }
+    {
+        self.places.place(at)
+    }
+
+    /// The name of the file that a place names by its number. It takes no memory.
+    pub fn file(&self, file: u32) -> &[u8]
+        ensures { result.now ≡ file_at self.now.places.files file }
+    {
+        self.places.file(file)
+    }
 }

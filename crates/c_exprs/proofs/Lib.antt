@@ -1,0 +1,10 @@
+pub mod Arguing
+pub mod Beginning
+pub mod Choosing
+pub mod Climbing
+pub mod Enumerating
+pub mod Extending
+pub mod Heights
+pub mod Lists
+pub mod Suffixing
+pub mod Tails

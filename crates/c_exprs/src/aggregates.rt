@@ -1,0 +1,98 @@
+//! Structures and unions (C99 6.7.2.1).
+ghost use Rattle.std.specs.Prelude.{◌≡◌, ◌≤◌, ◌<◌, ◌+◌, IfOk, None, Some, length, suc};
+ghost use Rattle.c_grammar.specs.Reading as spec;
+ghost use Rattle.c_grammar.specs.Reading.{rules};
+ghost use Rattle.c_exprs.specs.Below.{ReachesExpr, ReachesSpecifier, ReachesDeclarator};
+ghost use Rattle.c_exprs.specs.Cursor.{here, Gives};
+
+use crate::below::Below;
+use crate::cursor::Cursor;
+use crate::fault::ParseFault;
+use c_grammar::DeclaratorPlace;
+use c_lexer::{Name, Punctuator, Token};
+use c_nodes::{FoundDeclarator, FoundExpr, FoundMembers, FoundSpecifier, pieces, specifier};
+use c_scope::FileNames;
+use c_tree::AggregateKind;
+use std::alloc::Global;
+
+impl<
+    'a,
+    E: Fn(Global, &[Token], &FileNames, &mut Cursor, u32, u32) -> Result<FoundExpr, ParseFault>,
+    S: Fn(Global, &[Token], &FileNames, &mut Cursor, u32) -> Result<FoundSpecifier, ParseFault>,
+    D: Fn(
+        Global,
+        &[Token],
+        &FileNames,
+        &mut Cursor,
+        u32,
+        DeclaratorPlace,
+    ) -> Result<FoundDeclarator, ParseFault>,
+> Below<'a, E, S, D> {
+    /// Declarations of members up to `}`.
+    pub fn members(&self, c: &mut Cursor) -> Result<FoundMembers, ParseFault>
+        requires exprs { ReachesExpr self.now.source self.now.height (E.pre self.now.expr) (E.post self.now.expr) }
+        requires specifiers { ReachesSpecifier self.now.source self.now.height (S.pre self.now.specifier) (S.post self.now.specifier) }
+        requires declarators { ReachesDeclarator self.now.source self.now.height (D.pre self.now.declarator) (D.post self.now.declarator) }
+        ensures reads { Gives (λ f. (f.trees, here self.now.source c.new)) result (spec.members_at (rules self.now.height) (suc (length (here self.now.source c.old).0)) (here self.now.source c.old)) }
+        ensures low { IfOk result (λ f. f.height ≤ self.now.height) }
+    {
+        let mut all = pieces::no_members(self.alloc);
+        let mut left = self.source.turns(c);
+        'members: while left > 0 {
+            left -= 1;
+            if self.source.begins(c, Punctuator::RightBrace) {
+                return Ok(all);
+            }
+            let found = self.member_declaration(c)?;
+            all = pieces::and_member(self.alloc, all, found)?;
+        }
+        Err(ParseFault::Syntax(c.position))
+    }
+
+    /// A structure or union with its members, from `{` on.
+    #[tactic(auto, unfolding(c_grammar::specs::Reading::aggregate_at))]
+    pub fn aggregate(
+        &self,
+        c: &mut Cursor,
+        at: u32,
+        kind: AggregateKind,
+        tag: Option<Name>,
+    ) -> Result<FoundSpecifier, ParseFault>
+        requires exprs { ReachesExpr self.now.source self.now.height (E.pre self.now.expr) (E.post self.now.expr) }
+        requires specifiers { ReachesSpecifier self.now.source self.now.height (S.pre self.now.specifier) (S.post self.now.specifier) }
+        requires declarators { ReachesDeclarator self.now.source self.now.height (D.pre self.now.declarator) (D.post self.now.declarator) }
+        requires small { self.now.height < 500 }
+        ensures reads { Gives (λ f. (f.tree, here self.now.source c.new)) result (spec.aggregate_at (rules self.now.height) at kind tag (here self.now.source c.old)) }
+        ensures low { IfOk result (λ f. f.height ≤ self.now.height + 1) }
+    {
+        self.source.expect(c, Punctuator::LeftBrace)?;
+        let members = self.members(c)?;
+        self.source.expect(c, Punctuator::RightBrace)?;
+        Ok(specifier::aggregate(at, kind, tag, members.trees, members.height))
+    }
+
+    /// After the word `struct` or `union`.
+    #[tactic(auto, unfolding(c_grammar::specs::Reading::tagged_at))]
+    pub fn tagged(
+        &self,
+        c: &mut Cursor,
+        at: u32,
+        kind: AggregateKind,
+    ) -> Result<FoundSpecifier, ParseFault>
+        requires exprs { ReachesExpr self.now.source self.now.height (E.pre self.now.expr) (E.post self.now.expr) }
+        requires specifiers { ReachesSpecifier self.now.source self.now.height (S.pre self.now.specifier) (S.post self.now.specifier) }
+        requires declarators { ReachesDeclarator self.now.source self.now.height (D.pre self.now.declarator) (D.post self.now.declarator) }
+        requires small { self.now.height < 500 }
+        ensures reads { Gives (λ f. (f.tree, here self.now.source c.new)) result (spec.tagged_at (rules self.now.height) at kind (here self.now.source c.old)) }
+        ensures low { IfOk result (λ f. f.height ≤ self.now.height + 1) }
+    {
+        if self.source.begins(c, Punctuator::LeftBrace) {
+            return self.aggregate(c, at, kind, None);
+        }
+        let (tag, _) = self.source.name(c)?;
+        if self.source.begins(c, Punctuator::LeftBrace) {
+            return self.aggregate(c, at, kind, Some(tag));
+        }
+        Ok(specifier::tag(at, kind, tag))
+    }
+}

@@ -1,0 +1,106 @@
+//! Declarators (C99 6.7.5, 6.7.6).
+ghost use Rattle.std.specs.Prelude.{◌≡◌, ◌≤◌, ◌<◌, ◌+◌, IfOk};
+ghost use Rattle.c_grammar.specs.Reading as spec;
+ghost use Rattle.c_grammar.specs.Reading.{rules};
+ghost use Rattle.c_exprs.specs.Below.{ReachesExpr, ReachesSpecifier, ReachesDeclarator};
+ghost use Rattle.c_exprs.specs.Cursor.{here, Gives};
+
+use crate::below::Below;
+use crate::cursor::Cursor;
+use crate::fault::ParseFault;
+use c_grammar::DeclaratorPlace;
+use c_lexer::{Punctuator, Token};
+use c_nodes::{FoundDeclarator, FoundExpr, FoundOptional, FoundSpecifier, declarator};
+use c_scope::FileNames;
+use plain_data::Shared;
+use std::alloc::Global;
+
+impl<
+    'a,
+    E: Fn(Global, &[Token], &FileNames, &mut Cursor, u32, u32) -> Result<FoundExpr, ParseFault>,
+    S: Fn(Global, &[Token], &FileNames, &mut Cursor, u32) -> Result<FoundSpecifier, ParseFault>,
+    D: Fn(
+        Global,
+        &[Token],
+        &FileNames,
+        &mut Cursor,
+        u32,
+        DeclaratorPlace,
+    ) -> Result<FoundDeclarator, ParseFault>,
+> Below<'a, E, S, D> {
+    /// A pointer (C99 6.7.5.1).
+    #[tactic(auto, unfolding(c_grammar::specs::Reading::pointer_at))]
+    pub fn pointer(
+        &self,
+        c: &mut Cursor,
+        place: DeclaratorPlace,
+    ) -> Result<FoundDeclarator, ParseFault>
+        requires declarators { ReachesDeclarator self.now.source self.now.height (D.pre self.now.declarator) (D.post self.now.declarator) }
+        requires small { self.now.height < 500 }
+        ensures reads { Gives (λ f. (f.tree, here self.now.source c.new)) result (spec.pointer_at (rules self.now.height) place (here self.now.source c.old)) }
+        ensures low { IfOk result (λ f. f.height ≤ self.now.height + 1) }
+    {
+        let at = self.source.expect(c, Punctuator::Star)?;
+        let qualifiers = self.source.qualifiers(self.alloc, c)?;
+        let target = self.declarator(c, place)?;
+        Ok(declarator::pointer(self.alloc, at, qualifiers, target)?)
+    }
+
+    /// The length of an array, where something else than `]` comes next.
+    #[tactic(auto, unfolding(c_grammar::specs::Reading::length_at))]
+    pub fn length(&self, c: &mut Cursor) -> Result<FoundOptional, ParseFault>
+        requires exprs { ReachesExpr self.now.source self.now.height (E.pre self.now.expr) (E.post self.now.expr) }
+        ensures reads { Gives (λ f. (f.tree, here self.now.source c.new)) result (spec.length_at (rules self.now.height) (here self.now.source c.old)) }
+        ensures low { IfOk result (λ f. f.height ≤ self.now.height) }
+    {
+        if self.source.begins(c, Punctuator::RightBracket) {
+            return Ok(FoundOptional {
+                tree: None,
+                height: 0,
+            });
+        }
+        let length = self.expr(c, 15)?;
+        Ok(FoundOptional {
+            tree: Some(Shared::new(self.alloc, length.tree)?),
+            height: length.height,
+        })
+    }
+
+    /// After `[` (C99 6.7.5.2).
+    #[tactic(auto, unfolding(c_grammar::specs::Reading::array_at))]
+    pub fn array(
+        &self,
+        c: &mut Cursor,
+        at: u32,
+        element: FoundDeclarator,
+    ) -> Result<FoundDeclarator, ParseFault>
+        requires exprs { ReachesExpr self.now.source self.now.height (E.pre self.now.expr) (E.post self.now.expr) }
+        requires small { self.now.height < 500 }
+        requires low_element { element.height ≤ self.now.height + 1 }
+        ensures reads { Gives (λ f. (f.tree, here self.now.source c.new)) result (spec.array_at (rules self.now.height) at element.tree (here self.now.source c.old)) }
+        ensures low { IfOk result (λ f. f.height ≤ self.now.height + 2) }
+    {
+        let words = self.source.array_words(self.alloc, c)?;
+        let length = self.length(c)?;
+        self.source.expect(c, Punctuator::RightBracket)?;
+        Ok(declarator::array(self.alloc, at, element, words, length)?)
+    }
+
+    /// A declarator in parentheses, after `(`.
+    #[tactic(auto, unfolding(c_grammar::specs::Reading::grouped_declarator_at))]
+    pub fn grouped_declarator(
+        &self,
+        c: &mut Cursor,
+        place: DeclaratorPlace,
+        at: u32,
+    ) -> Result<FoundDeclarator, ParseFault>
+        requires declarators { ReachesDeclarator self.now.source self.now.height (D.pre self.now.declarator) (D.post self.now.declarator) }
+        requires small { self.now.height < 500 }
+        ensures reads { Gives (λ f. (f.tree, here self.now.source c.new)) result (spec.grouped_declarator_at (rules self.now.height) place at (here self.now.source c.old)) }
+        ensures low { IfOk result (λ f. f.height ≤ self.now.height + 1) }
+    {
+        let inner = self.declarator(c, place)?;
+        self.source.expect(c, Punctuator::RightParen)?;
+        Ok(declarator::grouped(self.alloc, at, inner)?)
+    }
+}

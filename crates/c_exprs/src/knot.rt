@@ -1,0 +1,97 @@
+//! Trees of at most a height: each function reads with itself and the two others at one height less.
+ghost use Rattle.std.specs.Prelude.{◌≡◌, ◌≤◌, IfOk};
+ghost use Rattle.c_grammar.specs.Reading.{rules};
+ghost use Rattle.c_exprs.specs.Cursor.{state_of, Gives};
+
+use crate::below::Below;
+use crate::cursor::{Cursor, Source};
+use crate::fault::ParseFault;
+use c_grammar::DeclaratorPlace;
+use c_lexer::Token;
+use c_nodes::{FoundDeclarator, FoundExpr, FoundSpecifier};
+use c_scope::FileNames;
+use std::alloc::Global;
+
+/// An expression of at most this height that binds at most so loosely (C99 6.5).
+#[cycle(trees)]
+pub fn expr_of(
+    alloc: Global,
+    tokens: &[Token],
+    file: &FileNames,
+    c: &mut Cursor,
+    height: u32,
+    rank: u32,
+) -> Result<FoundExpr, ParseFault>
+    requires small { height ≤ 256 }
+    requires known { rank ≤ 16 }
+    ensures reads { Gives (λ f. (f.tree, state_of tokens.now file.now c.new)) result ((rules height).expr rank (state_of tokens.now file.now c.old)) }
+    ensures low { IfOk result (λ f. f.height ≤ height) }
+{
+    if height == 0 {
+        return Err(ParseFault::TooDeep(c.position));
+    }
+    let below = Below {
+        alloc,
+        source: Source { tokens, file },
+        height: height - 1,
+        expr: expr_of,
+        specifier: specifier_of,
+        declarator: declarator_of,
+    };
+    below.read_expr(c, rank)
+}
+
+/// A declaration specifier of at most this height (C99 6.7).
+#[cycle(trees)]
+pub fn specifier_of(
+    alloc: Global,
+    tokens: &[Token],
+    file: &FileNames,
+    c: &mut Cursor,
+    height: u32,
+) -> Result<FoundSpecifier, ParseFault>
+    requires small { height ≤ 256 }
+    ensures reads { Gives (λ f. (f.tree, state_of tokens.now file.now c.new)) result ((rules height).specifier (state_of tokens.now file.now c.old)) }
+    ensures low { IfOk result (λ f. f.height ≤ height) }
+{
+    if height == 0 {
+        return Err(ParseFault::TooDeep(c.position));
+    }
+    let below = Below {
+        alloc,
+        source: Source { tokens, file },
+        height: height - 1,
+        expr: expr_of,
+        specifier: specifier_of,
+        declarator: declarator_of,
+    };
+    below.read_specifier(c)
+}
+
+/// A declarator of at most this height at such a place (C99 6.7.5).
+#[cycle(trees)]
+pub fn declarator_of(
+    alloc: Global,
+    tokens: &[Token],
+    file: &FileNames,
+    c: &mut Cursor,
+    height: u32,
+    place: DeclaratorPlace,
+) -> Result<FoundDeclarator, ParseFault>
+    requires small { height ≤ 256 }
+    ensures reads { Gives (λ f. (f.tree, state_of tokens.now file.now c.new)) result ((rules height).declarator place (state_of tokens.now file.now c.old)) }
+    ensures low { IfOk result (λ f. f.height ≤ height) }
+{
+    if height == 0 {
+        return Err(ParseFault::TooDeep(c.position));
+    }
+    let below = Below {
+        alloc,
+        source: Source { tokens, file },
+        height: height - 1,
+        expr: expr_of,
+        specifier: specifier_of,
+        declarator: declarator_of,
+    };
+    below.read_declarator(c, place)
+}

@@ -1,0 +1,104 @@
+//! Operators behind an operand, one after the other (C99 6.5.2, 6.5.5 to 6.5.17).
+ghost use Rattle.std.specs.Prelude.{◌≡◌, ◌≤◌, ◌<◌, ◌+◌, IfOk, length, suc};
+ghost use Rattle.c_grammar.specs.Reading as spec;
+ghost use Rattle.c_grammar.specs.Reading.{rules};
+ghost use Rattle.c_exprs.specs.Below.{ReachesExpr};
+ghost use Rattle.c_exprs.specs.Cursor.{here, Gives};
+
+use crate::below::Below;
+use crate::cursor::Cursor;
+use crate::fault::ParseFault;
+use c_grammar::{DeclaratorPlace, infix_of};
+use c_lexer::{Punctuator, Token, TokenKind};
+use c_nodes::{FoundDeclarator, FoundExpr, FoundSpecifier, expr};
+use c_scope::FileNames;
+use c_tree::PostfixOperator;
+use std::alloc::Global;
+
+impl<
+    'a,
+    E: Fn(Global, &[Token], &FileNames, &mut Cursor, u32, u32) -> Result<FoundExpr, ParseFault>,
+    S: Fn(Global, &[Token], &FileNames, &mut Cursor, u32) -> Result<FoundSpecifier, ParseFault>,
+    D: Fn(
+        Global,
+        &[Token],
+        &FileNames,
+        &mut Cursor,
+        u32,
+        DeclaratorPlace,
+    ) -> Result<FoundDeclarator, ParseFault>,
+> Below<'a, E, S, D> {
+    /// An operand with the operator that this punctuator is, which was taken, and what follows that.
+    fn extend_by(
+        &self,
+        c: &mut Cursor,
+        at: u32,
+        mark: Punctuator,
+        left: FoundExpr,
+    ) -> Result<FoundExpr, ParseFault>
+        requires exprs { ReachesExpr self.now.source self.now.height (E.pre self.now.expr) (E.post self.now.expr) }
+        requires small { self.now.height < 500 }
+        requires low_left { left.height ≤ self.now.height + 1 }
+        ensures reads { Gives (λ f. (f.tree, here self.now.source c.new)) result (spec.extend_by (rules self.now.height) left.tree mark at (here self.now.source c.old)) }
+        ensures low { IfOk result (λ f. f.height ≤ self.now.height + 2) }
+    {
+        match mark {
+            Punctuator::LeftBracket => self.subscript(c, at, left),
+            Punctuator::LeftParen => self.call(c, at, left),
+            Punctuator::Dot => self.member(c, at, left),
+            Punctuator::Arrow => self.arrow(c, at, left),
+            Punctuator::PlusPlus => {
+                Ok(expr::postfix(self.alloc, at, PostfixOperator::Increment, left)?)
+            }
+            Punctuator::MinusMinus => {
+                Ok(expr::postfix(self.alloc, at, PostfixOperator::Decrement, left)?)
+            }
+            Punctuator::Question => self.conditional(c, at, left),
+            Punctuator::Comma => self.comma(c, at, left),
+            _ => self.infix(c, at, infix_of(mark), left),
+        }
+    }
+
+    /// An operand with the operator that comes next, and what follows that.
+    fn extend(&self, c: &mut Cursor, left: FoundExpr) -> Result<FoundExpr, ParseFault>
+        requires exprs { ReachesExpr self.now.source self.now.height (E.pre self.now.expr) (E.post self.now.expr) }
+        requires small { self.now.height < 500 }
+        requires low_left { left.height ≤ self.now.height + 1 }
+        ensures reads { Gives (λ f. (f.tree, here self.now.source c.new)) result (spec.extend_in (rules self.now.height) left.tree (here self.now.source c.old).0 (here self.now.source c.old).1) }
+        ensures low { IfOk result (λ f. f.height ≤ self.now.height + 2) }
+    {
+        match self.source.tokens.get(c.position) {
+            Some(token) => match &token.kind {
+                TokenKind::Punctuator(mark) => {
+                    c.position += 1;
+                    self.extend_by(c, token.start, *mark, left)
+                }
+                _ => Err(ParseFault::Syntax(c.position)),
+            },
+            None => Err(ParseFault::Syntax(c.position)),
+        }
+    }
+
+    /// Operators of this rank, one after the other, each with all before it as its left operand.
+    pub fn more(&self, c: &mut Cursor, rank: u32, left: FoundExpr) -> Result<FoundExpr, ParseFault>
+        requires exprs { ReachesExpr self.now.source self.now.height (E.pre self.now.expr) (E.post self.now.expr) }
+        requires small { self.now.height < 500 }
+        requires low_left { left.height ≤ self.now.height + 1 }
+        ensures reads { Gives (λ f. (f.tree, here self.now.source c.new)) result (spec.more_at (rules self.now.height) (suc self.now.height) rank (suc (length (here self.now.source c.old).0)) left.tree (here self.now.source c.old)) }
+        ensures low { IfOk result (λ f. f.height ≤ self.now.height + 1) }
+    {
+        let mut all = left;
+        let mut turns = self.source.turns(c);
+        'operators: while turns > 0 {
+            turns -= 1;
+            if self.source.binds(c) != rank {
+                return Ok(all);
+            }
+            all = self.extend(c, all)?;
+            if all.height > self.height + 1 {
+                return Err(ParseFault::TooDeep(c.position));
+            }
+        }
+        Err(ParseFault::Syntax(c.position))
+    }
+}

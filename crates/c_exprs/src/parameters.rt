@@ -1,0 +1,116 @@
+//! Functions in declarators, and their parameters (C99 6.7.5.3).
+ghost use Rattle.std.specs.Prelude.{◌≡◌, ◌≤◌, ◌<◌, ◌+◌, IfOk, false, length, suc};
+ghost use Rattle.c_grammar.specs.Reading as spec;
+ghost use Rattle.c_grammar.specs.Reading.{rules};
+ghost use Rattle.c_exprs.specs.Below.{ReachesExpr, ReachesSpecifier, ReachesDeclarator};
+ghost use Rattle.c_exprs.specs.Cursor.{here, behind, Gives};
+
+use crate::below::Below;
+use crate::cursor::Cursor;
+use crate::fault::ParseFault;
+use c_grammar::DeclaratorPlace;
+use c_lexer::{Punctuator, Token};
+use c_nodes::{
+    FoundDeclarator, FoundExpr, FoundParameter, FoundParameters, FoundSpecifier, declarator,
+};
+use c_scope::FileNames;
+use std::alloc::Global;
+
+impl<
+    'a,
+    E: Fn(Global, &[Token], &FileNames, &mut Cursor, u32, u32) -> Result<FoundExpr, ParseFault>,
+    S: Fn(Global, &[Token], &FileNames, &mut Cursor, u32) -> Result<FoundSpecifier, ParseFault>,
+    D: Fn(
+        Global,
+        &[Token],
+        &FileNames,
+        &mut Cursor,
+        u32,
+        DeclaratorPlace,
+    ) -> Result<FoundDeclarator, ParseFault>,
+> Below<'a, E, S, D> {
+    /// A parameter, whose name is then in scope.
+    #[tactic(auto, unfolding(c_grammar::specs::Reading::parameter_at))]
+    pub fn parameter(&self, c: &mut Cursor) -> Result<FoundParameter, ParseFault>
+        requires specifiers { ReachesSpecifier self.now.source self.now.height (S.pre self.now.specifier) (S.post self.now.specifier) }
+        requires declarators { ReachesDeclarator self.now.source self.now.height (D.pre self.now.declarator) (D.post self.now.declarator) }
+        ensures reads { Gives (λ f. (f.tree, here self.now.source c.new)) result (spec.parameter_at (rules self.now.height) (here self.now.source c.old)) }
+        ensures low { IfOk result (λ f. f.height ≤ self.now.height) }
+    {
+        let specifiers = self.specification(c)?;
+        let found = self.declarator(c, DeclaratorPlace::Parameter)?;
+        self.source.declare(c, &found.name)?;
+        Ok(declarator::parameter(self.alloc, specifiers, found)?)
+    }
+
+    /// These parameters, and those behind a comma, up to `)` or `...`.
+    pub fn more_parameters(
+        &self,
+        c: &mut Cursor,
+        first: FoundParameters,
+    ) -> Result<FoundParameters, ParseFault>
+        requires specifiers { ReachesSpecifier self.now.source self.now.height (S.pre self.now.specifier) (S.post self.now.specifier) }
+        requires declarators { ReachesDeclarator self.now.source self.now.height (D.pre self.now.declarator) (D.post self.now.declarator) }
+        requires low_first { first.height ≤ self.now.height }
+        requires fixed { first.variadic ≡ false }
+        ensures reads { Gives (λ f. ((f.trees, f.variadic), here self.now.source c.new)) result (behind first.trees (spec.more_parameters_at (rules self.now.height) (suc (length (here self.now.source c.old).0)) (here self.now.source c.old))) }
+        ensures low { IfOk result (λ f. f.height ≤ self.now.height) }
+    {
+        let mut all = first;
+        let mut left = self.source.turns(c);
+        'parameters: while left > 0 {
+            left -= 1;
+            if !self.source.begins(c, Punctuator::Comma) {
+                return Ok(all);
+            }
+            self.source.expect(c, Punctuator::Comma)?;
+            if self.source.begins(c, Punctuator::Ellipsis) {
+                self.source.expect(c, Punctuator::Ellipsis)?;
+                return Ok(declarator::variadic(all));
+            }
+            let found = self.parameter(c)?;
+            all = declarator::and_parameter(self.alloc, all, found)?;
+        }
+        Err(ParseFault::Syntax(c.position))
+    }
+
+    /// Parameters, or none before `)`.
+    #[tactic(auto, unfolding(c_grammar::specs::Reading::parameters_at))]
+    pub fn parameters(&self, c: &mut Cursor) -> Result<FoundParameters, ParseFault>
+        requires specifiers { ReachesSpecifier self.now.source self.now.height (S.pre self.now.specifier) (S.post self.now.specifier) }
+        requires declarators { ReachesDeclarator self.now.source self.now.height (D.pre self.now.declarator) (D.post self.now.declarator) }
+        ensures reads { Gives (λ f. ((f.trees, f.variadic), here self.now.source c.new)) result (spec.parameters_at (rules self.now.height) (here self.now.source c.old)) }
+        ensures low { IfOk result (λ f. f.height ≤ self.now.height) }
+    {
+        let none = declarator::no_parameters(self.alloc);
+        if self.source.begins(c, Punctuator::RightParen) {
+            return Ok(none);
+        }
+        let first = self.parameter(c)?;
+        let first = declarator::and_parameter(self.alloc, none, first)?;
+        self.more_parameters(c, first)
+    }
+
+    /// A function, after `(`.
+    #[tactic(auto, unfolding(c_grammar::specs::Reading::function_at))]
+    pub fn function(
+        &self,
+        c: &mut Cursor,
+        place: DeclaratorPlace,
+        at: u32,
+        returned: FoundDeclarator,
+    ) -> Result<FoundDeclarator, ParseFault>
+        requires specifiers { ReachesSpecifier self.now.source self.now.height (S.pre self.now.specifier) (S.post self.now.specifier) }
+        requires declarators { ReachesDeclarator self.now.source self.now.height (D.pre self.now.declarator) (D.post self.now.declarator) }
+        requires small { self.now.height < 500 }
+        requires low_returned { returned.height ≤ self.now.height + 1 }
+        ensures reads { Gives (λ f. (f.tree, here self.now.source c.new)) result (spec.function_at (rules self.now.height) place at returned.tree (here self.now.source c.old)) }
+        ensures low { IfOk result (λ f. f.height ≤ self.now.height + 2) }
+    {
+        self.source.enter(c)?;
+        let parameters = self.parameters(c)?;
+        self.source.close(c, place, returned.derived);
+        self.source.expect(c, Punctuator::RightParen)?;
+        Ok(declarator::function(self.alloc, at, returned, parameters)?)
+    }
+}

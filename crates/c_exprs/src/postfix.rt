@@ -1,0 +1,197 @@
+//! Operators behind an operand (C99 6.5.2, 6.5.5 to 6.5.17).
+ghost use Rattle.std.specs.Prelude.{◌≡◌, ◌≤◌, ◌<◌, ◌+◌, IfOk, map};
+ghost use Rattle.c_grammar.specs.Reading as spec;
+ghost use Rattle.c_grammar.specs.Reading.{rules};
+ghost use Rattle.c_grammar.specs.Grammar.{shape, highest_shape};
+ghost use Rattle.c_exprs.specs.Below.{ReachesExpr};
+ghost use Rattle.c_exprs.specs.Cursor.{here, Gives};
+ghost use Rattle.c_exprs.specs.Conditional.{arms_at, chosen_at};
+
+use crate::below::Below;
+use crate::cursor::Cursor;
+use crate::fault::ParseFault;
+use c_grammar::{DeclaratorPlace, Infix, rank_of};
+use c_lexer::{Punctuator, Token};
+use c_nodes::{FoundDeclarator, FoundExpr, FoundSpecifier, expr};
+use c_scope::FileNames;
+use c_tree::BinaryOperator;
+use std::alloc::Global;
+
+impl<
+    'a,
+    E: Fn(Global, &[Token], &FileNames, &mut Cursor, u32, u32) -> Result<FoundExpr, ParseFault>,
+    S: Fn(Global, &[Token], &FileNames, &mut Cursor, u32) -> Result<FoundSpecifier, ParseFault>,
+    D: Fn(
+        Global,
+        &[Token],
+        &FileNames,
+        &mut Cursor,
+        u32,
+        DeclaratorPlace,
+    ) -> Result<FoundDeclarator, ParseFault>,
+> Below<'a, E, S, D> {
+    /// After `[`.
+    #[tactic(auto, unfolding(c_grammar::specs::Reading::subscript_at))]
+    pub fn subscript(
+        &self,
+        c: &mut Cursor,
+        at: u32,
+        left: FoundExpr,
+    ) -> Result<FoundExpr, ParseFault>
+        requires exprs { ReachesExpr self.now.source self.now.height (E.pre self.now.expr) (E.post self.now.expr) }
+        requires small { self.now.height < 500 }
+        requires low_left { left.height ≤ self.now.height + 1 }
+        ensures reads { Gives (λ f. (f.tree, here self.now.source c.new)) result (spec.subscript_at (rules self.now.height) at left.tree (here self.now.source c.old)) }
+        ensures low { IfOk result (λ f. f.height ≤ self.now.height + 2) }
+    {
+        let index = self.expr(c, 16)?;
+        self.source.expect(c, Punctuator::RightBracket)?;
+        Ok(expr::subscript(self.alloc, at, left, index)?)
+    }
+
+    /// After a binary operator.
+    #[tactic(auto, unfolding(c_grammar::specs::Reading::binary_at))]
+    pub fn binary(
+        &self,
+        c: &mut Cursor,
+        at: u32,
+        operator: BinaryOperator,
+        left: FoundExpr,
+    ) -> Result<FoundExpr, ParseFault>
+        requires exprs { ReachesExpr self.now.source self.now.height (E.pre self.now.expr) (E.post self.now.expr) }
+        requires small { self.now.height < 500 }
+        requires low_left { left.height ≤ self.now.height + 1 }
+        ensures reads { Gives (λ f. (f.tree, here self.now.source c.new)) result (spec.binary_at (rules self.now.height) at operator left.tree (here self.now.source c.old)) }
+        ensures low { IfOk result (λ f. f.height ≤ self.now.height + 2) }
+    {
+        let rank = rank_of(operator);
+        let right = self.expr(c, rank - 1)?;
+        Ok(expr::binary(self.alloc, at, operator, left, right)?)
+    }
+
+    /// The two arms of a conditional expression, with `:` between them.
+    #[tactic(auto, unfolding(crate::specs::Conditional::arms_at))]
+    fn arms(&self, c: &mut Cursor) -> Result<(FoundExpr, FoundExpr), ParseFault>
+        requires exprs { ReachesExpr self.now.source self.now.height (E.pre self.now.expr) (E.post self.now.expr) }
+        ensures reads { Gives (λ x. ((x.0.tree, x.1.tree), here self.now.source c.new)) result (arms_at (rules self.now.height) (here self.now.source c.old)) }
+        ensures low { IfOk result (λ x. (x.0.height ≤ self.now.height) × (x.1.height ≤ self.now.height)) }
+    {
+        let positive = self.expr(c, 16)?;
+        self.source.expect(c, Punctuator::Colon)?;
+        let negative = self.expr(c, 14)?;
+        Ok((positive, negative))
+    }
+
+    /// After `?` behind a condition that may stand there.
+    #[tactic(auto, unfolding(crate::specs::Conditional::chosen_at))]
+    fn choose(&self, c: &mut Cursor, at: u32, left: FoundExpr) -> Result<FoundExpr, ParseFault>
+        requires exprs { ReachesExpr self.now.source self.now.height (E.pre self.now.expr) (E.post self.now.expr) }
+        requires small { self.now.height < 500 }
+        requires low_left { left.height ≤ self.now.height + 1 }
+        ensures reads { Gives (λ f. (f.tree, here self.now.source c.new)) result (chosen_at (rules self.now.height) at left.tree (here self.now.source c.old)) }
+        ensures low { IfOk result (λ f. f.height ≤ self.now.height + 2) }
+    {
+        let (positive, negative) = self.arms(c)?;
+        Ok(expr::conditional(self.alloc, at, left, positive, negative)?)
+    }
+
+    /// After `?`.
+    #[tactic(auto, using(crate::proofs::Choosing::conditional_none, crate::proofs::Choosing::conditional_goes))]
+    pub fn conditional(
+        &self,
+        c: &mut Cursor,
+        at: u32,
+        left: FoundExpr,
+    ) -> Result<FoundExpr, ParseFault>
+        requires exprs { ReachesExpr self.now.source self.now.height (E.pre self.now.expr) (E.post self.now.expr) }
+        requires small { self.now.height < 500 }
+        requires low_left { left.height ≤ self.now.height + 1 }
+        ensures reads { Gives (λ f. (f.tree, here self.now.source c.new)) result (spec.conditional_at (rules self.now.height) at left.tree (here self.now.source c.old)) }
+        ensures low { IfOk result (λ f. f.height ≤ self.now.height + 2) }
+    {
+        if left.rank > 13 {
+            return Err(ParseFault::Syntax(c.position.saturating_sub(1)));
+        }
+        self.choose(c, at, left)
+    }
+
+    /// After `.`.
+    #[tactic(auto, unfolding(c_grammar::specs::Reading::member_of_at))]
+    pub fn member(&self, c: &mut Cursor, at: u32, left: FoundExpr) -> Result<FoundExpr, ParseFault>
+        requires small { self.now.height < 500 }
+        requires low_left { left.height ≤ self.now.height + 1 }
+        ensures reads { Gives (λ f. (f.tree, here self.now.source c.new)) result (spec.member_of_at at left.tree (here self.now.source c.old)) }
+        ensures low { IfOk result (λ f. f.height ≤ self.now.height + 2) }
+    {
+        let (member, _) = self.source.name(c)?;
+        Ok(expr::member(self.alloc, at, member, left)?)
+    }
+
+    /// After `->`.
+    #[tactic(auto, unfolding(c_grammar::specs::Reading::arrow_at))]
+    pub fn arrow(&self, c: &mut Cursor, at: u32, left: FoundExpr) -> Result<FoundExpr, ParseFault>
+        requires small { self.now.height < 500 }
+        requires low_left { left.height ≤ self.now.height + 1 }
+        ensures reads { Gives (λ f. (f.tree, here self.now.source c.new)) result (spec.arrow_at at left.tree (here self.now.source c.old)) }
+        ensures low { IfOk result (λ f. f.height ≤ self.now.height + 2) }
+    {
+        let (member, _) = self.source.name(c)?;
+        Ok(expr::arrow(self.alloc, at, member, left)?)
+    }
+
+    /// After `=` or a compound assignment's operator.
+    #[tactic(auto, unfolding(c_grammar::specs::Reading::assign_at))]
+    pub fn assign(
+        &self,
+        c: &mut Cursor,
+        at: u32,
+        operator: Option<BinaryOperator>,
+        left: FoundExpr,
+    ) -> Result<FoundExpr, ParseFault>
+        requires exprs { ReachesExpr self.now.source self.now.height (E.pre self.now.expr) (E.post self.now.expr) }
+        requires small { self.now.height < 500 }
+        requires low_left { left.height ≤ self.now.height + 1 }
+        ensures reads { Gives (λ f. (f.tree, here self.now.source c.new)) result (spec.assign_at (rules self.now.height) at operator left.tree (here self.now.source c.old)) }
+        ensures low { IfOk result (λ f. f.height ≤ self.now.height + 2) }
+    {
+        if left.rank > 2 {
+            return Err(ParseFault::Syntax(c.position.saturating_sub(1)));
+        }
+        let value = self.expr(c, 15)?;
+        Ok(expr::assign(self.alloc, at, operator, left, value)?)
+    }
+
+    /// After `,`.
+    #[tactic(auto, unfolding(c_grammar::specs::Reading::comma_at))]
+    pub fn comma(&self, c: &mut Cursor, at: u32, left: FoundExpr) -> Result<FoundExpr, ParseFault>
+        requires exprs { ReachesExpr self.now.source self.now.height (E.pre self.now.expr) (E.post self.now.expr) }
+        requires small { self.now.height < 500 }
+        requires low_left { left.height ≤ self.now.height + 1 }
+        ensures reads { Gives (λ f. (f.tree, here self.now.source c.new)) result (spec.comma_at (rules self.now.height) at left.tree (here self.now.source c.old)) }
+        ensures low { IfOk result (λ f. f.height ≤ self.now.height + 2) }
+    {
+        let right = self.expr(c, 15)?;
+        Ok(expr::comma(self.alloc, at, left, right)?)
+    }
+
+    /// After an operator between two operands.
+    pub fn infix(
+        &self,
+        c: &mut Cursor,
+        at: u32,
+        found: Option<Infix>,
+        left: FoundExpr,
+    ) -> Result<FoundExpr, ParseFault>
+        requires exprs { ReachesExpr self.now.source self.now.height (E.pre self.now.expr) (E.post self.now.expr) }
+        requires small { self.now.height < 500 }
+        requires low_left { left.height ≤ self.now.height + 1 }
+        ensures reads { Gives (λ f. (f.tree, here self.now.source c.new)) result (spec.infix_at (rules self.now.height) at found left.tree (here self.now.source c.old)) }
+        ensures low { IfOk result (λ f. f.height ≤ self.now.height + 2) }
+    {
+        match found {
+            None => Err(ParseFault::Syntax(c.position)),
+            Some(Infix::Binary(operator)) => self.binary(c, at, operator, left),
+            Some(Infix::Assign(operator)) => self.assign(c, at, operator, left),
+        }
+    }
+}

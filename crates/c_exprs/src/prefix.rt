@@ -1,0 +1,110 @@
+//! Types in parentheses before an operand: casts and `sizeof` (C99 6.5.3.4, 6.5.4).
+ghost use Rattle.std.specs.Prelude.{◌≡◌, ◌≤◌, ◌<◌, ◌+◌, IfOk};
+ghost use Rattle.c_grammar.specs.Reading as spec;
+ghost use Rattle.c_grammar.specs.Reading.{rules};
+ghost use Rattle.c_exprs.specs.Below.{ReachesExpr, ReachesSpecifier, ReachesDeclarator};
+ghost use Rattle.c_exprs.specs.Cursor.{here, Gives};
+
+use crate::below::Below;
+use crate::cursor::{Cursor, Source};
+use crate::fault::ParseFault;
+use c_grammar::DeclaratorPlace;
+use c_lexer::{Keyword, Punctuator, Token, TokenKind};
+use c_nodes::{FoundDeclarator, FoundExpr, FoundSpecifier, FoundType, expr};
+use c_scope::FileNames;
+use std::alloc::Global;
+
+impl<'a> Source<'a> {
+    /// Whether `(` and a type come next. The cursor ends where it began.
+    pub fn begins_typed(&self, c: &mut Cursor) -> bool
+        ensures typed { result ≡ spec.typed_in (here self.now c.old).0 (here self.now c.old).1 }
+        ensures same { here self.now c.new ≡ here self.now c.old }
+    {
+        match self.tokens.get(c.position) {
+            Some(token) => match &token.kind {
+                TokenKind::Punctuator(Punctuator::LeftParen) => {
+                    c.position += 1;
+                    let typed = self.specifies(c, false);
+                    c.position -= 1;
+                    typed
+                }
+                _ => false,
+            },
+            None => false,
+        }
+    }
+}
+
+impl<
+    'a,
+    E: Fn(Global, &[Token], &FileNames, &mut Cursor, u32, u32) -> Result<FoundExpr, ParseFault>,
+    S: Fn(Global, &[Token], &FileNames, &mut Cursor, u32) -> Result<FoundSpecifier, ParseFault>,
+    D: Fn(
+        Global,
+        &[Token],
+        &FileNames,
+        &mut Cursor,
+        u32,
+        DeclaratorPlace,
+    ) -> Result<FoundDeclarator, ParseFault>,
+> Below<'a, E, S, D> {
+    /// A type name in parentheses, and the offset of `(`.
+    #[tactic(auto, unfolding(c_grammar::specs::Reading::parenthesized_type_at))]
+    fn parenthesized_type(&self, c: &mut Cursor) -> Result<(u32, FoundType), ParseFault>
+        requires specifiers { ReachesSpecifier self.now.source self.now.height (S.pre self.now.specifier) (S.post self.now.specifier) }
+        requires declarators { ReachesDeclarator self.now.source self.now.height (D.pre self.now.declarator) (D.post self.now.declarator) }
+        ensures reads { Gives (λ x. ((x.0, x.1.tree), here self.now.source c.new)) result (spec.parenthesized_type_at (rules self.now.height) (here self.now.source c.old)) }
+        ensures low { IfOk result (λ x. x.1.height ≤ self.now.height) }
+    {
+        let at = self.source.expect(c, Punctuator::LeftParen)?;
+        let named = self.type_name(c)?;
+        self.source.expect(c, Punctuator::RightParen)?;
+        Ok((at, named))
+    }
+
+    /// After the word `sizeof`.
+    #[tactic(auto, unfolding(c_grammar::specs::Reading::sizeof_at))]
+    fn size(&self, c: &mut Cursor, at: u32) -> Result<FoundExpr, ParseFault>
+        requires exprs { ReachesExpr self.now.source self.now.height (E.pre self.now.expr) (E.post self.now.expr) }
+        requires specifiers { ReachesSpecifier self.now.source self.now.height (S.pre self.now.specifier) (S.post self.now.specifier) }
+        requires declarators { ReachesDeclarator self.now.source self.now.height (D.pre self.now.declarator) (D.post self.now.declarator) }
+        requires small { self.now.height < 500 }
+        ensures reads { Gives (λ f. (f.tree, here self.now.source c.new)) result (spec.sizeof_at (rules self.now.height) at (here self.now.source c.old)) }
+        ensures low { IfOk result (λ f. f.height ≤ self.now.height + 1) }
+    {
+        if self.source.begins_typed(c) {
+            let (_, named) = self.parenthesized_type(c)?;
+            return Ok(expr::sizeof_type(self.alloc, at, named)?);
+        }
+        let operand = self.expr(c, 2)?;
+        Ok(expr::sizeof_expr(self.alloc, at, operand)?)
+    }
+
+    /// `sizeof`, and an operand or a type name in parentheses.
+    pub fn sized(&self, c: &mut Cursor) -> Result<FoundExpr, ParseFault>
+        requires exprs { ReachesExpr self.now.source self.now.height (E.pre self.now.expr) (E.post self.now.expr) }
+        requires specifiers { ReachesSpecifier self.now.source self.now.height (S.pre self.now.specifier) (S.post self.now.specifier) }
+        requires declarators { ReachesDeclarator self.now.source self.now.height (D.pre self.now.declarator) (D.post self.now.declarator) }
+        requires small { self.now.height < 500 }
+        ensures reads { Gives (λ f. (f.tree, here self.now.source c.new)) result (spec.sized_at (rules self.now.height) (here self.now.source c.old)) }
+        ensures low { IfOk result (λ f. f.height ≤ self.now.height + 1) }
+    {
+        let at = self.source.expect_keyword(c, Keyword::Sizeof)?;
+        self.size(c, at)
+    }
+
+    /// A type name in parentheses, and its operand.
+    #[tactic(auto, unfolding(c_grammar::specs::Reading::cast_at))]
+    pub fn cast(&self, c: &mut Cursor) -> Result<FoundExpr, ParseFault>
+        requires exprs { ReachesExpr self.now.source self.now.height (E.pre self.now.expr) (E.post self.now.expr) }
+        requires specifiers { ReachesSpecifier self.now.source self.now.height (S.pre self.now.specifier) (S.post self.now.specifier) }
+        requires declarators { ReachesDeclarator self.now.source self.now.height (D.pre self.now.declarator) (D.post self.now.declarator) }
+        requires small { self.now.height < 500 }
+        ensures reads { Gives (λ f. (f.tree, here self.now.source c.new)) result (spec.cast_at (rules self.now.height) (here self.now.source c.old)) }
+        ensures low { IfOk result (λ f. f.height ≤ self.now.height + 1) }
+    {
+        let (at, named) = self.parenthesized_type(c)?;
+        let operand = self.expr(c, 3)?;
+        Ok(expr::cast(self.alloc, at, named, operand)?)
+    }
+}

@@ -1,0 +1,86 @@
+//! Blocks of names that are entered and left while declarators are read (C99 6.2.1).
+ghost use Rattle.std.specs.Prelude.{◌≡◌, OnOk, false};
+ghost use Rattle.c_grammar.specs.Reading as spec;
+ghost use Rattle.c_grammar.specs.Parts.{entered, specifies_in};
+ghost use Rattle.c_grammar.specs.Grammar.{may_omit as may_omit_spec};
+ghost use Rattle.c_exprs.specs.Cursor.{here};
+
+use crate::cursor::{Cursor, Source};
+use c_grammar::DeclaratorPlace;
+use c_lexer::{Name, Punctuator, TokenKind};
+use std::alloc::AllocError;
+
+/// Whether a declarator may be without a name at such a place.
+pub fn may_omit(place: DeclaratorPlace) -> bool
+    ensures { result ≡ may_omit_spec place }
+{
+    match place {
+        DeclaratorPlace::Parameter | DeclaratorPlace::TypeName => true,
+        DeclaratorPlace::Declaration | DeclaratorPlace::Member => false,
+    }
+}
+
+/// Whether a suffix of declarators begins with this token.
+fn is_suffix(kind: &TokenKind) -> bool
+    ensures { result ≡ spec.is_suffix kind.now }
+{
+    match kind {
+        TokenKind::Punctuator(mark) => match *mark {
+            Punctuator::LeftBracket | Punctuator::LeftParen => true,
+            _ => false,
+        },
+        _ => false,
+    }
+}
+
+impl<'a> Source<'a> {
+    /// Declares a name, where there is one, as another than a typedef name. It fails for want of memory alone.
+    pub fn declare(&self, c: &mut Cursor, name: &Option<Name>) -> Result<(), AllocError>
+        ensures { OnOk result (here self.now c.new ≡ spec.with_name name.now false (here self.now c.old)) }
+    {
+        match name {
+            Some(name) => c.names.declare(name, false),
+            None => Ok(()),
+        }
+    }
+
+    /// Enters a block. It fails for want of memory alone.
+    pub fn enter(&self, c: &mut Cursor) -> Result<(), AllocError>
+        ensures { OnOk result (here self.now c.new ≡ ((here self.now c.old).0, entered (here self.now c.old).1)) }
+    {
+        c.names.enter()
+    }
+
+    /// Leaves the block of a function's parameters, which are kept where a declaration declares that function.
+    pub fn close(&self, c: &mut Cursor, place: DeclaratorPlace, derived: bool)
+        ensures { here self.now c.new ≡ ((here self.now c.old).0, spec.closed_at place derived (here self.now c.old).1) }
+    {
+        match place {
+            DeclaratorPlace::Declaration => {
+                if derived {
+                    c.names.leave();
+                } else {
+                    c.names.leave_keeping();
+                }
+            }
+            _ => c.names.leave(),
+        }
+    }
+
+    /// Whether what comes next makes the `(` before it the beginning of parameters.
+    pub fn begins_parameters(&self, c: &Cursor) -> bool
+        ensures { result ≡ spec.begins_parameters (here self.now c.now) }
+    {
+        self.begins(c, Punctuator::RightParen) || self.specifies(c, false)
+    }
+
+    /// Whether `[` or `(` comes next.
+    pub fn is_suffixed(&self, c: &Cursor) -> bool
+        ensures { result ≡ spec.suffixed (here self.now c.now).0 }
+    {
+        match self.tokens.get(c.position) {
+            Some(token) => is_suffix(&token.kind),
+            None => false,
+        }
+    }
+}

@@ -1,0 +1,102 @@
+//! A declaration specifier, by its first token (C99 6.7).
+ghost use Rattle.std.specs.Prelude.{◌≡◌, ◌≤◌, ◌<◌, ◌+◌, IfOk, IfSome, option_map};
+ghost use Rattle.c_grammar.specs.Operators as table;
+ghost use Rattle.c_grammar.specs.Reading as spec;
+ghost use Rattle.c_grammar.specs.Reading.{rules};
+ghost use Rattle.c_exprs.specs.Below.{ReachesExpr, ReachesSpecifier, ReachesDeclarator};
+ghost use Rattle.c_exprs.specs.Cursor.{here, Gives};
+
+use crate::below::Below;
+use crate::cursor::Cursor;
+use crate::fault::ParseFault;
+use c_grammar::{DeclaratorPlace, aggregate_of, class_of, qualifier_of, type_word_of};
+use c_lexer::{Keyword, Token, TokenKind};
+use c_nodes::{FoundDeclarator, FoundExpr, FoundSpecifier, specifier};
+use c_scope::FileNames;
+use std::alloc::Global;
+
+/// The declaration specifier that a keyword at an offset is by itself.
+fn by_word(at: u32, keyword: Keyword) -> Option<FoundSpecifier>
+    ensures tree { option_map (λ f. f.tree) result ≡ table.word_specifier at keyword }
+    ensures height { IfSome result (λ f. f.height ≡ 1) }
+{
+    if keyword == Keyword::Inline {
+        return Some(specifier::inline(at));
+    }
+    if let Some(class) = class_of(keyword) {
+        return Some(specifier::storage(at, class));
+    }
+    if let Some(qualifier) = qualifier_of(keyword) {
+        return Some(specifier::qualifier(at, qualifier));
+    }
+    match type_word_of(keyword) {
+        Some(word) => Some(specifier::word(at, word)),
+        None => None,
+    }
+}
+
+impl<
+    'a,
+    E: Fn(Global, &[Token], &FileNames, &mut Cursor, u32, u32) -> Result<FoundExpr, ParseFault>,
+    S: Fn(Global, &[Token], &FileNames, &mut Cursor, u32) -> Result<FoundSpecifier, ParseFault>,
+    D: Fn(
+        Global,
+        &[Token],
+        &FileNames,
+        &mut Cursor,
+        u32,
+        DeclaratorPlace,
+    ) -> Result<FoundDeclarator, ParseFault>,
+> Below<'a, E, S, D> {
+    /// The specifier that a keyword begins, after that keyword.
+    fn keyword_specifier(
+        &self,
+        c: &mut Cursor,
+        at: u32,
+        keyword: Keyword,
+    ) -> Result<FoundSpecifier, ParseFault>
+        requires exprs { ReachesExpr self.now.source self.now.height (E.pre self.now.expr) (E.post self.now.expr) }
+        requires specifiers { ReachesSpecifier self.now.source self.now.height (S.pre self.now.specifier) (S.post self.now.specifier) }
+        requires declarators { ReachesDeclarator self.now.source self.now.height (D.pre self.now.declarator) (D.post self.now.declarator) }
+        requires small { self.now.height < 500 }
+        ensures reads { Gives (λ f. (f.tree, here self.now.source c.new)) result (spec.keyword_specifier (rules self.now.height) at keyword (table.aggregate_of keyword) (here self.now.source c.old)) }
+        ensures low { IfOk result (λ f. f.height ≤ self.now.height + 1) }
+    {
+        if let Some(kind) = aggregate_of(keyword) {
+            return self.tagged(c, at, kind);
+        }
+        match keyword {
+            Keyword::Enum => self.enumerated(c, at),
+            _ => match by_word(at, keyword) {
+                Some(found) => Ok(found),
+                None => Err(ParseFault::Syntax(c.position)),
+            },
+        }
+    }
+
+    /// The declaration specifier that comes next, of at most the height above that of its parts.
+    pub fn read_specifier(&self, c: &mut Cursor) -> Result<FoundSpecifier, ParseFault>
+        requires exprs { ReachesExpr self.now.source self.now.height (E.pre self.now.expr) (E.post self.now.expr) }
+        requires specifiers { ReachesSpecifier self.now.source self.now.height (S.pre self.now.specifier) (S.post self.now.specifier) }
+        requires declarators { ReachesDeclarator self.now.source self.now.height (D.pre self.now.declarator) (D.post self.now.declarator) }
+        requires small { self.now.height < 500 }
+        ensures reads { Gives (λ f. (f.tree, here self.now.source c.new)) result (spec.specifier_in (rules self.now.height) (here self.now.source c.old).0 (here self.now.source c.old).1) }
+        ensures low { IfOk result (λ f. f.height ≤ self.now.height + 1) }
+    {
+        match self.source.tokens.get(c.position) {
+            Some(token) => match &token.kind {
+                TokenKind::Keyword(keyword) => {
+                    c.position += 1;
+                    self.keyword_specifier(c, token.start, *keyword)
+                }
+                TokenKind::Identifier(name) => {
+                    let name = name.clone()?;
+                    c.position += 1;
+                    Ok(specifier::typedef(token.start, name))
+                }
+                _ => Err(ParseFault::Syntax(c.position)),
+            },
+            None => Err(ParseFault::Syntax(c.position)),
+        }
+    }
+}

@@ -1,0 +1,177 @@
+//! Direct declarators, and what stands behind them (C99 6.7.5, 6.7.6).
+ghost use Rattle.std.specs.Prelude.{◌≡◌, ◌≤◌, ◌<◌, ◌+◌, IfOk, length, suc};
+ghost use Rattle.c_grammar.specs.Reading as spec;
+ghost use Rattle.c_grammar.specs.Reading.{rules};
+ghost use Rattle.c_exprs.specs.Below.{ReachesExpr, ReachesSpecifier, ReachesDeclarator};
+ghost use Rattle.c_exprs.specs.Cursor.{here, Gives};
+
+use crate::below::Below;
+use crate::cursor::Cursor;
+use crate::fault::ParseFault;
+use crate::scopes::may_omit;
+use c_grammar::DeclaratorPlace;
+use c_lexer::{Name, Punctuator, Token, TokenKind};
+use c_nodes::{FoundDeclarator, FoundExpr, FoundSpecifier, declarator};
+use c_scope::FileNames;
+use std::alloc::Global;
+
+impl<
+    'a,
+    E: Fn(Global, &[Token], &FileNames, &mut Cursor, u32, u32) -> Result<FoundExpr, ParseFault>,
+    S: Fn(Global, &[Token], &FileNames, &mut Cursor, u32) -> Result<FoundSpecifier, ParseFault>,
+    D: Fn(
+        Global,
+        &[Token],
+        &FileNames,
+        &mut Cursor,
+        u32,
+        DeclaratorPlace,
+    ) -> Result<FoundDeclarator, ParseFault>,
+> Below<'a, E, S, D> {
+    /// No name, where there may be none.
+    pub fn omitted(&self, c: &Cursor, place: DeclaratorPlace) -> Result<FoundDeclarator, ParseFault>
+        ensures reads { Gives (λ f. (f.tree, here self.now.source c.now)) result (spec.omitted_at place (here self.now.source c.now)) }
+        ensures low { IfOk result (λ f. f.height ≤ self.now.height + 1) }
+    {
+        if may_omit(place) {
+            Ok(declarator::omitted())
+        } else {
+            Err(ParseFault::Syntax(c.position))
+        }
+    }
+
+    /// A name, a group, or nothing.
+    pub fn direct(
+        &self,
+        c: &mut Cursor,
+        place: DeclaratorPlace,
+    ) -> Result<FoundDeclarator, ParseFault>
+        requires declarators { ReachesDeclarator self.now.source self.now.height (D.pre self.now.declarator) (D.post self.now.declarator) }
+        requires small { self.now.height < 500 }
+        ensures reads { Gives (λ f. (f.tree, here self.now.source c.new)) result (spec.direct_in (rules self.now.height) place (here self.now.source c.old).0 (here self.now.source c.old).1) }
+        ensures low { IfOk result (λ f. f.height ≤ self.now.height + 1) }
+    {
+        match self.source.tokens.get(c.position) {
+            Some(token) => match &token.kind {
+                TokenKind::Identifier(name) => {
+                    if place == DeclaratorPlace::TypeName {
+                        return Ok(declarator::omitted());
+                    }
+                    let name = name.clone()?;
+                    c.position += 1;
+                    Ok(declarator::name(token.start, name)?)
+                }
+                TokenKind::Punctuator(Punctuator::LeftParen) => {
+                    c.position += 1;
+                    if may_omit(place) && self.source.begins_parameters(c) {
+                        c.position -= 1;
+                        return Ok(declarator::omitted());
+                    }
+                    self.grouped_declarator(c, place, token.start)
+                }
+                _ => self.omitted(c, place),
+            },
+            None => self.omitted(c, place),
+        }
+    }
+
+    /// A declarator and the suffix behind it.
+    pub fn suffix(
+        &self,
+        c: &mut Cursor,
+        place: DeclaratorPlace,
+        before: FoundDeclarator,
+    ) -> Result<FoundDeclarator, ParseFault>
+        requires exprs { ReachesExpr self.now.source self.now.height (E.pre self.now.expr) (E.post self.now.expr) }
+        requires specifiers { ReachesSpecifier self.now.source self.now.height (S.pre self.now.specifier) (S.post self.now.specifier) }
+        requires declarators { ReachesDeclarator self.now.source self.now.height (D.pre self.now.declarator) (D.post self.now.declarator) }
+        requires small { self.now.height < 500 }
+        requires low_before { before.height ≤ self.now.height + 1 }
+        ensures reads { Gives (λ f. (f.tree, here self.now.source c.new)) result (spec.suffix_in (rules self.now.height) place before.tree (here self.now.source c.old).0 (here self.now.source c.old).1) }
+        ensures low { IfOk result (λ f. f.height ≤ self.now.height + 2) }
+    {
+        match self.source.tokens.get(c.position) {
+            Some(token) => match &token.kind {
+                TokenKind::Punctuator(Punctuator::LeftBracket) => {
+                    c.position += 1;
+                    self.array(c, token.start, before)
+                }
+                TokenKind::Punctuator(Punctuator::LeftParen) => {
+                    c.position += 1;
+                    self.function(c, place, token.start, before)
+                }
+                _ => Err(ParseFault::Syntax(c.position)),
+            },
+            None => Err(ParseFault::Syntax(c.position)),
+        }
+    }
+
+    /// A declarator and the suffixes behind it.
+    pub fn suffixes(
+        &self,
+        c: &mut Cursor,
+        place: DeclaratorPlace,
+        before: FoundDeclarator,
+    ) -> Result<FoundDeclarator, ParseFault>
+        requires exprs { ReachesExpr self.now.source self.now.height (E.pre self.now.expr) (E.post self.now.expr) }
+        requires specifiers { ReachesSpecifier self.now.source self.now.height (S.pre self.now.specifier) (S.post self.now.specifier) }
+        requires declarators { ReachesDeclarator self.now.source self.now.height (D.pre self.now.declarator) (D.post self.now.declarator) }
+        requires small { self.now.height < 500 }
+        requires low_before { before.height ≤ self.now.height + 1 }
+        ensures reads { Gives (λ f. (f.tree, here self.now.source c.new)) result (spec.suffixes_at (rules self.now.height) (suc self.now.height) place (suc (length (here self.now.source c.old).0)) before.tree (here self.now.source c.old)) }
+        ensures low { IfOk result (λ f. f.height ≤ self.now.height + 1) }
+    {
+        let mut all = before;
+        let mut left = self.source.turns(c);
+        'suffixes: while left > 0 {
+            left -= 1;
+            if !self.source.is_suffixed(c) {
+                return Ok(all);
+            }
+            all = self.suffix(c, place, all)?;
+            if all.height > self.height + 1 {
+                return Err(ParseFault::TooDeep(c.position));
+            }
+        }
+        Err(ParseFault::Syntax(c.position))
+    }
+
+    /// A direct declarator and the suffixes behind it.
+    #[tactic(auto, unfolding(c_grammar::specs::Reading::suffixed_at))]
+    pub fn suffixed(
+        &self,
+        c: &mut Cursor,
+        place: DeclaratorPlace,
+    ) -> Result<FoundDeclarator, ParseFault>
+        requires exprs { ReachesExpr self.now.source self.now.height (E.pre self.now.expr) (E.post self.now.expr) }
+        requires specifiers { ReachesSpecifier self.now.source self.now.height (S.pre self.now.specifier) (S.post self.now.specifier) }
+        requires declarators { ReachesDeclarator self.now.source self.now.height (D.pre self.now.declarator) (D.post self.now.declarator) }
+        requires small { self.now.height < 500 }
+        ensures reads { Gives (λ f. (f.tree, here self.now.source c.new)) result (spec.suffixed_at (rules self.now.height) (suc self.now.height) place (here self.now.source c.old)) }
+        ensures low { IfOk result (λ f. f.height ≤ self.now.height + 1) }
+    {
+        let direct = self.direct(c, place)?;
+        self.suffixes(c, place, direct)
+    }
+
+    /// A declarator, of at most the height above that of its parts.
+    #[tactic(auto, unfolding(c_grammar::specs::Reading::declarator_by))]
+    pub fn read_declarator(
+        &self,
+        c: &mut Cursor,
+        place: DeclaratorPlace,
+    ) -> Result<FoundDeclarator, ParseFault>
+        requires exprs { ReachesExpr self.now.source self.now.height (E.pre self.now.expr) (E.post self.now.expr) }
+        requires specifiers { ReachesSpecifier self.now.source self.now.height (S.pre self.now.specifier) (S.post self.now.specifier) }
+        requires declarators { ReachesDeclarator self.now.source self.now.height (D.pre self.now.declarator) (D.post self.now.declarator) }
+        requires small { self.now.height < 500 }
+        ensures reads { Gives (λ f. (f.tree, here self.now.source c.new)) result (spec.declarator_by (rules self.now.height) (suc self.now.height) place (here self.now.source c.old)) }
+        ensures low { IfOk result (λ f. f.height ≤ self.now.height + 1) }
+    {
+        if self.source.begins(c, Punctuator::Star) {
+            self.pointer(c, place)
+        } else {
+            self.suffixed(c, place)
+        }
+    }
+}

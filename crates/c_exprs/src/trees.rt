@@ -1,0 +1,73 @@
+//! Trees of at most a height, in which expressions, specifiers and declarators stand in one another.
+ghost use Rattle.std.specs.Prelude.{◌≡◌, ◌≤◌};
+ghost use Rattle.c_grammar.specs.Reading.{rules, specification_at};
+ghost use Rattle.c_exprs.specs.Cursor.{here, Gives};
+
+use crate::below::Below;
+use crate::cursor::{Cursor, Source};
+use crate::fault::ParseFault;
+use crate::knot::{declarator_of, expr_of, specifier_of};
+use c_grammar::DeclaratorPlace;
+use c_nodes::{FoundDeclarator, FoundExpr, FoundSpecifiers};
+use std::alloc::Global;
+
+/// The trees of at most a height that a source has.
+#[derive(Clone, Copy)]
+pub struct Trees<'a> {
+    pub alloc: Global,
+    pub source: Source<'a>,
+    pub height: u32,
+}
+
+impl<'a> Trees<'a> {
+    /// An expression that binds at most so loosely.
+    pub fn expr(&self, c: &mut Cursor, rank: u32) -> Result<FoundExpr, ParseFault>
+        requires small { self.now.height ≤ 256 }
+        requires known { rank ≤ 16 }
+        ensures { Gives (λ f. (f.tree, here self.now.source c.new)) result ((rules self.now.height).expr rank (here self.now.source c.old)) }
+    {
+        expr_of(
+            self.alloc,
+            self.source.tokens,
+            self.source.file,
+            c,
+            self.height,
+            rank,
+        )
+    }
+
+    /// Specifiers that name one type (C99 6.7.2).
+    pub fn specification(&self, c: &mut Cursor) -> Result<FoundSpecifiers, ParseFault>
+        requires small { self.now.height ≤ 256 }
+        ensures { Gives (λ f. (f.trees, here self.now.source c.new)) result (specification_at (rules self.now.height) (here self.now.source c.old)) }
+    {
+        let level = Below {
+            alloc: self.alloc,
+            source: self.source,
+            height: self.height,
+            expr: expr_of,
+            specifier: specifier_of,
+            declarator: declarator_of,
+        };
+        level.specification(c)
+    }
+
+    /// A declarator at such a place.
+    pub fn declarator(
+        &self,
+        c: &mut Cursor,
+        place: DeclaratorPlace,
+    ) -> Result<FoundDeclarator, ParseFault>
+        requires small { self.now.height ≤ 256 }
+        ensures { Gives (λ f. (f.tree, here self.now.source c.new)) result ((rules self.now.height).declarator place (here self.now.source c.old)) }
+    {
+        declarator_of(
+            self.alloc,
+            self.source.tokens,
+            self.source.file,
+            c,
+            self.height,
+            place,
+        )
+    }
+}

@@ -1,0 +1,122 @@
+//! Function bodies (C99 6.9.1).
+ghost use Rattle.std.specs.Prelude.{◌≡◌, ◌≤◌, Some, drop, take, length};
+ghost use Rattle.c_grammar.specs.UnitReading as spec;
+ghost use Rattle.c_scope.specs.Local.{scope_of};
+ghost use Rattle.c_exprs.specs.Cursor.{here, state_of, Gives};
+ghost use Rattle.c_parser.specs.Bodies.{body_of, found_by, unread_by};
+
+use crate::groups::{Extent, group};
+use crate::statements::statement;
+use c_exprs::{Cursor, ParseFault, Source};
+use c_lexer::Token;
+use c_scope::{FileNames, Names};
+use c_tree::{Body, Stmt};
+use std::alloc::Global;
+
+/// The tokens from a position on.
+fn rest(tokens: &[Token], position: usize) -> &[Token]
+    ensures { result.now ≡ drop position tokens.now }
+{
+    if position < tokens.len() {
+        &tokens[position..]
+    } else {
+        &[]
+    }
+}
+
+/// The first tokens.
+fn front(tokens: &[Token], count: usize) -> &[Token]
+    requires { count ≤ length tokens.now }
+    ensures { result.now ≡ take count tokens.now }
+{
+    &tokens[..count]
+}
+
+/// The offset of the first token.
+fn start_of(tokens: &[Token]) -> u32
+    ensures { result ≡ spec.start_of tokens.now }
+{
+    match tokens {
+        [first, ..] => first.start,
+        [] => 0,
+    }
+}
+
+/// Whether no token is left.
+pub fn is_at_end(tokens: &[Token], c: &Cursor) -> bool
+    ensures { result ≡ spec.is_end (drop c.now.position tokens.now) }
+{
+    match tokens.get(c.position) {
+        Some(_) => false,
+        None => true,
+    }
+}
+
+/// A block as a body, where it is the whole of its brace group.
+fn found(block: Stmt, is_whole: bool, at: u32) -> Body
+    ensures { result ≡ found_by is_whole block at }
+{
+    if is_whole {
+        Body::Read { block }
+    } else {
+        drop(block);
+        Body::Unread { at }
+    }
+}
+
+/// The body where no block is read, unless memory ran out.
+fn unread(fault: ParseFault, at: u32) -> Result<Body, ParseFault>
+    ensures { result ≡ unread_by fault at }
+{
+    match fault {
+        ParseFault::Memory => Err(ParseFault::Memory),
+        ParseFault::Syntax(_) => Ok(Body::Unread { at }),
+        ParseFault::TooDeep(_) => Ok(Body::Unread { at }),
+    }
+}
+
+/// What comes next, up to the end of the tokens, as a block.
+fn read_block(
+    alloc: Global,
+    group: &[Token],
+    file: &FileNames,
+    c: &mut Cursor,
+    at: u32,
+) -> Result<Body, ParseFault>
+    ensures { Gives (λ body. body) result (Some (body_of at (spec.stmt_at 256 0 (state_of group.now file.now c.old)))) }
+{
+    match statement(alloc, group, file, c, 256, 0) {
+        Ok(block) => Ok(found(block, is_at_end(group, c), at)),
+        Err(fault) => unread(fault, at),
+    }
+}
+
+/// The whole of a brace group as a block, where it is one in which these names are in scope.
+fn read_group(
+    alloc: Global,
+    group: &[Token],
+    file: &FileNames,
+    names: Names,
+) -> Result<Body, ParseFault>
+    ensures { Gives (λ body. body) result (Some (body_of (spec.start_of group.now) (spec.stmt_at 256 0 (group.now, scope_of file.now names)))) }
+{
+    let mut c = Cursor { position: 0, names };
+    read_block(alloc, group, file, &mut c, start_of(group))
+}
+
+/// The body of a function, in which its parameters are in scope. What it declares isn't in scope behind it.
+#[tactic(auto, unfolding(c_grammar::specs::UnitReading::body_at, crate::specs::Bodies::body_of))]
+pub fn body(alloc: Global, source: &Source<'_>, c: &mut Cursor) -> Result<Body, ParseFault>
+    ensures { Gives (λ body. (body, here source.now c.new)) result (spec.body_at (here source.now c.old)) }
+{
+    let rest = rest(source.tokens, c.position);
+    match group(alloc, rest)? {
+        Extent::Closed(end) => {
+            let names = c.names.in_function()?;
+            let body = read_group(alloc, front(rest, end), source.file, names)?;
+            c.position += end;
+            Ok(body)
+        }
+        Extent::Broken(end) => Err(ParseFault::Syntax(c.position.saturating_add(end))),
+    }
+}

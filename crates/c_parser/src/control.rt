@@ -1,0 +1,105 @@
+//! Selection and iteration statements (C99 6.8.4, 6.8.5).
+ghost use Rattle.std.specs.Prelude.{◌≡◌, ◌≤◌};
+ghost use Rattle.c_grammar.specs.Reading.{rules};
+ghost use Rattle.c_grammar.specs.UnitReading as spec;
+ghost use Rattle.c_grammar.specs.UnitReading.{stmt_at};
+ghost use Rattle.c_exprs.specs.Cursor.{here, Gives};
+ghost use Rattle.c_parser.specs.Control.{branches_at};
+ghost use Rattle.c_parser.specs.Turns.{ReachesStatement};
+
+use crate::jumps::condition;
+use crate::scopes::leave;
+use crate::turns::Turns;
+use c_exprs::{Cursor, ParseFault};
+use c_lexer::{Keyword, Punctuator, Token};
+use c_scope::FileNames;
+use c_tree::Stmt;
+use plain_data::Shared;
+use std::alloc::Global;
+
+impl<
+    'a,
+    T: Fn(Global, &[Token], &FileNames, &mut Cursor, u32, u32) -> Result<Stmt, ParseFault>,
+> Turns<'a, T> {
+    /// The branches of an `if` statement.
+    #[tactic(auto, unfolding(crate::specs::Control::branches_at))]
+    fn branches(&self, c: &mut Cursor) -> Result<(Shared<Stmt>, Option<Shared<Stmt>>), ParseFault>
+        requires reaches { ReachesStatement self.now.trees.source self.now.trees.height (T.pre self.now.statement) (T.post self.now.statement) }
+        ensures { Gives (λ x. (x, here self.now.trees.source c.new)) result (branches_at (stmt_at self.now.trees.height) (here self.now.trees.source c.old)) }
+    {
+        let positive = self.substatement(c)?;
+        let negative = self.negative(c)?;
+        Ok((positive, negative))
+    }
+
+    /// After `if`.
+    #[tactic(auto, using(crate::proofs::Splits::if_is))]
+    pub fn selection(&self, c: &mut Cursor, at: u32) -> Result<Stmt, ParseFault>
+        requires reaches { ReachesStatement self.now.trees.source self.now.trees.height (T.pre self.now.statement) (T.post self.now.statement) }
+        requires small { self.now.trees.height ≤ 256 }
+        ensures { Gives (λ x. (x, here self.now.trees.source c.new)) result (spec.if_at (stmt_at self.now.trees.height) (rules self.now.trees.height) at (here self.now.trees.source c.old)) }
+    {
+        self.trees.source.enter(c)?;
+        let condition = condition(&self.trees, c)?;
+        let (positive, negative) = self.branches(c)?;
+        leave(&self.trees.source, c);
+        Ok(Stmt::If {
+            at,
+            condition,
+            positive,
+            negative,
+        })
+    }
+
+    /// After `switch`.
+    #[tactic(auto, unfolding(c_grammar::specs::UnitReading::switch_at))]
+    pub fn switch(&self, c: &mut Cursor, at: u32) -> Result<Stmt, ParseFault>
+        requires reaches { ReachesStatement self.now.trees.source self.now.trees.height (T.pre self.now.statement) (T.post self.now.statement) }
+        requires small { self.now.trees.height ≤ 256 }
+        ensures { Gives (λ x. (x, here self.now.trees.source c.new)) result (spec.switch_at (stmt_at self.now.trees.height) (rules self.now.trees.height) at (here self.now.trees.source c.old)) }
+    {
+        self.trees.source.enter(c)?;
+        let value = condition(&self.trees, c)?;
+        let body = self.substatement(c)?;
+        leave(&self.trees.source, c);
+        Ok(Stmt::Switch { at, value, body })
+    }
+
+    /// After `while`.
+    #[tactic(auto, unfolding(c_grammar::specs::UnitReading::while_at))]
+    pub fn while_loop(&self, c: &mut Cursor, at: u32) -> Result<Stmt, ParseFault>
+        requires reaches { ReachesStatement self.now.trees.source self.now.trees.height (T.pre self.now.statement) (T.post self.now.statement) }
+        requires small { self.now.trees.height ≤ 256 }
+        ensures { Gives (λ x. (x, here self.now.trees.source c.new)) result (spec.while_at (stmt_at self.now.trees.height) (rules self.now.trees.height) at (here self.now.trees.source c.old)) }
+    {
+        self.trees.source.enter(c)?;
+        let condition = condition(&self.trees, c)?;
+        let body = self.substatement(c)?;
+        leave(&self.trees.source, c);
+        Ok(Stmt::While {
+            at,
+            condition,
+            body,
+        })
+    }
+
+    /// After `do`.
+    #[tactic(auto, unfolding(c_grammar::specs::UnitReading::do_at))]
+    pub fn do_loop(&self, c: &mut Cursor, at: u32) -> Result<Stmt, ParseFault>
+        requires reaches { ReachesStatement self.now.trees.source self.now.trees.height (T.pre self.now.statement) (T.post self.now.statement) }
+        requires small { self.now.trees.height ≤ 256 }
+        ensures { Gives (λ x. (x, here self.now.trees.source c.new)) result (spec.do_at (stmt_at self.now.trees.height) (rules self.now.trees.height) at (here self.now.trees.source c.old)) }
+    {
+        self.trees.source.enter(c)?;
+        let body = self.substatement(c)?;
+        self.trees.source.expect_keyword(c, Keyword::While)?;
+        let condition = condition(&self.trees, c)?;
+        self.trees.source.expect(c, Punctuator::Semicolon)?;
+        leave(&self.trees.source, c);
+        Ok(Stmt::Do {
+            at,
+            body,
+            condition,
+        })
+    }
+}

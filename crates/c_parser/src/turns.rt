@@ -1,0 +1,42 @@
+//! Reading one level of a statement, whose substatements are read by a function that is handed in. So the recursion
+//! stands in one place, and each rule is a function by itself.
+ghost use Rattle.std.specs.Prelude.{◌≡◌, ◌≤◌};
+ghost use Rattle.c_grammar.specs.UnitReading.{stmt_at};
+ghost use Rattle.c_exprs.specs.Cursor.{here, Gives};
+ghost use Rattle.c_parser.specs.Turns.{ReachesStatement};
+
+use c_exprs::{Cursor, ParseFault, Trees};
+use c_lexer::Token;
+use c_scope::FileNames;
+use c_tree::Stmt;
+use std::alloc::Global;
+
+/// What reads the parts of a statement: the trees of at most a height, and a function that is handed the allocator, the
+/// tokens, the names of the file, the cursor, the greatest height of what it reads, and 1 where a declaration may stand
+/// too, else 0.
+#[derive(Clone, Copy)]
+pub struct Turns<'a, T> {
+    pub trees: Trees<'a>,
+    pub statement: T,
+}
+
+impl<
+    'a,
+    T: Fn(Global, &[Token], &FileNames, &mut Cursor, u32, u32) -> Result<Stmt, ParseFault>,
+> Turns<'a, T> {
+    /// A statement that stands inside; at rank 1 a declaration too.
+    pub fn statement(&self, c: &mut Cursor, rank: u32) -> Result<Stmt, ParseFault>
+        requires reaches { ReachesStatement self.now.trees.source self.now.trees.height (T.pre self.now.statement) (T.post self.now.statement) }
+        requires known { rank ≤ 1 }
+        ensures { Gives (λ x. (x, here self.now.trees.source c.new)) result (stmt_at self.now.trees.height rank (here self.now.trees.source c.old)) }
+    {
+        (self.statement)(
+            self.trees.alloc,
+            self.trees.source.tokens,
+            self.trees.source.file,
+            c,
+            self.trees.height,
+            rank,
+        )
+    }
+}
