@@ -1,16 +1,16 @@
 -- The candidates of the paths are those of all worlds.
-use Rattle.std.proofs.Common.{◌≡◌, ◌<◌, ◌+◌, ℕ, Bool, true, false, List, [], ◌∷◌, ◌++◌, Option, Some, None, refl, sym, ap, ◌∙◌, subst, inl, inr, ◌⊎◌, ◌↔◌, append-nil}
+use Rattle.std.proofs.Common.{◌≡◌, ℕ, List, [], ◌∷◌, ◌++◌, Option, Some, None, refl, sym, ap, ◌∙◌, subst, inl, inr, ◌⊎◌, ◌↔◌, append-nil}
 use Rattle.std.specs.Prelude.{Contains, option_to_list}
 use Rattle.bit_words.specs.Worlds.{WorldTables, value_at}
 use Rattle.bit_words.specs.declared.fact.Fact.{Fact}
 use Rattle.bit_words.specs.declared.run.Run.{Run}
 use Rattle.first_form.specs.Among.{Among}
-use Rattle.first_form.specs.Form.{Program}
+use Rattle.first_form.specs.Programs.{Program}
 use Rattle.first_form.specs.Meaning.{answers_of, run_of}
 use Rattle.first_form.specs.Paths.{taken, paths_of}
 use Rattle.first_form.specs.Facts.{facts_shown}
-use Rattle.first_form.specs.Verdicts.{Words, words_of, Fits, Holds}
-use Rattle.first_form.specs.Candidates.{IsCandidate, PathFits, PathHolds, IsOfPath, GivesCandidate, HasFactsOf, AreCandidates}
+use Rattle.first_form.specs.Verdicts.{words_of}
+use Rattle.first_form.specs.Candidates.{IsCandidate, PathFits, PathHolds, IsOfPath, GivesCandidate, AreCandidates}
 use Rattle.first_form.specs.declared.candidate.Candidate.{Candidate}
 use Rattle.first_form.proofs.Cover.{among_left, among_right, cover}
 use Rattle.first_form.proofs.Worlds.{same_run}

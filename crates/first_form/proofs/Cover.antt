@@ -1,15 +1,13 @@
 -- The paths that are listed cover all answers: each run is the run along one of them.
-use Rattle.std.proofs.Common.{◌≡◌, ◌≢◌, ◌<◌, ◌≤◌, ◌+◌, ℕ, ℤ, suc, Bool, true, false, List, [], ◌∷◌, ◌++◌, Some, None, refl, sym, ap, ◌∙◌, subst, arith, inl, inr, ◌⊎◌}
+use Rattle.std.proofs.Common.{◌≡◌, ◌≢◌, ◌<◌, ◌≤◌, ◌+◌, ℕ, ℤ, Bool, true, false, List, [], ◌∷◌, ◌++◌, Some, refl, sym, ap, ◌∙◌, subst, arith, inl, inr, ◌⊎◌}
 use Rattle.std.specs.Prelude.{map, ◌==◌, ◌||◌, if◌then◌else◌, is_some}
-use Rattle.std.specs.List.{list_any}
 use Rattle.std.proofs.lemmas.Bool.Decides.{nat_tests}
 use Rattle.first_form.specs.declared.tree.Stmt.{Stmt}
 use Rattle.first_form.specs.Among.{Among}
-use Rattle.first_form.specs.Form.{Program}
-use Rattle.first_form.specs.Meaning.{Answers, Meaning, Paths, meaning, running, in_turn, rooms, all_literals, nothing, choice, tests, prints, says, happens, text_of, and_place, ways_in_turn, all_going, all_returned, joined_ways, call_room, first_place, at_start, ending, run_of}
+use Rattle.first_form.specs.Programs.{Program}
+use Rattle.first_form.specs.Meaning.{Answers, Meaning, Paths, meaning, running, in_turn, rooms, all_literals, nothing, choice, tests, prints, text_of, and_place, ways_in_turn, all_going, all_returned, call_room, first_place, at_start, ending, run_of}
 use Rattle.first_form.specs.Paths.{taken, paths_of}
 use Rattle.first_form.specs.declared.meaning.Standing.{Standing}
-use Rattle.first_form.specs.declared.paths.Ways.{Ways}
 use Rattle.first_form.proofs.Cases.{Each, induct, meaning-empty, meaning-block, meaning-if, meaning-if_else, meaning-print, meaning-return}
 
 -- ---- elements

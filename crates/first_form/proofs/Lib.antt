@@ -1,4 +1,4 @@
-pub mod Reading
+pub mod Collected
 pub mod Cases
 pub mod Ways
 pub mod Cover

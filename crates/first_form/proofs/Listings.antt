@@ -1,13 +1,13 @@
 -- How listed candidates stand for all.
-use Rattle.std.proofs.Common.{◌≡◌, ◌<◌, ◌≤◌, ◌+◌, ◌-◌, ℕ, zero, suc, Bool, true, false, List, [], ◌∷◌, ◌++◌, take, drop, length, Option, Some, None, refl, sym, ap, ◌∙◌, subst, arith, inl, inr, ◌⊎◌, ◌↔◌, append-nil, append_assoc, get_or}
+use Rattle.std.proofs.Common.{◌≡◌, ◌<◌, ◌+◌, ◌-◌, ℕ, zero, suc, Bool, true, false, List, [], ◌∷◌, ◌++◌, length, Option, Some, None, refl, sym, ap, ◌∙◌, subst, arith, inl, inr, ◌⊎◌, append-nil, append_assoc, get_or}
 use Rattle.std.proofs.lemmas.Option.{slice_get-get_or}
 use Rattle.std.proofs.lemmas.List.{length-append}
 use mathlib.Core.Bool.{beq}
-use Rattle.std.specs.Prelude.{Contains, not, map, slice_get, remove}
+use Rattle.std.specs.Prelude.{not, slice_get, remove}
 use Rattle.bit_words.specs.declared.fact.Fact.{Fact}
 use Rattle.first_form.specs.Among.{Among}
-use Rattle.first_form.specs.Form.{Program}
-use Rattle.first_form.specs.Candidates.{Answers, IsFirstWith, Finds, AreCandidates, IsCandidate, HasFactsOf, IsListing, Grows, FindsListed, Moves}
+use Rattle.first_form.specs.Programs.{Program}
+use Rattle.first_form.specs.Candidates.{Answers, IsFirstWith, Finds, AreCandidates, Grows, FindsListed, Moves}
 use Rattle.first_form.specs.declared.candidate.Candidate.{Candidate}
 use Rattle.first_form.specs.declared.listing.Listing.{Listing}
 use Rattle.first_form.proofs.Cover.{among_left, among_right}

@@ -1,7 +1,6 @@
 -- Paths through statements one after another, as far as they are followed.
-use Rattle.std.proofs.Common.{◌≡◌, ◌<◌, ◌≤◌, ◌+◌, ℕ, suc, List, [], ◌∷◌, ◌++◌, length, drop, refl, sym, ap, ◌∙◌, append_assoc, append-nil, arith}
-use Rattle.std.specs.Prelude.{map}
-use Rattle.first_form.specs.Meaning.{Meaning, Paths, ways_in_turn, all_going}
+use Rattle.std.proofs.Common.{◌≡◌, [], ◌++◌, refl, ap, append_assoc, append-nil}
+use Rattle.first_form.specs.Meaning.{Paths, all_going}
 use Rattle.first_form.specs.declared.paths.Ways.{Ways}
 
 -- these have returned before

@@ -1,19 +1,18 @@
 -- Verdicts that are taken from candidates are just.
-use Rattle.std.proofs.Common.{◌≡◌, ◌<◌, ◌≤◌, ◌+◌, ◌-◌, ℕ, zero, suc, Bool, true, false, List, [], ◌∷◌, ◌++◌, take, length, Option, Some, None, refl, sym, ap, ◌∙◌, subst, arith, inl, inr, ◌⊎◌, ◌↔◌}
-use Rattle.std.specs.Prelude.{Contains, not, map, slice_get}
+use Rattle.std.proofs.Common.{◌≡◌, ◌<◌, ◌+◌, ◌-◌, ℕ, zero, suc, true, false, List, [], ◌∷◌, ◌++◌, take, length, Option, Some, None, refl, sym, ap, ◌∙◌, subst, arith, inl, inr, ◌↔◌}
+use Rattle.std.specs.Prelude.{Contains, slice_get}
 use Rattle.std.specs.List.{AllZip}
 use Rattle.bit_words.specs.Worlds.{WorldTables}
 use Rattle.bit_words.specs.declared.fact.Fact.{Fact}
 use Rattle.first_form.specs.Among.{Among}
-use Rattle.first_form.specs.Form.{Program}
-use Rattle.first_form.specs.Verdicts.{Words, words_of, Fits, Holds, IsFirst, IsJust, AreJust, Diagnoses}
+use Rattle.first_form.specs.Programs.{Program}
+use Rattle.first_form.specs.Verdicts.{Words, words_of, Fits, Holds, IsFirst, IsJust, AreJust}
 use Rattle.first_form.specs.Facts.{facts_of}
-use Rattle.first_form.specs.Candidates.{Answers, IsFirstWith, AreCandidates, IsListing, Grows, FindsListed, Moves, worlds_of, IsJustFrom, AreJustFrom, GivesVerdict}
+use Rattle.first_form.specs.Candidates.{IsFirstWith, AreCandidates, IsListing, Grows, FindsListed, Moves, worlds_of, IsJustFrom, AreJustFrom, GivesVerdict}
 use Rattle.first_form.specs.declared.candidate.Candidate.{Candidate}
 use Rattle.first_form.specs.declared.listing.Listing.{Listing}
 use Rattle.first_form.specs.declared.verdict.Verdict.{Verdict}
 use Rattle.first_form.specs.declared.verdict.Verdict.TheVariants.{Must, MustNot, May}
-use Rattle.first_form.specs.declared.verdict.Findings.{Findings}
 use Rattle.first_form.proofs.Cover.{among_left}
 use Rattle.first_form.proofs.Listings.{get-append, get_within, among_at, some_is, grows_both}
 use Rattle.std.proofs.lemmas.List.{take_more}

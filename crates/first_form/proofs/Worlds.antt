@@ -1,9 +1,9 @@
 -- The world of a path gives the answers along it.
-use Rattle.std.proofs.Common.{◌≡◌, ◌≢◌, ◌<◌, ◌+◌, ◌%◌, ◌^◌, ℕ, zero, suc, Bool, true, false, List, [], ◌∷◌, ◌++◌, take, length, get_or, refl, sym, ap, ◌∙◌, subst, arith, inl, inr, ◌⊎◌}
+use Rattle.std.proofs.Common.{◌≡◌, ◌≢◌, ◌%◌, ◌^◌, ℕ, Bool, true, false, List, [], refl, sym, ap, ◌∙◌, subst, arith, inl, inr, ◌⊎◌}
 use Rattle.std.specs.Prelude.{map, ◌==◌, not, if◌then◌else◌}
 use Rattle.std.proofs.lemmas.Bool.Decides.{nat_tests}
 use Rattle.bit_words.specs.Worlds.{Table, value_at, Sets}
-use Rattle.first_form.specs.Form.{Program}
+use Rattle.first_form.specs.Programs.{Program}
 use Rattle.first_form.specs.Meaning.{Answers, answers_of, run_of, ending, meaning, first_place, at_start, and_place}
 use Rattle.first_form.specs.Paths.{taken}
 use Rattle.first_form.proofs.Cover.{frames-turn, all_sound, taken-other, taken-here}

@@ -1,10 +1,10 @@
 -- Worlds that fit, with the facts that hold over them, and how a diagnosis is taken from them.
-use Rattle.std.specs.Prelude.{◌≡◌, ◌<◌, ◌+◌, ◌↔◌, ◌⊎◌, ℕ, List, [], ◌∷◌, ◌++◌, Bool, true, false, not, Option, Some, None, Contains, length, slice_get, remove, map}
+use Rattle.std.specs.Prelude.{◌≡◌, ◌<◌, ◌+◌, ◌↔◌, ℕ, List, [], ◌∷◌, ◌++◌, Bool, true, false, not, Option, Some, None, Contains, slice_get, remove, map}
 use Rattle.std.specs.List.{AllZip}
 use Rattle.bit_words.specs.Worlds.{WorldTables}
 use Rattle.bit_words.specs.declared.fact.Fact.{Fact}
 use Rattle.first_form.specs.Among.{Among}
-use Rattle.first_form.specs.Form.{Program}
+use Rattle.first_form.specs.Programs.{Program}
 use Rattle.first_form.specs.Meaning.{run_of}
 use Rattle.first_form.specs.Paths.{taken}
 use Rattle.first_form.specs.Facts.{facts_shown}

@@ -1,36 +1,47 @@
--- The first form of a source, rule by rule (C99 6.7, 6.8, 6.9): each rule takes its tokens from the front of
--- a list, and gives its tree and the tokens behind it.
-use Rattle.std.specs.Prelude.{◌≡◌, ◌+◌, ◌≤◌, ℕ, ℤ, pos, zero, suc, List, [], ◌∷◌, ◌++◌, length, Bool, true, false, ◌&&◌, ◌||◌, not, nat_le, if◌then◌else◌, Option, Some, None, Result, Ok, Err, codes, count_by, option_map, ◌==◌}
+-- The first form of a source, read off its tree (C99 6.5, 6.7, 6.8, 6.9): one function for each construct, which gives None
+-- where the construct is not of the form.
+use Rattle.std.specs.Prelude.{◌≡◌, ◌+◌, ℕ, ℤ, pos, suc, max, List, [], ◌∷◌, map, Bool, true, false, ◌&&◌, ◌||◌, not, nat_le, if◌then◌else◌, Option, Some, None, is_none, Result, Ok, Err, codes, option_map, ◌==◌}
 use Rattle.std.specs.Str.{bytes_eq}
 use Rattle.std.specs.List.{list_any}
 use denote.Enum.Bare.{sameb}
-use Rattle.c_lexer.specs.declared.token.Keyword.{Keyword as KeywordType}
-use Rattle.c_lexer.specs.declared.token.Keyword.TheVariants as keyword
-use Rattle.c_lexer.specs.contracts.token.Keyword.{the_type as keyword_type}
-use Rattle.c_lexer.specs.declared.token.Punctuator.{Punctuator as PunctuatorType}
-use Rattle.c_lexer.specs.declared.token.Punctuator.TheVariants as mark
-use Rattle.c_lexer.specs.contracts.token.Punctuator.{the_type as mark_type}
 use Rattle.c_lexer.specs.declared.token.IntegerConstant.{IntegerConstant}
 use Rattle.c_lexer.specs.declared.token.IntegerType.{IntegerType}
 use Rattle.c_lexer.specs.declared.token.IntegerType.TheVariants.{Int}
-use Rattle.c_lexer.specs.declared.token.TokenKind.{TokenKind}
-use Rattle.c_lexer.specs.declared.token.TokenKind.TheVariants.{Identifier, Keyword, Punctuator, Integer, StringLiteral}
-use Rattle.c_lexer.specs.declared.token.Token.{Token}
-use Rattle.first_form.specs.declared.tree.Stmt.{Stmt}
+use Rattle.c_tree.specs.declared.expr.Expr.{Expr, out-Expr}
+use Rattle.c_tree.specs.declared.expr.Specifier.{Specifier, out-Specifier}
+use Rattle.c_tree.specs.declared.expr.Declarator.{Declarator, out-Declarator}
+use Rattle.c_tree.specs.declared.expr.Parameter.{Parameter, out-Parameter}
+use Rattle.c_tree.specs.declared.expr.TypeName.{TypeName}
+use Rattle.c_tree.specs.declared.expr.Field.{Field}
+use Rattle.c_tree.specs.declared.expr.Enumerator.{Enumerator}
+use Rattle.c_tree.specs.declared.expr.MemberDeclaration.{MemberDeclaration}
+use Rattle.c_tree.specs.declared.expr.Declarator.TheOpen as syntax
+use Rattle.c_tree.specs.declared.expr.Qualifier.TheVariants as qualifier
+use Rattle.c_tree.specs.declared.expr.TypeWord.{TypeWord}
+use Rattle.c_tree.specs.declared.expr.TypeWord.TheVariants as word
+use Rattle.c_tree.specs.contracts.expr.TypeWord.{the_type as word_type}
+use Rattle.c_tree.specs.declared.unit.InitDeclarator.{InitDeclarator}
+use Rattle.c_tree.specs.declared.unit.Stmt.{Stmt as Source, fold-Stmt, out-Stmt}
+use Rattle.c_tree.specs.declared.unit.Stmt.TheOpen as source
+use Rattle.c_tree.specs.declared.unit.Body.{Body}
+use Rattle.c_tree.specs.declared.unit.Body.TheVariants as body
+use Rattle.c_tree.specs.declared.unit.External.{External}
+use Rattle.c_tree.specs.declared.unit.External.TheVariants as external
+use Rattle.first_form.specs.declared.tree.Stmt.{Stmt, fold-Stmt as fold}
 use Rattle.first_form.specs.declared.tree.Stmt.TheVariants as stmt
+use Rattle.first_form.specs.declared.tree.Stmt.TheOpen as open_
 use Rattle.first_form.specs.declared.tree.Declaration.{Declaration}
+use Rattle.first_form.specs.Programs.{Program}
 use Rattle.first_form.specs.declared.form.FormFault.{FormFault}
 use Rattle.first_form.specs.declared.form.FormFault.TheVariants as fault
-
-abbrev pub Reading : Type 0 → Type 0
-Reading A = Option (A × List Token)
+use Rattle.first_form.specs.declared.form.Size.{Size}
 
 infixl 10 ◌>>=◌
 abbrev pub ◌>>=◌ : {A B : Type 0} → Option A → (A → Option B) → Option B
 None >>= f = None
 (Some x) >>= f = f x
 
--- What a function returned, seen by `view`, is what the rule reads, unless memory ran out.
+-- What a function returned, seen by `view`, is what the definition gives, unless memory ran out.
 abbrev pub Fails : {Y : Type 0} → FormFault → Option Y → Type 0
 Fails fault.Memory read = Unit {0}
 Fails fault.NotYetRead read = read ≡ None
@@ -39,71 +50,24 @@ abbrev pub Gives : {X Y : Type 0} → (X → Y) → Result X FormFault → Optio
 Gives view (Ok x) read = read ≡ Some (view x)
 Gives view (Err e) read = Fails e read
 
--- ---- single tokens
+-- what each gives, where each gives something
+abbrev pub all : {A : Type 0} → List (Option A) → Option (List A)
+all [] = Some []
+all (x ∷ xs) = x >>= (λ one. option_map (λ more. one ∷ more) (all xs))
 
-abbrev pub is_keyword : KeywordType → TokenKind → Bool
-is_keyword wanted (Keyword word) = sameb keyword_type word wanted
-is_keyword wanted _ = false
+-- ---- one level of each kind of tree
 
-abbrev pub is_mark : PunctuatorType → TokenKind → Bool
-is_mark wanted (Punctuator sign) = sameb mark_type sign wanted
-is_mark wanted _ = false
+abbrev pub ExprLayer : Type 0
+ExprLayer = syntax.Expr-F Declarator Expr Field Specifier Enumerator MemberDeclaration Parameter TypeName
 
-abbrev pub name_in : TokenKind → Option (List ℕ)
-name_in (Identifier name) = Some name
-name_in _ = None
+abbrev pub SpecifierLayer : Type 0
+SpecifierLayer = syntax.Specifier-F Declarator Expr Field Specifier Enumerator MemberDeclaration Parameter TypeName
 
-abbrev pub text_in : TokenKind → Option (List ℕ)
-text_in (StringLiteral text) = Some text
-text_in _ = None
+abbrev pub DeclaratorLayer : Type 0
+DeclaratorLayer = syntax.Declarator-F Declarator Expr Field Specifier Enumerator MemberDeclaration Parameter TypeName
 
--- the value of a constant of type int
-abbrev pub int_by : IntegerType → ℕ → Option ℤ
-int_by Int value = if nat_le value 2147483647 then Some (pos value) else None
-int_by _ value = None
-
-abbrev pub int_of : IntegerConstant → Option ℤ
-int_of constant = int_by constant.integer_type constant.value
-
-abbrev pub number_in : TokenKind → Option ℤ
-number_in (Integer constant) = int_of constant
-number_in _ = None
-
--- ---- tokens at the front
-
-abbrev pub begins : PunctuatorType → List Token → Bool
-begins wanted [] = false
-begins wanted (token ∷ rest) = is_mark wanted token.kind
-
-abbrev pub begins_with : KeywordType → List Token → Bool
-begins_with wanted [] = false
-begins_with wanted (token ∷ rest) = is_keyword wanted token.kind
-
-abbrev pub expect : PunctuatorType → List Token → Option (List Token)
-expect wanted [] = None
-expect wanted (token ∷ rest) = if is_mark wanted token.kind then Some rest else None
-
-abbrev pub expect_word : KeywordType → List Token → Option (List Token)
-expect_word wanted [] = None
-expect_word wanted (token ∷ rest) = if is_keyword wanted token.kind then Some rest else None
-
--- an identifier, with its place in the source
-abbrev pub name_at : List Token → Reading Declaration
-name_at [] = None
-name_at (token ∷ rest) = option_map (λ name. (record { at = token.start; name = name }, rest)) (name_in token.kind)
-
-abbrev pub has_percent : List ℕ → Bool
-has_percent text = list_any (λ byte. byte == 37) text
-
--- a string literal without a conversion: its text has no `%`
-abbrev pub text_at : List Token → Reading (List ℕ)
-text_at [] = None
-text_at (token ∷ rest) = text_in token.kind >>= (λ text. if has_percent text then None else Some (text, rest))
-
--- an int that isn't negative
-abbrev pub number_at : List Token → Reading ℤ
-number_at [] = None
-number_at (token ∷ rest) = option_map (λ value. (value, rest)) (number_in token.kind)
+abbrev pub ParameterLayer : Type 0
+ParameterLayer = syntax.Parameter-F Declarator Expr Field Specifier Enumerator MemberDeclaration Parameter TypeName
 
 -- ---- names
 
@@ -124,180 +88,289 @@ is_declared functions name = list_any (λ one. bytes_eq one.name name) functions
 abbrev pub is_outside : List Declaration → List ℕ → Bool
 is_outside functions name = not (is_printf name) && is_declared functions name
 
--- ---- statements; `item` reads a statement that stands inside another
+-- ---- expressions (C99 6.5)
 
-abbrev pub Item : Type 0
-Item = List Token → Reading Stmt
+-- a name, with its place in the source
+abbrev pub name_in : ExprLayer → Option Declaration
+name_in (syntax.Identifier at name) = Some (record { at = at; name = name })
+name_in _ = None
 
--- `("TEXT");` behind the word `printf` at this offset
-unfoldable pub print_at : ℕ → List Token → Reading Stmt
-print_at call tokens = do
-  rest ← expect mark.LeftParen tokens
-  text ← text_at rest
-  rest ← expect mark.RightParen text.1
-  rest ← expect mark.Semicolon rest
-  Some (stmt.Print call text.0, rest)
+unfoldable pub name_of : Expr → Option Declaration
+name_of e = name_in (out-Expr e)
 
--- `N;` behind the word `return`
-unfoldable pub return_at : List Token → Reading Stmt
-return_at tokens = do
-  value ← number_at tokens
-  rest ← expect mark.Semicolon value.1
-  Some (stmt.Return value.0, rest)
+-- a call of a name, with its arguments
+abbrev pub call_in : ExprLayer → Option (Declaration × List Expr)
+call_in (syntax.Call at callee arguments) = option_map (λ name. (name, arguments)) (name_of callee)
+call_in _ = None
 
-abbrev pub outside_callee : List Declaration → Declaration → List Token → Reading Declaration
-outside_callee functions callee rest = if is_outside functions callee.name then Some (callee, rest) else None
+unfoldable pub call_of : Expr → Option (Declaration × List Expr)
+call_of e = call_in (out-Expr e)
 
--- `(NAME())` behind the word `if`, where NAME is a declared outside function
-unfoldable pub test_at : List Declaration → List Token → Reading Declaration
-test_at functions tokens = do
-  rest ← expect mark.LeftParen tokens
-  callee ← name_at rest
-  rest ← expect mark.LeftParen callee.1
-  rest ← expect mark.RightParen rest
-  rest ← expect mark.RightParen rest
-  outside_callee functions callee.0 rest
+abbrev pub has_percent : List ℕ → Bool
+has_percent text = list_any (λ byte. byte == 37) text
 
--- statements up to a closing brace, at most so many more, behind those that were read
-unfoldable pub items_at : Item → ℕ → List Stmt → List Token → Reading (List Stmt)
-items_at item zero items tokens = None
-items_at item (suc n) items tokens = if begins mark.RightBrace tokens then Some (items, tokens) else do
-  first ← item tokens
-  items_at item n (items ++ first.0 ∷ []) first.1
+abbrev pub without_conversion : List ℕ → Option (List ℕ)
+without_conversion text = if has_percent text then None else Some text
 
--- statements and `}`
-unfoldable pub block_at : Item → List Token → Reading (List Stmt)
-block_at item tokens = do
-  items ← items_at item (suc (length tokens)) [] tokens
-  rest ← expect mark.RightBrace items.1
-  Some (items.0, rest)
+-- one string literal without a conversion: its text has no `%`
+abbrev pub text_in : ExprLayer → Option (List ℕ)
+text_in (syntax.StringLiteral at (text ∷ [])) = without_conversion text
+text_in _ = None
 
--- `else` and a statement, where `else` comes next: so it belongs to the nearest `if`
-unfoldable pub negative_at : Item → List Token → Reading (Option Stmt)
-negative_at item tokens = if begins_with keyword.Else tokens then (do
-  rest ← expect_word keyword.Else tokens
-  negative ← item rest
-  Some (Some negative.0, negative.1)) else Some (None, tokens)
+unfoldable pub text_of : Expr → Option (List ℕ)
+text_of e = text_in (out-Expr e)
 
--- the rest of a choice, behind the word `if` at this offset
-unfoldable pub if_at : List Declaration → Item → ℕ → List Token → Reading Stmt
-if_at functions item at tokens = do
-  test ← test_at functions tokens
-  positive ← item test.1
-  negative ← negative_at item positive.1
-  Some (stmt.If at test.0.at test.0.name positive.0 negative.0, negative.1)
+-- the value of a constant of type int
+abbrev pub int_by : IntegerType → ℕ → Option ℤ
+int_by Int value = if nat_le value 2147483647 then Some (pos value) else None
+int_by _ value = None
 
-abbrev pub inner : Item → List Token → Reading Stmt
-inner item tokens = do
-  items ← block_at item tokens
-  Some (stmt.Block items.0, items.1)
+abbrev pub int_of : IntegerConstant → Option ℤ
+int_of constant = int_by constant.integer_type constant.value
 
-abbrev pub stmt_of : List Declaration → Item → ℕ → TokenKind → List Token → Reading Stmt
-stmt_of functions item at (Punctuator mark.Semicolon) rest = Some (stmt.Empty, rest)
-stmt_of functions item at (Punctuator mark.LeftBrace) rest = inner item rest
-stmt_of functions item at (Keyword keyword.If) rest = if_at functions item at rest
-stmt_of functions item at (Keyword keyword.Return) rest = return_at rest
-stmt_of functions item at (Identifier name) rest = if is_printf name then print_at at rest else None
-stmt_of functions item at _ rest = None
+-- an int that isn't negative
+abbrev pub number_in : ExprLayer → Option ℤ
+number_in (syntax.Integer at constant) = int_of constant
+number_in _ = None
 
-abbrev pub stmt_by : List Declaration → Item → List Token → Reading Stmt
-stmt_by functions item [] = None
-stmt_by functions item (token ∷ rest) = stmt_of functions item token.start token.kind rest
+unfoldable pub number_of : Expr → Option ℤ
+number_of e = number_in (out-Expr e)
 
--- a statement in which at most so many nest, itself among them
-unfoldable pub stmt_at : List Declaration → ℕ → List Token → Reading Stmt
-stmt_at functions zero tokens = None
-stmt_at functions (suc depth) tokens = stmt_by functions (stmt_at functions depth) tokens
+-- `printf("TEXT")`
+abbrev pub print_by : Declaration → List Expr → Option Stmt
+print_by callee (text ∷ []) = if is_printf callee.name then option_map (λ text. stmt.Print callee.at text) (text_of text) else None
+print_by callee _ = None
 
--- ---- declarations, and the whole
+unfoldable pub print_of : Expr → Option Stmt
+print_of e = call_of e >>= (λ call. print_by call.0 call.1)
 
--- `int NAME (`
-unfoldable pub head_at : List Token → Reading Declaration
-head_at tokens = do
-  rest ← expect_word keyword.Int tokens
-  name ← name_at rest
-  rest ← expect mark.LeftParen name.1
-  Some (name.0, rest)
+-- `NAME()`, where NAME is a declared outside function
+abbrev pub test_by : List Declaration → Declaration → List Expr → Option Declaration
+test_by functions callee [] = if is_outside functions callee.name then Some callee else None
+test_by functions callee _ = None
 
--- `void)`
-unfoldable pub no_parameters_at : List Token → Option (List Token)
-no_parameters_at tokens = do
-  rest ← expect_word keyword.Void tokens
-  expect mark.RightParen rest
+unfoldable pub test_of : List Declaration → Expr → Option Declaration
+test_of functions e = call_of e >>= (λ call. test_by functions call.0 call.1)
 
--- `const char *, ...)`
-unfoldable pub format_parameters_at : List Token → Option (List Token)
-format_parameters_at tokens = do
-  rest ← expect_word keyword.Const tokens
-  rest ← expect_word keyword.Char rest
-  rest ← expect mark.Star rest
-  rest ← expect mark.Comma rest
-  rest ← expect mark.Ellipsis rest
-  expect mark.RightParen rest
+-- ---- statements (C99 6.8)
 
-abbrev pub parameters_at : List ℕ → List Token → Option (List Token)
-parameters_at name tokens = if is_printf name then format_parameters_at tokens else no_parameters_at tokens
+abbrev pub choice : ℕ → Declaration → Stmt → Option Stmt → Stmt
+choice at callee positive negative = stmt.If at callee.at callee.name positive negative
 
-abbrev pub may_declare : List Declaration → List ℕ → Bool
-may_declare functions name = not (is_left_out name) && not (is_declared functions name)
+-- one level of a statement, with what the statements in it are
+abbrev pub stated : List Declaration → source.Stmt-F (Option Stmt) → Option Stmt
+stated functions (source.Block at items) = option_map (λ items. stmt.Block items) (all items)
+stated functions (source.Value at None) = Some stmt.Empty
+stated functions (source.Value at (Some value)) = print_of value
+stated functions (source.If at condition positive None) = do
+  callee ← test_of functions condition
+  positive ← positive
+  Some (choice at callee positive None)
+stated functions (source.If at condition positive (Some negative)) = do
+  callee ← test_of functions condition
+  positive ← positive
+  negative ← negative
+  Some (choice at callee positive (Some negative))
+stated functions (source.Return at (Some value)) = option_map (λ value. stmt.Return value) (number_of value)
+stated functions _ = None
 
-abbrev pub declared_parameters : List ℕ → List Token → Option (List Token)
-declared_parameters name tokens = do
-  rest ← parameters_at name tokens
-  expect mark.Semicolon rest
+unfoldable pub statement : List Declaration → Source → Option Stmt
+statement functions s = fold-Stmt (Option Stmt) (stated functions) s
 
--- the rest of a declaration, behind `int NAME (`
-unfoldable pub declared_at : List Declaration → Declaration → List Token → Option (List Token)
-declared_at functions head tokens =
-    if may_declare functions head.name then declared_parameters head.name tokens else None
+-- ---- how large a statement is: how deep statements nest, itself among them, and how many choices stand in it
 
--- declarations up to `int main (`, at most so many more, behind those that were read
-unfoldable pub declarations_at : ℕ → List Declaration → List Token → Reading (List Declaration)
-declarations_at zero functions tokens = None
-declarations_at (suc n) functions tokens = do
-  head ← head_at tokens
-  if is_main head.0.name then Some (functions, head.1) else (do
-    rest ← declared_at functions head.0 head.1
-    declarations_at n (functions ++ head.0 ∷ []) rest)
+abbrev pub beside : Size → Size → Size
+beside x y = record { nesting = max x.nesting y.nesting; choices = x.choices + y.choices }
 
--- how deep statements nest, and how many choices there are
+abbrev pub nothing : Size
+nothing = record { nesting = 0; choices = 0 }
+
+abbrev pub sizes : List Size → Size
+sizes [] = nothing
+sizes (x ∷ xs) = beside x (sizes xs)
+
+abbrev pub round : ℕ → Size → Size
+round choices inner = record { nesting = suc inner.nesting; choices = choices + inner.choices }
+
+abbrev pub size_step : open_.Stmt-F Size → Size
+size_step open_.Empty = round 0 nothing
+size_step (open_.Block items) = round 0 (sizes items)
+size_step (open_.If at call callee positive None) = round 1 positive
+size_step (open_.If at call callee positive (Some negative)) = round 1 (beside positive negative)
+size_step (open_.Print call text) = round 0 nothing
+size_step (open_.Return value) = round 0 nothing
+
+unfoldable pub size : Stmt → Size
+size s = fold Size size_step s
+
+-- at most 100 statements round another, and at most 12 choices
 abbrev pub max_nesting : ℕ
 max_nesting = 101
 
 abbrev pub max_choices : ℕ
 max_choices = 12
 
-abbrev pub choices : List Token → ℕ
-choices tokens = count_by (λ token. is_keyword keyword.If token.kind) tokens
+abbrev pub is_small : Size → Bool
+is_small s = nat_le s.nesting max_nesting && nat_le s.choices max_choices
 
--- the functions that are declared before `main`, and the statements of `main`
-pub record Program : Type 0 where
-  pub functions : List Declaration
-  pub body : List Stmt
+-- ---- declarators (C99 6.7.5)
 
-abbrev pub alone : List Stmt → List Token → Option (List Stmt)
-alone body [] = Some body
-alone body (token ∷ rest) = None
+abbrev pub is_word_in : TypeWord → SpecifierLayer → Bool
+is_word_in wanted (syntax.Word at word) = sameb word_type word wanted
+is_word_in wanted _ = false
 
--- the body of `main` to the end of the source, behind `int main (`
-unfoldable pub body_at : List Declaration → List Token → Option (List Stmt)
-body_at functions tokens = do
-  rest ← no_parameters_at tokens
-  rest ← expect mark.LeftBrace rest
-  items ← block_at (stmt_at functions max_nesting) rest
-  alone items.0 items.1
+unfoldable pub is_word : TypeWord → Specifier → Bool
+is_word wanted s = is_word_in wanted (out-Specifier s)
+
+abbrev pub is_const_in : SpecifierLayer → Bool
+is_const_in (syntax.Qualifier at qualifier.Const) = true
+is_const_in _ = false
+
+unfoldable pub is_const : Specifier → Bool
+is_const s = is_const_in (out-Specifier s)
+
+-- one type word and nothing else
+abbrev pub is_only : TypeWord → List Specifier → Bool
+is_only wanted (s ∷ []) = is_word wanted s
+is_only wanted _ = false
+
+-- `const char`
+abbrev pub is_const_char : List Specifier → Bool
+is_const_char (first ∷ second ∷ []) = is_const first && is_word word.Char second
+is_const_char _ = false
+
+abbrev pub is_omitted_in : DeclaratorLayer → Bool
+is_omitted_in syntax.Omitted = true
+is_omitted_in _ = false
+
+unfoldable pub is_omitted : Declarator → Bool
+is_omitted d = is_omitted_in (out-Declarator d)
+
+-- `*`
+abbrev pub is_pointer_in : DeclaratorLayer → Bool
+is_pointer_in (syntax.Pointer at [] target) = is_omitted target
+is_pointer_in _ = false
+
+unfoldable pub is_pointer : Declarator → Bool
+is_pointer d = is_pointer_in (out-Declarator d)
+
+abbrev pub is_void_in : ParameterLayer → Bool
+is_void_in p = is_only word.Void p.specifiers && is_omitted p.declarator
+
+unfoldable pub is_void : Parameter → Bool
+is_void p = is_void_in (out-Parameter p)
+
+abbrev pub is_format_in : ParameterLayer → Bool
+is_format_in p = is_const_char p.specifiers && is_pointer p.declarator
+
+unfoldable pub is_format : Parameter → Bool
+is_format p = is_format_in (out-Parameter p)
+
+-- `void`
+abbrev pub are_none : List Parameter → Bool → Bool
+are_none (p ∷ []) variadic = not variadic && is_void p
+are_none _ variadic = false
+
+-- `const char *, ...`
+abbrev pub are_format : List Parameter → Bool → Bool
+are_format (p ∷ []) variadic = variadic && is_format p
+are_format _ variadic = false
+
+-- what stands between the parentheses of a function of this name
+abbrev pub fit : List ℕ → List Parameter → Bool → Bool
+fit name parameters variadic = if is_printf name then are_format parameters variadic else are_none parameters variadic
+
+abbrev pub declared_name_in : DeclaratorLayer → Option Declaration
+declared_name_in (syntax.Name at name) = Some (record { at = at; name = name })
+declared_name_in _ = None
+
+unfoldable pub declared_name : Declarator → Option Declaration
+declared_name d = declared_name_in (out-Declarator d)
+
+abbrev pub fitting : List Parameter → Bool → Declaration → Option Declaration
+fitting parameters variadic name = if fit name.name parameters variadic then Some name else None
+
+-- `NAME(void)`, and of `printf` `printf(const char *, ...)`
+abbrev pub declarator_in : DeclaratorLayer → Option Declaration
+declarator_in (syntax.Function at result parameters variadic) = declared_name result >>= fitting parameters variadic
+declarator_in _ = None
+
+unfoldable pub function_by : Declarator → Option Declaration
+function_by d = declarator_in (out-Declarator d)
+
+-- `int` and such a declarator
+abbrev pub function_of : List Specifier → Declarator → Option Declaration
+function_of specifiers declarator = if is_only word.Int specifiers then function_by declarator else None
+
+-- ---- external declarations (C99 6.9), and the whole
+
+abbrev pub is_nothing : List (List ℕ) → Bool
+is_nothing [] = true
+is_nothing _ = false
+
+-- a declarator alone, without an assembler name and without an initializer
+abbrev pub is_bare : InitDeclarator → Bool
+is_bare d = is_nothing d.assembler_name && is_none d.initializer
+
+abbrev pub may_declare : List ℕ → Bool
+may_declare name = not (is_left_out name) && not (is_main name)
+
+abbrev pub allowed : Declaration → Option Declaration
+allowed one = if may_declare one.name then Some one else None
+
+abbrev pub declared_by : List Specifier → List InitDeclarator → Option Declaration
+declared_by specifiers (d ∷ []) = if is_bare d then function_of specifiers d.declarator >>= allowed else None
+declared_by specifiers _ = None
+
+-- `int NAME(void);`, or that of `printf`
+unfoldable pub declaration_of : External → Option Declaration
+declaration_of (external.Declared declaration) = declared_by declaration.specifiers declaration.declarators
+declaration_of _ = None
+
+-- declarations, and what stands last
+unfoldable pub parts_of : List External → Option (List Declaration × External)
+parts_of [] = None
+parts_of (x ∷ []) = Some ([], x)
+parts_of (x ∷ y ∷ more) = do
+  one ← declaration_of x
+  parts ← parts_of (y ∷ more)
+  Some (one ∷ parts.0, parts.1)
+
+abbrev pub no_name_twice : List Declaration → Bool
+no_name_twice [] = true
+no_name_twice (one ∷ more) = not (is_declared more one.name) && no_name_twice more
 
 abbrev pub declares_printf : List Declaration → Bool
 declares_printf functions = list_any (λ one. is_printf one.name) functions
 
--- `printf` is declared, and there are few enough choices
-abbrev pub is_small : List Declaration → List Token → Bool
-is_small functions tokens = declares_printf functions && nat_le (choices tokens) max_choices
+abbrev pub items_in : List Declaration → source.Stmt-F Source → Option (List Stmt)
+items_in functions (source.Block at items) = all (map (statement functions) items)
+items_in functions _ = None
 
--- the program that tokens are, where they have the form
-unfoldable pub program_of : List Token → Option Program
-program_of tokens = do
-  functions ← declarations_at (suc (length tokens)) [] tokens
-  if is_small functions.0 tokens then (do
-    body ← body_at functions.0 functions.1
-    Some (record { functions = functions.0; body = body })) else None
+-- a block, by its statements
+unfoldable pub items_of : List Declaration → Source → Option (List Stmt)
+items_of functions s = items_in functions (out-Stmt s)
+
+abbrev pub body_of : List Declaration → Body → Option (List Stmt)
+body_of functions (body.Read block) = items_of functions block
+body_of functions (body.Unread at) = None
+
+-- `int main(void)` with a block, by its statements
+unfoldable pub main_of : List Declaration → External → Option (List Stmt)
+main_of functions (external.Function specifiers declarator body) = do
+  head ← function_of specifiers declarator
+  if is_main head.name then body_of functions body else None
+main_of functions _ = None
+
+abbrev pub are_sound : List Declaration → Bool
+are_sound functions = declares_printf functions && no_name_twice functions
+
+abbrev pub small_enough : List Declaration → List Stmt → Option Program
+small_enough functions body = if is_small (sizes (map size body)) then Some (record { functions = functions; body = body }) else None
+
+abbrev pub with_main : List Declaration → External → Option Program
+with_main functions last = if are_sound functions then main_of functions last >>= small_enough functions else None
+
+-- the program that external declarations are, where they have the form
+unfoldable pub program_of : List External → Option Program
+program_of externals = parts_of externals >>= (λ parts. with_main parts.0 parts.1)

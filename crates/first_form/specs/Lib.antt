@@ -1,3 +1,4 @@
+pub mod Programs
 pub mod Form
 pub mod Meaning
 pub mod Paths

@@ -1,5 +1,5 @@
 -- The lines of a log, and where texts begin in them.
-use Rattle.std.specs.Prelude.{ℕ, zero, suc, ◌+◌, ◌==◌, List, [], ◌∷◌, ◌++◌, length, take, drop, Bool, true, false, not, ◌&&◌, nat_lt, nat_eq, if◌then◌else◌, count_by}
+use Rattle.std.specs.Prelude.{ℕ, zero, suc, ◌+◌, ◌==◌, List, [], ◌∷◌, length, take, drop, Bool, false, not, nat_lt, nat_eq, if◌then◌else◌, count_by}
 use Rattle.std.specs.List.{starts_with}
 
 abbrev pub is_newline : ℕ → Bool

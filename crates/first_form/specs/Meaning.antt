@@ -1,15 +1,14 @@
 -- What a program of the first form does (C99 6.8).
-use Rattle.std.specs.Prelude.{ℕ, pos, ◌+◌, ◌%◌, ◌^◌, ◌==◌, List, [], ◌∷◌, ◌++◌, length, map, Bool, true, false, not, if◌then◌else◌, Option, Some, None, unwrap_or, is_some}
+use Rattle.std.specs.Prelude.{ℕ, pos, ◌+◌, ◌%◌, ◌^◌, ◌==◌, List, [], ◌∷◌, ◌++◌, length, map, Bool, true, false, not, if◌then◌else◌, Some, None, unwrap_or, is_some}
 use Rattle.std.specs.List.{take_while}
 use Rattle.bit_words.specs.declared.run.Side.TheVariants.{Yes, No}
 use Rattle.bit_words.specs.declared.run.Happening.{Happening}
 use Rattle.bit_words.specs.declared.run.Happening.TheVariants.{Branch, Call, Print as Printed}
-use Rattle.bit_words.specs.declared.run.Event.{Event}
 use Rattle.bit_words.specs.declared.run.Finish.TheVariants as finish
 use Rattle.bit_words.specs.declared.run.Run.{Run}
 use Rattle.first_form.specs.declared.tree.Stmt.{Stmt, fold-Stmt}
 use Rattle.first_form.specs.declared.tree.Stmt.TheOpen.{Stmt-F, Empty, Block, If, Print, Return}
-use Rattle.first_form.specs.Form.{Program}
+use Rattle.first_form.specs.Programs.{Program}
 use Rattle.first_form.specs.declared.meaning.Standing.{Standing}
 use Rattle.first_form.specs.declared.paths.Ways.{Ways}
 

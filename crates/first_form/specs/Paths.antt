@@ -1,7 +1,7 @@
 -- All paths through a program, and the answers along one.
 use Rattle.std.specs.Prelude.{ℕ, ◌==◌, List, [], ◌∷◌, ◌++◌, map}
 use Rattle.std.specs.List.{list_any}
-use Rattle.first_form.specs.Form.{Program}
+use Rattle.first_form.specs.Programs.{Program}
 use Rattle.first_form.specs.Meaning.{Answers, Paths, meaning, first_place, ways_in_turn}
 
 -- one path comes to the first statement

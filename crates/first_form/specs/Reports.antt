@@ -14,7 +14,7 @@ use Rattle.c_lexer.specs.declared.token.Place.{Place}
 use Rattle.c_tree.specs.PlaceTables.{PlaceTable, place_at, file_at}
 use Rattle.first_form.specs.declared.tree.Stmt.{Stmt, fold-Stmt}
 use Rattle.first_form.specs.declared.tree.Stmt.TheOpen.{Stmt-F, Empty, Block, If, Print, Return}
-use Rattle.first_form.specs.Form.{Program}
+use Rattle.first_form.specs.Programs.{Program}
 use Rattle.first_form.specs.Lines.{line_count}
 use Rattle.first_form.specs.Facts.{facts_of}
 use Rattle.first_form.specs.declared.verdict.Verdict.{Verdict}

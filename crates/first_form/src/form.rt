@@ -1,18 +1,20 @@
-//! The first form of a source: from its tokens to the tree.
-ghost use Rattle.std.specs.Prelude.{◌≡◌, ◌≤◌, ◌<◌, suc, length, IfOk, []};
+//! The first form of a source, read off the tree that the parser gives.
+ghost use Rattle.std.specs.Prelude.{◌≡◌, IfSome, IfOk, MatchOption, map, [], ◌∷◌};
 ghost use Rattle.first_form.specs.Form as spec;
 ghost use Rattle.first_form.specs.Form.{Gives};
-ghost use Rattle.c_tree.specs.PlaceTables.{places_of};
 
 use crate::tree::{Declaration, Stmt, Unit};
 use bit_words::Bytes;
-use c_lexer::{IntegerConstant, IntegerType, Keyword, Punctuator, Token, TokenKind, Tokens};
-use c_tree::Places;
+use c_lexer::{IntegerConstant, IntegerType};
+use c_tree::{
+    Body, Declarator, Expr, External, InitDeclarator, Parameter, Qualifier, Specifier,
+    Stmt as Source, TypeWord,
+};
 use plain_data::{Items, Shared};
 use std::alloc::{AllocError, Global};
 use thiserror::Error;
 
-/// Why there is no tree.
+/// Why there is no program.
 #[derive(Clone, Copy, Debug, PartialEq, Eq, Error)]
 pub enum FormFault {
     #[error("the source is not of the form that is read so far")]
@@ -32,146 +34,21 @@ impl From<AllocError> for FormFault {
     }
 }
 
+/// How deep statements nest, themselves among them, and how many choices stand in them.
+#[derive(Clone, Copy, Debug, PartialEq, Eq)]
+pub struct Size {
+    pub nesting: u64,
+    pub choices: u64,
+}
+
 /// How many statements may stand inside one another.
-const MAX_NESTING: u32 = 101;
+const MAX_NESTING: u64 = 101;
+
+/// How many choices a source may have.
+const MAX_CHOICES: u64 = 12;
 
 /// The greatest int.
 const MAX_INT: u64 = 2_147_483_647;
-
-/// How many choices a source may have.
-const MAX_CHOICES: usize = 12;
-
-fn is_keyword(kind: &TokenKind, wanted: Keyword) -> bool
-    ensures { result ≡ spec.is_keyword wanted kind.now }
-{
-    match kind {
-        TokenKind::Keyword(word) => *word == wanted,
-        _ => false,
-    }
-}
-
-fn is_mark(kind: &TokenKind, wanted: Punctuator) -> bool
-    ensures { result ≡ spec.is_mark wanted kind.now }
-{
-    match kind {
-        TokenKind::Punctuator(sign) => *sign == wanted,
-        _ => false,
-    }
-}
-
-fn begins(tokens: &[Token], wanted: Punctuator) -> bool
-    ensures { result ≡ spec.begins wanted tokens.now }
-{
-    match tokens {
-        [token, ..] => is_mark(&token.kind, wanted),
-        [] => false,
-    }
-}
-
-fn begins_with(tokens: &[Token], wanted: Keyword) -> bool
-    ensures { result ≡ spec.begins_with wanted tokens.now }
-{
-    match tokens {
-        [token, ..] => is_keyword(&token.kind, wanted),
-        [] => false,
-    }
-}
-
-fn expect(tokens: &[Token], wanted: Punctuator) -> Result<&[Token], FormFault>
-    ensures { Gives (λ x. x.now) result (spec.expect wanted tokens.now) }
-{
-    match tokens {
-        [token, rest @ ..] => {
-            if is_mark(&token.kind, wanted) {
-                Ok(rest)
-            } else {
-                Err(FormFault::NotYetRead)
-            }
-        }
-        [] => Err(FormFault::NotYetRead),
-    }
-}
-
-fn expect_word(tokens: &[Token], wanted: Keyword) -> Result<&[Token], FormFault>
-    ensures { Gives (λ x. x.now) result (spec.expect_word wanted tokens.now) }
-{
-    match tokens {
-        [token, rest @ ..] => {
-            if is_keyword(&token.kind, wanted) {
-                Ok(rest)
-            } else {
-                Err(FormFault::NotYetRead)
-            }
-        }
-        [] => Err(FormFault::NotYetRead),
-    }
-}
-
-fn name(tokens: &[Token]) -> Result<(Declaration, &[Token]), FormFault>
-    ensures { Gives (λ x. (x.0, x.1.now)) result (spec.name_at tokens.now) }
-{
-    match tokens {
-        [token, rest @ ..] => match &token.kind {
-            TokenKind::Identifier(name) => {
-                let name = name.clone()?;
-                Ok((
-                    Declaration {
-                        at: token.start,
-                        name,
-                    },
-                    rest,
-                ))
-            }
-            _ => Err(FormFault::NotYetRead),
-        },
-        [] => Err(FormFault::NotYetRead),
-    }
-}
-
-fn has_percent(text: &[u8]) -> bool
-    ensures { result ≡ spec.has_percent text.now }
-{
-    text.iter().any(|byte| *byte == b'%')
-}
-
-fn text(tokens: &[Token]) -> Result<(Shared<Bytes>, &[Token]), FormFault>
-    ensures { Gives (λ x. (x.0, x.1.now)) result (spec.text_at tokens.now) }
-{
-    match tokens {
-        [token, rest @ ..] => match &token.kind {
-            TokenKind::StringLiteral(text) => {
-                if has_percent(text.get().as_slice()) {
-                    Err(FormFault::NotYetRead)
-                } else {
-                    Ok((text.clone()?, rest))
-                }
-            }
-            _ => Err(FormFault::NotYetRead),
-        },
-        [] => Err(FormFault::NotYetRead),
-    }
-}
-
-fn int_value(constant: &IntegerConstant) -> Result<i32, FormFault>
-    ensures { Gives (λ x. x) result (spec.int_of constant.now) }
-{
-    match constant.integer_type {
-        IntegerType::Int if constant.value <= MAX_INT => Ok(constant.value as i32),
-        _ => Err(FormFault::NotYetRead),
-    }
-}
-
-fn number(tokens: &[Token]) -> Result<(i32, &[Token]), FormFault>
-    ensures { Gives (λ x. (x.0, x.1.now)) result (spec.number_at tokens.now) }
-{
-    match tokens {
-        [token, rest @ ..] => match &token.kind {
-            TokenKind::Integer(constant) => Ok((int_value(constant)?, rest)),
-            _ => Err(FormFault::NotYetRead),
-        },
-        [] => Err(FormFault::NotYetRead),
-    }
-}
 
 fn is_printf(name: &[u8]) -> bool
     ensures { result ≡ spec.is_printf name.now }
@@ -185,6 +62,7 @@ fn is_main(name: &[u8]) -> bool
     name == b"main".as_slice()
 }
 
+/// Whether C gives the function a meaning that this form leaves out.
 fn is_left_out(name: &[u8]) -> bool
     ensures { result ≡ spec.is_left_out name.now }
 {
@@ -208,6 +86,556 @@ fn is_outside(functions: &[Declaration], name: &[u8]) -> bool
     !is_printf(name) && is_declared(functions, name)
 }
 
+/// A name, with its place in the source.
+#[tactic(auto, unfolding(crate::specs::Form::name_of))]
+fn name_of(expr: &Expr) -> Result<Declaration, FormFault>
+    ensures { Gives (λ x. x) result (spec.name_of expr.now) }
+{
+    match expr {
+        Expr::Identifier { at, name } => Ok(Declaration {
+            at: *at,
+            name: name.clone()?,
+        }),
+        _ => Err(FormFault::NotYetRead),
+    }
+}
+
+/// A call of a name, with its arguments.
+#[tactic(auto, unfolding(crate::specs::Form::call_of))]
+fn call_of(expr: &Expr) -> Result<(Declaration, &[Shared<Expr>]), FormFault>
+    ensures { Gives (λ x. (x.0, x.1.now)) result (spec.call_of expr.now) }
+{
+    match expr {
+        Expr::Call {
+            at: _,
+            callee,
+            arguments,
+        } => Ok((name_of(callee.get())?, arguments.as_slice())),
+        _ => Err(FormFault::NotYetRead),
+    }
+}
+
+fn has_percent(text: &[u8]) -> bool
+    ensures { result ≡ spec.has_percent text.now }
+{
+    text.iter().any(|byte| *byte == b'%')
+}
+
+fn without_conversion(text: &Shared<Bytes>) -> Result<Shared<Bytes>, FormFault>
+    ensures { Gives (λ x. x) result (spec.without_conversion text.now) }
+{
+    if has_percent(text.get().as_slice()) {
+        Err(FormFault::NotYetRead)
+    } else {
+        Ok(text.clone()?)
+    }
+}
+
+/// One string literal without a conversion.
+#[tactic(auto, unfolding(crate::specs::Form::text_of))]
+fn text_of(expr: &Expr) -> Result<Shared<Bytes>, FormFault>
+    ensures { Gives (λ x. x) result (spec.text_of expr.now) }
+{
+    match expr {
+        Expr::StringLiteral { at: _, pieces } => match pieces.as_slice() {
+            [text] => without_conversion(text),
+            _ => Err(FormFault::NotYetRead),
+        },
+        _ => Err(FormFault::NotYetRead),
+    }
+}
+
+fn int_value(constant: &IntegerConstant) -> Result<i32, FormFault>
+    ensures { Gives (λ x. x) result (spec.int_of constant.now) }
+{
+    match constant.integer_type {
+        IntegerType::Int if constant.value <= MAX_INT => Ok(constant.value as i32),
+        _ => Err(FormFault::NotYetRead),
+    }
+}
+
+/// An int that isn't negative.
+#[tactic(auto, unfolding(crate::specs::Form::number_of))]
+fn number_of(expr: &Expr) -> Result<i32, FormFault>
+    ensures { Gives (λ x. x) result (spec.number_of expr.now) }
+{
+    match expr {
+        Expr::Integer { at: _, constant } => int_value(constant),
+        _ => Err(FormFault::NotYetRead),
+    }
+}
+
+fn print_by(callee: &Declaration, arguments: &[Shared<Expr>]) -> Result<Stmt, FormFault>
+    ensures { Gives (λ x. x) result (spec.print_by callee.now arguments.now) }
+{
+    match arguments {
+        [text] if is_printf(callee.name.get().as_slice()) => Ok(Stmt::Print {
+            call: callee.at,
+            text: text_of(text.get())?,
+        }),
+        _ => Err(FormFault::NotYetRead),
+    }
+}
+
+/// `printf("TEXT")`.
+#[tactic(auto, unfolding(crate::specs::Form::print_of))]
+fn print_of(expr: &Expr) -> Result<Stmt, FormFault>
+    ensures { Gives (λ x. x) result (spec.print_of expr.now) }
+{
+    let (callee, arguments) = call_of(expr)?;
+    print_by(&callee, arguments)
+}
+
+fn test_by(
+    functions: &[Declaration],
+    callee: Declaration,
+    arguments: &[Shared<Expr>],
+) -> Result<Declaration, FormFault>
+    ensures { Gives (λ x. x) result (spec.test_by functions.now callee arguments.now) }
+{
+    if arguments.is_empty() && is_outside(functions, callee.name.get().as_slice()) {
+        Ok(callee)
+    } else {
+        Err(FormFault::NotYetRead)
+    }
+}
+
+/// `NAME()`, where NAME is a declared outside function.
+#[tactic(auto, unfolding(crate::specs::Form::test_of))]
+fn test_of(functions: &[Declaration], expr: &Expr) -> Result<Declaration, FormFault>
+    ensures { Gives (λ x. x) result (spec.test_of functions.now expr.now) }
+{
+    let (callee, arguments) = call_of(expr)?;
+    test_by(functions, callee, arguments)
+}
+
+fn choice(
+    at: u32,
+    callee: Declaration,
+    positive: Shared<Stmt>,
+    negative: Option<Shared<Stmt>>,
+) -> Stmt
+    ensures { result ≡ spec.choice at callee positive negative }
+{
+    let Declaration { at: call, name } = callee;
+    Stmt::If {
+        at,
+        call,
+        callee: name,
+        positive,
+        negative,
+    }
+}
+
+/// A statement.
+#[cycle(statement)]
+#[tactic(auto, unfolding(crate::specs::Form::statement))]
+fn statement(alloc: Global, functions: &[Declaration], stmt: &Source) -> Result<Stmt, FormFault>
+    ensures { Gives (λ x. x) result (spec.statement functions.now stmt.now) }
+{
+    match stmt {
+        Source::Block { at: _, items } => {
+            let items = statements(alloc, functions, items.as_slice())?;
+            Ok(Stmt::Block { items })
+        }
+        Source::Value { at: _, value: None } => Ok(Stmt::Empty),
+        Source::Value {
+            at: _,
+            value: Some(value),
+        } => print_of(value),
+        Source::If {
+            at,
+            condition,
+            positive,
+            negative: None,
+        } => {
+            let callee = test_of(functions, condition)?;
+            let positive = statement(alloc, functions, positive.get())?;
+            let positive = Shared::new(alloc, positive)?;
+            Ok(choice(*at, callee, positive, None))
+        }
+        Source::If {
+            at,
+            condition,
+            positive,
+            negative: Some(negative),
+        } => {
+            let callee = test_of(functions, condition)?;
+            let positive = statement(alloc, functions, positive.get())?;
+            let positive = Shared::new(alloc, positive)?;
+            let negative = statement(alloc, functions, negative.get())?;
+            let negative = Shared::new(alloc, negative)?;
+            Ok(choice(*at, callee, positive, Some(negative)))
+        }
+        Source::Return {
+            at: _,
+            value: Some(value),
+        } => {
+            let value = number_of(value)?;
+            Ok(Stmt::Return { value })
+        }
+        _ => Err(FormFault::NotYetRead),
+    }
+}
+
+#[cycle(statement)]
+fn statements(
+    alloc: Global,
+    functions: &[Declaration],
+    items: &[Shared<Source>],
+) -> Result<Items<Shared<Stmt>>, FormFault>
+    ensures { Gives (λ x. x) result (spec.all (map (spec.statement functions.now) items.now)) }
+{
+    let mut all = Items::new(alloc);
+    for item in items {
+        let stmt = statement(alloc, functions, item.get())?;
+        all.push(Shared::new(alloc, stmt)?)?;
+    }
+    Ok(all)
+}
+
+const NOTHING: Size = Size {
+    nesting: 0,
+    choices: 0,
+};
+
+/// The size of two statements that stand beside each other; none where a number passes 2^64 - 1.
+fn beside(first: Size, second: Size) -> Option<Size>
+    ensures { IfSome result (λ r. r ≡ spec.beside first second) }
+{
+    Some(Size {
+        nesting: first.nesting.max(second.nesting),
+        choices: first.choices.checked_add(second.choices)?,
+    })
+}
+
+/// The size of a statement round another; none where a number passes 2^64 - 1.
+fn round(choices: u64, inner: Size) -> Option<Size>
+    ensures { IfSome result (λ r. r ≡ spec.round choices inner) }
+{
+    Some(Size {
+        nesting: inner.nesting.checked_add(1)?,
+        choices: choices.checked_add(inner.choices)?,
+    })
+}
+
+/// How large a statement is; none where a number passes 2^64 - 1.
+#[cycle(sizing)]
+#[tactic(auto, unfolding(crate::specs::Form::size))]
+fn size_of(stmt: &Stmt) -> Option<Size>
+    ensures { IfSome result (λ r. r ≡ spec.size stmt.now) }
+{
+    match stmt {
+        Stmt::Empty => round(0, NOTHING),
+        Stmt::Block { items } => round(0, sizes(items.as_slice())?),
+        Stmt::If {
+            at: _,
+            call: _,
+            callee: _,
+            positive,
+            negative: None,
+        } => round(1, size_of(positive.get())?),
+        Stmt::If {
+            at: _,
+            call: _,
+            callee: _,
+            positive,
+            negative: Some(negative),
+        } => round(
+            1,
+            beside(size_of(positive.get())?, size_of(negative.get())?)?,
+        ),
+        Stmt::Print { call: _, text: _ } => round(0, NOTHING),
+        Stmt::Return { value: _ } => round(0, NOTHING),
+    }
+}
+
+#[cycle(sizing)]
+fn sizes(items: &[Shared<Stmt>]) -> Option<Size>
+    ensures { IfSome result (λ r. r ≡ spec.sizes (map spec.size items.now)) }
+{
+    let mut total = NOTHING;
+    for item in items {
+        total = beside(total, size_of(item.get())?)?;
+    }
+    Some(total)
+}
+
+fn is_small(size: Size) -> bool
+    ensures { result ≡ spec.is_small size }
+{
+    size.nesting <= MAX_NESTING && size.choices <= MAX_CHOICES
+}
+
+#[tactic(auto, unfolding(crate::specs::Form::is_word))]
+fn is_word(specifier: &Specifier, wanted: TypeWord) -> bool
+    ensures { result ≡ spec.is_word wanted specifier.now }
+{
+    match specifier {
+        Specifier::Word { at: _, word } => *word == wanted,
+        _ => false,
+    }
+}
+
+#[tactic(auto, unfolding(crate::specs::Form::is_const))]
+fn is_const(specifier: &Specifier) -> bool
+    ensures { result ≡ spec.is_const specifier.now }
+{
+    match specifier {
+        Specifier::Qualifier {
+            at: _,
+            qualifier: Qualifier::Const,
+        } => true,
+        _ => false,
+    }
+}
+
+/// Whether the specifiers are this type word and nothing else.
+fn is_only(specifiers: &[Shared<Specifier>], wanted: TypeWord) -> bool
+    ensures { result ≡ spec.is_only wanted specifiers.now }
+{
+    match specifiers {
+        [one] => is_word(one.get(), wanted),
+        _ => false,
+    }
+}
+
+/// `const char`.
+fn is_const_char(specifiers: &[Shared<Specifier>]) -> bool
+    ensures { result ≡ spec.is_const_char specifiers.now }
+{
+    match specifiers {
+        [first, second] => is_const(first.get()) && is_word(second.get(), TypeWord::Char),
+        _ => false,
+    }
+}
+
+#[tactic(auto, unfolding(crate::specs::Form::is_omitted))]
+fn is_omitted(declarator: &Declarator) -> bool
+    ensures { result ≡ spec.is_omitted declarator.now }
+{
+    match declarator {
+        Declarator::Omitted => true,
+        _ => false,
+    }
+}
+
+/// `*`.
+#[tactic(auto, unfolding(crate::specs::Form::is_pointer))]
+fn is_pointer(declarator: &Declarator) -> bool
+    ensures { result ≡ spec.is_pointer declarator.now }
+{
+    match declarator {
+        Declarator::Pointer {
+            at: _,
+            qualifiers,
+            target,
+        } => match qualifiers.as_slice() {
+            [] => is_omitted(target.get()),
+            _ => false,
+        },
+        _ => false,
+    }
+}
+
+#[tactic(auto, unfolding(crate::specs::Form::is_void))]
+fn is_void(parameter: &Parameter) -> bool
+    ensures { result ≡ spec.is_void parameter.now }
+{
+    is_only(parameter.specifiers.as_slice(), TypeWord::Void)
+        && is_omitted(parameter.declarator.get())
+}
+
+#[tactic(auto, unfolding(crate::specs::Form::is_format))]
+fn is_format(parameter: &Parameter) -> bool
+    ensures { result ≡ spec.is_format parameter.now }
+{
+    is_const_char(parameter.specifiers.as_slice()) && is_pointer(parameter.declarator.get())
+}
+
+/// `void`.
+fn are_none(parameters: &[Shared<Parameter>], variadic: bool) -> bool
+    ensures { result ≡ spec.are_none parameters.now variadic }
+{
+    match parameters {
+        [one] => !variadic && is_void(one.get()),
+        _ => false,
+    }
+}
+
+/// `const char *, ...`.
+fn are_format(parameters: &[Shared<Parameter>], variadic: bool) -> bool
+    ensures { result ≡ spec.are_format parameters.now variadic }
+{
+    match parameters {
+        [one] => variadic && is_format(one.get()),
+        _ => false,
+    }
+}
+
+/// Whether these are the parameters of a function of this name.
+fn fit(name: &[u8], parameters: &[Shared<Parameter>], variadic: bool) -> bool
+    ensures { result ≡ spec.fit name.now parameters.now variadic }
+{
+    if is_printf(name) {
+        are_format(parameters, variadic)
+    } else {
+        are_none(parameters, variadic)
+    }
+}
+
+#[tactic(auto, unfolding(crate::specs::Form::declared_name))]
+fn declared_name(declarator: &Declarator) -> Result<Declaration, FormFault>
+    ensures { Gives (λ x. x) result (spec.declared_name declarator.now) }
+{
+    match declarator {
+        Declarator::Name { at, name } => Ok(Declaration {
+            at: *at,
+            name: name.clone()?,
+        }),
+        _ => Err(FormFault::NotYetRead),
+    }
+}
+
+fn fitting(
+    parameters: &[Shared<Parameter>],
+    variadic: bool,
+    name: Declaration,
+) -> Result<Declaration, FormFault>
+    ensures { Gives (λ x. x) result (spec.fitting parameters.now variadic name) }
+{
+    if fit(name.name.get().as_slice(), parameters, variadic) {
+        Ok(name)
+    } else {
+        Err(FormFault::NotYetRead)
+    }
+}
+
+/// `NAME(void)`, and of `printf` `printf(const char *, ...)`.
+#[tactic(auto, unfolding(crate::specs::Form::function_by))]
+fn function_by(declarator: &Declarator) -> Result<Declaration, FormFault>
+    ensures { Gives (λ x. x) result (spec.function_by declarator.now) }
+{
+    match declarator {
+        Declarator::Function {
+            at: _,
+            result,
+            parameters,
+            variadic,
+        } => {
+            let name = declared_name(result.get())?;
+            fitting(parameters.as_slice(), *variadic, name)
+        }
+        _ => Err(FormFault::NotYetRead),
+    }
+}
+
+/// `int` and such a declarator.
+fn function_of(
+    specifiers: &[Shared<Specifier>],
+    declarator: &Declarator,
+) -> Result<Declaration, FormFault>
+    ensures { Gives (λ x. x) result (spec.function_of specifiers.now declarator.now) }
+{
+    if is_only(specifiers, TypeWord::Int) {
+        function_by(declarator)
+    } else {
+        Err(FormFault::NotYetRead)
+    }
+}
+
+fn is_bare(declarator: &InitDeclarator) -> bool
+    ensures { result ≡ spec.is_bare declarator.now }
+{
+    match declarator.assembler_name.as_slice() {
+        [] => declarator.initializer.is_none(),
+        _ => false,
+    }
+}
+
+fn may_declare(name: &[u8]) -> bool
+    ensures { result ≡ spec.may_declare name.now }
+{
+    !is_left_out(name) && !is_main(name)
+}
+
+fn allowed(one: Declaration) -> Result<Declaration, FormFault>
+    ensures { Gives (λ x. x) result (spec.allowed one) }
+{
+    if may_declare(one.name.get().as_slice()) {
+        Ok(one)
+    } else {
+        Err(FormFault::NotYetRead)
+    }
+}
+
+fn declared_by(
+    specifiers: &[Shared<Specifier>],
+    declarators: &[InitDeclarator],
+) -> Result<Declaration, FormFault>
+    ensures { Gives (λ x. x) result (spec.declared_by specifiers.now declarators.now) }
+{
+    match declarators {
+        [one] if is_bare(one) => allowed(function_of(specifiers, &one.declarator)?),
+        _ => Err(FormFault::NotYetRead),
+    }
+}
+
+/// `int NAME(void);`, or that of `printf`.
+#[tactic(auto, unfolding(crate::specs::Form::declaration_of))]
+fn declaration_of(external: &External) -> Result<Declaration, FormFault>
+    ensures { Gives (λ x. x) result (spec.declaration_of external.now) }
+{
+    match external {
+        External::Declared { declaration } => declared_by(
+            declaration.specifiers.as_slice(),
+            declaration.declarators.as_slice(),
+        ),
+        _ => Err(FormFault::NotYetRead),
+    }
+}
+
+fn split(externals: &[External]) -> Option<(&External, &[External])>
+    ensures { MatchOption result (externals.now ≡ []) (λ p. externals.now ≡ p.0.now ∷ p.1.now) }
+{
+    match externals {
+        [external, more @ ..] => Some((external, more)),
+        [] => None,
+    }
+}
+
+/// Declarations, and what stands last.
+fn parts_of(
+    alloc: Global,
+    externals: &[External],
+) -> Result<(Items<Declaration>, &External), FormFault>
+    ensures { Gives (λ x. (x.0, x.1.now)) result (spec.parts_of externals.now) }
+{
+    let mut functions = Items::new(alloc);
+    let mut rest = externals;
+    'declarations: while let Some((external, more)) = split(rest) {
+        if more.is_empty() {
+            return Ok((functions, external));
+        }
+        functions.push(declaration_of(external)?)?;
+        rest = more;
+    }
+    Err(FormFault::NotYetRead)
+}
+
+fn no_name_twice(functions: &[Declaration]) -> bool
+    ensures { result ≡ spec.no_name_twice functions.now }
+{
+    let mut rest = functions;
+    'names: while let [one, more @ ..] = rest {
+        if is_declared(more, one.name.get().as_slice()) {
+            return false;
+        }
+        rest = more;
+    }
+    true
+}
+
 fn declares_printf(functions: &[Declaration]) -> bool
     ensures { result ≡ spec.declares_printf functions.now }
 {
@@ -216,113 +644,58 @@ fn declares_printf(functions: &[Declaration]) -> bool
         .any(|one| is_printf(one.name.get().as_slice()))
 }
 
-/// `("TEXT");` behind the word `printf`.
-#[tactic(auto, unfolding(crate::specs::Form::print_at))]
-fn print(call: u32, tokens: &[Token]) -> Result<(Stmt, &[Token]), FormFault>
-    ensures { Gives (λ x. (x.0, x.1.now)) result (spec.print_at call tokens.now) }
+fn are_sound(functions: &[Declaration]) -> bool
+    ensures { result ≡ spec.are_sound functions.now }
 {
-    let rest = expect(tokens, Punctuator::LeftParen)?;
-    let (text, rest) = text(rest)?;
-    let rest = expect(rest, Punctuator::RightParen)?;
-    let rest = expect(rest, Punctuator::Semicolon)?;
-    Ok((Stmt::Print { call, text }, rest))
+    declares_printf(functions) && no_name_twice(functions)
 }
 
-/// `N;` behind the word `return`.
-#[tactic(auto, unfolding(crate::specs::Form::return_at))]
-fn finish(tokens: &[Token]) -> Result<(Stmt, &[Token]), FormFault>
-    ensures { Gives (λ x. (x.0, x.1.now)) result (spec.return_at tokens.now) }
-{
-    let (value, rest) = number(tokens)?;
-    let rest = expect(rest, Punctuator::Semicolon)?;
-    Ok((Stmt::Return { value }, rest))
-}
-
-fn outside<'a>(
+/// A block, by its statements.
+#[tactic(auto, unfolding(crate::specs::Form::items_of))]
+fn items_of(
+    alloc: Global,
     functions: &[Declaration],
-    callee: Declaration,
-    rest: &'a [Token],
-) -> Result<(Declaration, &'a [Token]), FormFault>
-    ensures { Gives (λ x. (x.0, x.1.now)) result (spec.outside_callee functions.now callee rest.now) }
+    stmt: &Source,
+) -> Result<Items<Shared<Stmt>>, FormFault>
+    ensures { Gives (λ x. x) result (spec.items_of functions.now stmt.now) }
 {
-    if is_outside(functions, callee.name.get().as_slice()) {
-        Ok((callee, rest))
-    } else {
-        Err(FormFault::NotYetRead)
+    match stmt {
+        Source::Block { at: _, items } => statements(alloc, functions, items.as_slice()),
+        _ => Err(FormFault::NotYetRead),
     }
 }
 
-/// `(NAME())` behind the word `if`.
-#[tactic(auto, unfolding(crate::specs::Form::test_at))]
-fn test<'a>(
-    functions: &[Declaration],
-    tokens: &'a [Token],
-) -> Result<(Declaration, &'a [Token]), FormFault>
-    ensures { Gives (λ x. (x.0, x.1.now)) result (spec.test_at functions.now tokens.now) }
-{
-    let rest = expect(tokens, Punctuator::LeftParen)?;
-    let (callee, rest) = name(rest)?;
-    let rest = expect(rest, Punctuator::LeftParen)?;
-    let rest = expect(rest, Punctuator::RightParen)?;
-    let rest = expect(rest, Punctuator::RightParen)?;
-    outside(functions, callee, rest)
-}
-
-/// A statement in which at most `depth` statements nest, itself among them.
-#[cycle(stmt)]
-fn stmt<'a>(
+fn body_of(
     alloc: Global,
     functions: &[Declaration],
-    tokens: &'a [Token],
-    depth: u32,
-) -> Result<(Stmt, &'a [Token]), FormFault>
-    ensures { Gives (λ x. (x.0, x.1.now)) result (spec.stmt_at functions.now depth tokens.now) }
+    body: &Body,
+) -> Result<Items<Shared<Stmt>>, FormFault>
+    ensures { Gives (λ x. x) result (spec.body_of functions.now body.now) }
 {
-    if depth == 0 {
-        Err(FormFault::NotYetRead)
-    } else {
-        stmt_by(alloc, functions, tokens, depth - 1)
+    match body {
+        Body::Read { block } => items_of(alloc, functions, block),
+        Body::Unread { at: _ } => Err(FormFault::NotYetRead),
     }
 }
 
-#[cycle(stmt)]
-fn stmt_by<'a>(
+/// `int main(void)` with a block, by its statements.
+#[tactic(auto, unfolding(crate::specs::Form::main_of))]
+fn main_of(
     alloc: Global,
     functions: &[Declaration],
-    tokens: &'a [Token],
-    below: u32,
-) -> Result<(Stmt, &'a [Token]), FormFault>
-    ensures { Gives (λ x. (x.0, x.1.now)) result (spec.stmt_by functions.now (spec.stmt_at functions.now below) tokens.now) }
+    external: &External,
+) -> Result<Items<Shared<Stmt>>, FormFault>
+    ensures { Gives (λ x. x) result (spec.main_of functions.now external.now) }
 {
-    match tokens {
-        [token, rest @ ..] => stmt_of(alloc, functions, token.start, &token.kind, rest, below),
-        [] => Err(FormFault::NotYetRead),
-    }
-}
-
-/// A statement by its first token, whose parts nest at most `below` deep.
-#[cycle(stmt)]
-fn stmt_of<'a>(
-    alloc: Global,
-    functions: &[Declaration],
-    at: u32,
-    kind: &TokenKind,
-    rest: &'a [Token],
-    below: u32,
-) -> Result<(Stmt, &'a [Token]), FormFault>
-    ensures { Gives (λ x. (x.0, x.1.now)) result (spec.stmt_of functions.now (spec.stmt_at functions.now below) at kind.now rest.now) }
-{
-    match kind {
-        TokenKind::Punctuator(Punctuator::Semicolon) => Ok((Stmt::Empty, rest)),
-        TokenKind::Punctuator(Punctuator::LeftBrace) => {
-            let (items, rest) = block(alloc, functions, rest, below)?;
-            Ok((Stmt::Block { items }, rest))
-        }
-        TokenKind::Keyword(Keyword::If) => choice(alloc, functions, at, rest, below),
-        TokenKind::Keyword(Keyword::Return) => finish(rest),
-        TokenKind::Identifier(name) => {
-            if is_printf(name.get().as_slice()) {
-                print(at, rest)
+    match external {
+        External::Function {
+            specifiers,
+            declarator,
+            body,
+        } => {
+            let head = function_of(specifiers.as_slice(), declarator)?;
+            if is_main(head.name.get().as_slice()) {
+                body_of(alloc, functions, body)
             } else {
                 Err(FormFault::NotYetRead)
             }
@@ -331,253 +704,58 @@ fn stmt_of<'a>(
     }
 }
 
-/// Statements and `}`.
-#[cycle(stmt)]
-#[tactic(auto, unfolding(crate::specs::Form::block_at))]
-fn block<'a>(
-    alloc: Global,
-    functions: &[Declaration],
-    tokens: &'a [Token],
-    below: u32,
-) -> Result<(Items<Shared<Stmt>>, &'a [Token]), FormFault>
-    ensures { Gives (λ x. (x.0, x.1.now)) result (spec.block_at (spec.stmt_at functions.now below) tokens.now) }
-{
-    let (items, rest) = items(alloc, functions, tokens, below)?;
-    let rest = expect(rest, Punctuator::RightBrace)?;
-    Ok((items, rest))
-}
-
-/// Statements up to a closing brace.
-#[cycle(stmt)]
-fn items<'a>(
-    alloc: Global,
-    functions: &[Declaration],
-    tokens: &'a [Token],
-    below: u32,
-) -> Result<(Items<Shared<Stmt>>, &'a [Token]), FormFault>
-    ensures { Gives (λ x. (x.0, x.1.now)) result (spec.items_at (spec.stmt_at functions.now below) (suc (length tokens.now)) [] tokens.now) }
-{
-    let mut items = Items::new(alloc);
-    let mut rest = tokens;
-    let mut left = tokens.len() + 1;
-    'items: while left > 0 {
-        left -= 1;
-        if begins(rest, Punctuator::RightBrace) {
-            return Ok((items, rest));
-        }
-        let (item, after) = stmt(alloc, functions, rest, below)?;
-        items.push(Shared::new(alloc, item)?)?;
-        rest = after;
-    }
-    Err(FormFault::NotYetRead)
-}
-
-/// The rest of a choice, behind the word `if`.
-#[cycle(stmt)]
-#[tactic(auto, unfolding(crate::specs::Form::if_at))]
-fn choice<'a>(
-    alloc: Global,
-    functions: &[Declaration],
-    at: u32,
-    tokens: &'a [Token],
-    below: u32,
-) -> Result<(Stmt, &'a [Token]), FormFault>
-    ensures { Gives (λ x. (x.0, x.1.now)) result (spec.if_at functions.now (spec.stmt_at functions.now below) at tokens.now) }
-{
-    let (callee, rest) = test(functions, tokens)?;
-    let (positive, rest) = stmt(alloc, functions, rest, below)?;
-    let positive = Shared::new(alloc, positive)?;
-    let (negative, rest) = negative(alloc, functions, rest, below)?;
-    let Declaration { at: call, name } = callee;
-    Ok((
-        Stmt::If {
-            at,
-            call,
-            callee: name,
-            positive,
-            negative,
-        },
-        rest,
-    ))
-}
-
-/// `else` and a statement, where `else` comes next.
-#[cycle(stmt)]
-#[tactic(auto, unfolding(crate::specs::Form::negative_at))]
-fn negative<'a>(
-    alloc: Global,
-    functions: &[Declaration],
-    tokens: &'a [Token],
-    below: u32,
-) -> Result<(Option<Shared<Stmt>>, &'a [Token]), FormFault>
-    ensures { Gives (λ x. (x.0, x.1.now)) result (spec.negative_at (spec.stmt_at functions.now below) tokens.now) }
-{
-    if !begins_with(tokens, Keyword::Else) {
-        return Ok((None, tokens));
-    }
-    let rest = expect_word(tokens, Keyword::Else)?;
-    let (negative, rest) = stmt(alloc, functions, rest, below)?;
-    Ok((Some(Shared::new(alloc, negative)?), rest))
-}
-
-/// `int NAME (`.
-#[tactic(auto, unfolding(crate::specs::Form::head_at))]
-fn head(tokens: &[Token]) -> Result<(Declaration, &[Token]), FormFault>
-    ensures { Gives (λ x. (x.0, x.1.now)) result (spec.head_at tokens.now) }
-{
-    let rest = expect_word(tokens, Keyword::Int)?;
-    let (name, rest) = name(rest)?;
-    let rest = expect(rest, Punctuator::LeftParen)?;
-    Ok((name, rest))
-}
-
-/// `void)`.
-#[tactic(auto, unfolding(crate::specs::Form::no_parameters_at))]
-fn no_parameters(tokens: &[Token]) -> Result<&[Token], FormFault>
-    ensures { Gives (λ x. x.now) result (spec.no_parameters_at tokens.now) }
-{
-    let rest = expect_word(tokens, Keyword::Void)?;
-    expect(rest, Punctuator::RightParen)
-}
-
-/// `const char *, ...)`.
-#[tactic(auto, unfolding(crate::specs::Form::format_parameters_at))]
-fn format_parameters(tokens: &[Token]) -> Result<&[Token], FormFault>
-    ensures { Gives (λ x. x.now) result (spec.format_parameters_at tokens.now) }
-{
-    let rest = expect_word(tokens, Keyword::Const)?;
-    let rest = expect_word(rest, Keyword::Char)?;
-    let rest = expect(rest, Punctuator::Star)?;
-    let rest = expect(rest, Punctuator::Comma)?;
-    let rest = expect(rest, Punctuator::Ellipsis)?;
-    expect(rest, Punctuator::RightParen)
-}
-
-fn parameters<'a>(name: &[u8], tokens: &'a [Token]) -> Result<&'a [Token], FormFault>
-    ensures { Gives (λ x. x.now) result (spec.parameters_at name.now tokens.now) }
-{
-    if is_printf(name) {
-        format_parameters(tokens)
-    } else {
-        no_parameters(tokens)
-    }
-}
-
-fn may_declare(functions: &[Declaration], name: &[u8]) -> bool
-    ensures { result ≡ spec.may_declare functions.now name.now }
-{
-    !is_left_out(name) && !is_declared(functions, name)
-}
-
-fn declared_parameters<'a>(name: &[u8], tokens: &'a [Token]) -> Result<&'a [Token], FormFault>
-    ensures { Gives (λ x. x.now) result (spec.declared_parameters name.now tokens.now) }
-{
-    let rest = parameters(name, tokens)?;
-    expect(rest, Punctuator::Semicolon)
-}
-
-/// The rest of a declaration, behind `int NAME (`.
-#[tactic(auto, unfolding(crate::specs::Form::declared_at))]
-fn declared<'a>(
-    functions: &[Declaration],
-    head: &Declaration,
-    tokens: &'a [Token],
-) -> Result<&'a [Token], FormFault>
-    ensures { Gives (λ x. x.now) result (spec.declared_at functions.now head.now tokens.now) }
-{
-    let name = head.name.get().as_slice();
-    if may_declare(functions, name) {
-        declared_parameters(name, tokens)
-    } else {
-        Err(FormFault::NotYetRead)
-    }
-}
-
-/// Declarations up to `int main (`.
-fn declarations(
-    alloc: Global,
-    tokens: &[Token],
-) -> Result<(Items<Declaration>, &[Token]), FormFault>
-    ensures { Gives (λ x. (x.0, x.1.now)) result (spec.declarations_at (suc (length tokens.now)) [] tokens.now) }
-{
-    let mut functions = Items::new(alloc);
-    let mut rest = tokens;
-    let mut left = tokens.len() + 1;
-    'declarations: while left > 0 {
-        left -= 1;
-        let (head, after) = head(rest)?;
-        if is_main(head.name.get().as_slice()) {
-            return Ok((functions, after));
-        }
-        rest = declared(functions.as_slice(), &head, after)?;
-        functions.push(head)?;
-    }
-    Err(FormFault::NotYetRead)
-}
-
-/// The body of `main` to the end of the source, behind `int main (`.
-#[tactic(auto, unfolding(crate::specs::Form::body_at))]
-fn body(
-    alloc: Global,
-    functions: &[Declaration],
-    tokens: &[Token],
-) -> Result<Items<Shared<Stmt>>, FormFault>
-    ensures { Gives (λ x. x) result (spec.body_at functions.now tokens.now) }
-{
-    let rest = no_parameters(tokens)?;
-    let rest = expect(rest, Punctuator::LeftBrace)?;
-    let (items, rest) = block(alloc, functions, rest, MAX_NESTING)?;
-    at_end(items, rest)
-}
-
-fn at_end(items: Items<Shared<Stmt>>, rest: &[Token]) -> Result<Items<Shared<Stmt>>, FormFault>
-    ensures { Gives (λ x. x) result (spec.alone items rest.now) }
-{
-    match rest {
-        [] => Ok(items),
-        _ => Err(FormFault::NotYetRead),
-    }
-}
-
-fn choices(tokens: &[Token]) -> usize
-    ensures { result ≡ spec.choices tokens.now }
-{
-    tokens
-        .iter()
-        .filter(|token| is_keyword(&token.kind, Keyword::If))
-        .count()
-}
-
-fn is_small(functions: &[Declaration], tokens: &[Token]) -> bool
-    ensures { result ≡ spec.is_small functions.now tokens.now }
-{
-    declares_printf(functions) && choices(tokens) <= MAX_CHOICES
-}
-
-/// The functions and the statements of a program, from its tokens.
-#[tactic(auto, unfolding(crate::specs::Form::program_of))]
-fn program(
-    alloc: Global,
-    tokens: &[Token],
+fn small_enough(
+    functions: Items<Declaration>,
+    body: Items<Shared<Stmt>>,
 ) -> Result<(Items<Declaration>, Items<Shared<Stmt>>), FormFault>
-    ensures { Gives (λ x. record { functions = x.0; body = x.1 }) result (spec.program_of tokens.now) }
+    ensures { Gives (λ x. record { functions = x.0; body = x.1 }) result (spec.small_enough functions body) }
 {
-    let (functions, rest) = declarations(alloc, tokens)?;
-    if !is_small(functions.as_slice(), tokens) {
+    match sizes(body.as_slice()) {
+        None => Err(FormFault::Memory),
+        Some(size) => {
+            if is_small(size) {
+                Ok((functions, body))
+            } else {
+                Err(FormFault::NotYetRead)
+            }
+        }
+    }
+}
+
+fn with_main(
+    alloc: Global,
+    functions: Items<Declaration>,
+    last: &External,
+) -> Result<(Items<Declaration>, Items<Shared<Stmt>>), FormFault>
+    ensures { Gives (λ x. record { functions = x.0; body = x.1 }) result (spec.with_main functions last.now) }
+{
+    if !are_sound(functions.as_slice()) {
         return Err(FormFault::NotYetRead);
     }
-    let body = body(alloc, functions.as_slice(), rest)?;
-    Ok((functions, body))
+    let body = main_of(alloc, functions.as_slice(), last)?;
+    small_enough(functions, body)
 }
 
-/// The tree of a source's tokens. `NotYetRead` comes exactly where the tokens don't have the first form.
-pub fn parse(alloc: Global, tokens: &Tokens) -> Result<Unit, FormFault>
-    ensures tree { Gives (λ unit. record { functions = unit.functions; body = unit.body }) result (spec.program_of tokens.now.tokens) }
-    ensures places { IfOk result (λ unit. unit.places.places ≡ places_of tokens.now.tokens) }
-    ensures files { IfOk result (λ unit. unit.places.files ≡ tokens.now.files) }
+/// The functions and the statements of a program, from its external declarations.
+#[tactic(auto, unfolding(crate::specs::Form::program_of))]
+fn program_of(
+    alloc: Global,
+    externals: &[External],
+) -> Result<(Items<Declaration>, Items<Shared<Stmt>>), FormFault>
+    ensures { Gives (λ x. record { functions = x.0; body = x.1 }) result (spec.program_of externals.now) }
 {
-    let (functions, body) = program(alloc, tokens.as_slice())?;
-    let places = Places::of_tokens(alloc, tokens)?;
+    let (functions, last) = parts_of(alloc, externals)?;
+    with_main(alloc, functions, last)
+}
+
+/// Reads the first form off a source's unit, whose places are kept. `NotYetRead` comes exactly where the unit doesn't
+/// have the form.
+pub fn read(alloc: Global, unit: c_tree::Unit) -> Result<Unit, FormFault>
+    ensures tree { Gives (λ u. record { functions = u.functions; body = u.body }) result (spec.program_of unit.externals) }
+    ensures places { IfOk result (λ u. u.places ≡ unit.places) }
+{
+    let c_tree::Unit { externals, places } = unit;
+    let (functions, body) = program_of(alloc, externals.as_slice())?;
     Ok(Unit {
         functions,
         body,

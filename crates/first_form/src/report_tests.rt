@@ -1,13 +1,14 @@
 //! Rows of the facts and of the report, worked out by hand.
 use crate::facts::facts_of;
-use crate::form::parse;
 use crate::lines::LogLines;
 use crate::report::report;
 use crate::shown::shown;
+use crate::tree::{Declaration, Stmt, Unit};
 use crate::verdict::{Diagnosis, Findings, Verdict};
 use bit_words::{Bytes, Event, Fact, Finish, Happening, Numbers, Run, Side, World};
-use c_lexer::lex;
-use plain_data::Items;
+use c_lexer::{Name, lex};
+use c_tree::Places;
+use plain_data::{Items, Shared};
 use std::alloc::Global;
 use std::test::Fail;
 
@@ -123,10 +124,55 @@ fn nine_verdicts(alloc: Global) -> Result<Items<Verdict>, Fail> {
     Ok(Items::from_vec(verdicts))
 }
 
+fn name(alloc: Global, text: &[u8]) -> Result<Name, Fail> {
+    Ok(Shared::new(alloc, Bytes::from_slice(alloc, text)?)?)
+}
+
+fn print(alloc: Global, call: u32, text: &[u8]) -> Result<Shared<Stmt>, Fail> {
+    let text = name(alloc, text)?;
+    Ok(Shared::new(alloc, Stmt::Print { call, text })?)
+}
+
+fn functions(alloc: Global) -> Result<Items<Declaration>, Fail> {
+    let mut functions = Items::new(alloc);
+    for (at, text) in [(4, b"printf".as_slice()), (35, b"ext".as_slice())] {
+        let name = name(alloc, text)?;
+        functions.push(Declaration { at, name })?;
+    }
+    Ok(functions)
+}
+
+/// The statements of the fourth line.
+fn body(alloc: Global) -> Result<Items<Shared<Stmt>>, Fail> {
+    let mut items = Items::new(alloc);
+    items.push(print(alloc, 97, b"a")?)?;
+    items.push(print(alloc, 110, b"hi\n")?)?;
+    let choice = Stmt::If {
+        at: 63,
+        call: 67,
+        callee: name(alloc, b"ext")?,
+        positive: print(alloc, 74, b"hi\n")?,
+        negative: Some(Shared::new(alloc, Stmt::Block { items })?),
+    };
+    let mut body = Items::new(alloc);
+    body.push(Shared::new(alloc, choice)?)?;
+    body.push(Shared::new(alloc, Stmt::Return { value: 0 })?)?;
+    Ok(body)
+}
+
+/// The unit of the source.
+fn unit(alloc: Global) -> Result<Unit, Fail> {
+    let tokens = lex(alloc, "p.c", SOURCE)?;
+    Ok(Unit {
+        functions: functions(alloc)?,
+        body: body(alloc)?,
+        places: Places::of_tokens(alloc, &tokens)?,
+    })
+}
+
 fn report_of(alloc: Global, diagnosis: &Diagnosis) -> Result<Bytes, Fail> {
     let log = b"hi\nhi".as_slice();
-    let tokens = lex(alloc, "p.c", SOURCE)?;
-    let unit = parse(alloc, &tokens)?;
+    let unit = unit(alloc)?;
     let lines = LogLines::new(alloc, log)?;
     let facts = facts_of(alloc, unit.body.as_slice(), &lines)?;
     Ok(report(alloc, &unit, log, facts.as_slice(), diagnosis)?)

@@ -1,4 +1,4 @@
-//! The syntax tree of a source of the first form, with the places of its tokens.
+//! The program that a source of the first form is, with the places of its tokens.
 ghost use Rattle.std.specs.Prelude.{◌≡◌};
 ghost use Rattle.c_tree.specs.PlaceTables.{place_at, file_at};
 

@@ -1,2 +1,4 @@
+pub mod Programs
 pub mod CauseLemmas
 pub mod Offsets
+pub mod TokenPlaces

@@ -5,15 +5,21 @@ use Rattle.sl_io.specs.ShelfStates.{Files, ShelfState, CountsOn}
 use Rattle.sl_io.specs.SinkStates.{SinkState}
 use Rattle.sl_io.specs.Writes.{Appended, AppendedPrefix}
 use Rattle.first_form.specs.declared.tree.Unit.{Unit as UnitType}
-use Rattle.first_form.specs.Answers.{IsUnit, program_in, is_found}
+use Rattle.first_form.specs.Answers.{program_in, is_found}
 use Rattle.first_form.specs.Verdicts.{Diagnoses}
 use Rattle.first_form.specs.Reports.{report_of}
 use Rattle.first_form.specs.declared.verdict.Diagnosis.{Diagnosis}
 use Rattle.first_form.specs.declared.diagnose.Answer.{Answer}
 use Rattle.sherlog.specs.Words.{Names}
 use Rattle.sherlog.specs.Inputs.{IsInput, Failed, IsTooLong}
-use Rattle.sherlog.specs.Sources.{HasFaultIn, HasOtherForm}
+use Rattle.sherlog.specs.Sources.{IsUnit, HasFaultIn, HasOtherForm, start_at}
 use Rattle.sherlog.specs.Causes.{IsRead, Cause}
+use Rattle.c_lexer.specs.Places.{located}
+use Rattle.c_lexer.specs.declared.token.Token.{Token}
+use Rattle.c_exprs.specs.declared.fault.ParseFault.{ParseFault}
+use Rattle.c_exprs.specs.declared.fault.ParseFault.TheVariants as parser
+use Rattle.sherlog.specs.declared.refusal.SourceFault.{SourceFault}
+use Rattle.sherlog.specs.declared.refusal.SourceFault.TheVariants.{Syntax, TooDeep}
 use Rattle.sherlog.specs.declared.refusal.InputFile.{InputFile}
 use Rattle.sherlog.specs.declared.refusal.InputFile.TheVariants.{Log}
 use Rattle.sherlog.specs.declared.refusal.Refusal.{Refusal}
@@ -76,6 +82,17 @@ Reads name source (Err (BadSource fault spot)) = HasFaultIn name source fault sp
 Reads name source (Err NotYetRead) = HasOtherForm name source
 Reads name source (Err Memory) = ⊤
 Reads name source (Err _) = ⊥
+
+-- a refusal for what is wrong with a source says this fault, with the place of this byte
+abbrev pub IsToldAt : List ℕ → List ℕ → SourceFault → ℕ → Refusal → Type 0
+IsToldAt name source fault at (BadSource told spot) = (told ≡ fault) × (spot ≡ located name source at)
+IsToldAt name source fault at _ = ⊤
+
+-- what the parser answered is told as it is, with the place of the token that it named
+abbrev pub Tells : List ℕ → List ℕ → List Token → ParseFault → Refusal → Type 0
+Tells name source tokens (parser.Syntax k) refusal = IsToldAt name source Syntax (start_at source tokens k) refusal
+Tells name source tokens (parser.TooDeep k) refusal = IsToldAt name source TooDeep (start_at source tokens k) refusal
+Tells name source tokens parser.Memory refusal = ⊤
 
 -- a report is formed
 pub record Forms (names : Names) (before after : ShelfState) (result : Result Answer Refusal) : Type 0 where

@@ -3,10 +3,9 @@ use Rattle.std.specs.Prelude.{List, ℕ, Option, ⊤}
 use Rattle.sl_io.specs.ShelfStates.{Files, ShelfState}
 use Rattle.c_lexer.specs.declared.token.Spot.{Spot}
 use Rattle.first_form.specs.declared.tree.Unit.{Unit as UnitType}
-use Rattle.first_form.specs.Answers.{IsUnit}
 use Rattle.sherlog.specs.Words.{Names}
 use Rattle.sherlog.specs.Inputs.{IsInput, Failed, IsTooLong}
-use Rattle.sherlog.specs.Sources.{HasFaultIn, HasOtherForm}
+use Rattle.sherlog.specs.Sources.{IsUnit, HasFaultIn, HasOtherForm}
 use Rattle.sherlog.specs.declared.refusal.InputFile.{InputFile}
 use Rattle.sherlog.specs.declared.refusal.InputFile.TheVariants.{Source, Log}
 use Rattle.sherlog.specs.declared.refusal.Refusal.{Refusal}
@@ -19,13 +18,13 @@ pub record IsRead (names : Names) (files : Option Files) (unit : UnitType) : Typ
   pub input : IsInput names Source files source
   pub is_unit : IsUnit names.source source unit
 
--- the source has this first fault
+-- the source has this fault
 pub record IsFaulty (names : Names) (files : Option Files) (fault : SourceFault) (spot : Spot) : Type 0 where
   pub source : List ℕ
   pub input : IsInput names Source files source
   pub has_fault : HasFaultIn names.source source fault spot
 
--- the source has no fault, and is not of the form
+-- the source is derived, and not of the form
 pub record IsUnread (names : Names) (files : Option Files) : Type 0 where
   pub source : List ℕ
   pub input : IsInput names Source files source

@@ -1,9 +1,10 @@
 -- What decides where files are told.
-use Rattle.std.specs.Prelude.{◌≡◌, ◌≢◌, ◌≤◌, ℕ, List, Some, None, length}
+use Rattle.std.specs.Prelude.{◌≡◌, ◌≤◌, ℕ, List, Some, length}
 use Rattle.sl_io.specs.Counts.{Rose}
 use Rattle.sl_io.specs.ShelfStates.{Files, ShelfState}
 use Rattle.sl_io.specs.SinkStates.{SinkState}
-use Rattle.first_form.specs.Answers.{program_spelled}
+use Rattle.first_form.specs.Programs.{Program}
+use Rattle.sherlog.specs.Sources.{IsProgram}
 use Rattle.sherlog.specs.Words.{Names}
 use Rattle.sherlog.specs.Inputs.{name_of, limit_of, Failed}
 use Rattle.sherlog.specs.declared.refusal.InputFile.{InputFile}
@@ -17,11 +18,11 @@ pub record IsAtHand (names : Names) (file : InputFile) (before after : ShelfStat
   pub within : length bytes ≤ limit_of file
   pub got : ¬ (Failed names file before after)
 
--- the source is at hand, and has a fault or is not of the form
+-- the source is at hand, and is no program: it has a lexical fault, is not derived, or is not of the form
 pub record IsNotOfForm (names : Names) (before after : ShelfState) : Type 0 where
   pub source : List ℕ
   pub at_hand : IsAtHand names Source before after source
-  pub no_program : program_spelled names.source source ≡ None
+  pub no_program : (program : Program) → IsProgram names.source source program → ⊥
 
 -- both files are at hand, the source is of the form, and no write failed
 pub record IsAnswerable (names : Names) (before after : ShelfState) (old new : SinkState) : Type 0 where
@@ -29,5 +30,6 @@ pub record IsAnswerable (names : Names) (before after : ShelfState) (old new : S
   pub log : List ℕ
   pub source_at_hand : IsAtHand names Source before after source
   pub log_at_hand : IsAtHand names Log before after log
-  pub of_form : program_spelled names.source source ≢ None
+  pub program : Program
+  pub of_form : IsProgram names.source source program
   pub wrote : ¬ (Rose old.faults new.faults)

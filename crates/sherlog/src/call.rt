@@ -34,7 +34,8 @@ pub fn run<H: Shelf, O: Sink, E: Sink>(
 
     // 2 comes exactly where the words are no command line, and each other refusal by its cause.
     ensures usage { (result ≡ 2) ↔ (names_of (map string_bytes words.now) ≡ None) }
-    // 3 comes with the name and place of the source's first fault, or where it has none and is not of the form.
+    // 3 comes with the name and place of the source's first lexical fault, or of where the grammar derives nothing, or where
+    // the source is derived and not of the form.
     ensures unread { result ≡ 3 → IfSome (names_of (map string_bytes words.now)) (λ names. (refusal : RefusalType)
         × IsOfSource refusal
         × Cause names (H.state shelf.old) (H.state shelf.new) refusal

@@ -59,6 +59,10 @@ pub enum SourceFault {
     BadConstant,
     /// A directive is neither a line marker nor `#pragma`.
     BadDirective,
+    /// No rule of the grammar takes a token, or the source ends too early.
+    Syntax,
+    /// Trees stand too deep in one another.
+    TooDeep,
 }
 
 impl SourceFault {
@@ -72,6 +76,8 @@ impl SourceFault {
             SourceFault::WideNumber => "WideNumber",
             SourceFault::BadConstant => "BadConstant",
             SourceFault::BadDirective => "BadDirective",
+            SourceFault::Syntax => "Syntax",
+            SourceFault::TooDeep => "TooDeep",
         }
     }
 }
@@ -79,9 +85,9 @@ impl SourceFault {
 /// Why a command line is not answered.
 #[derive(Debug, Drop)]
 pub enum Refusal {
-    /// The source has this first fault, which stands at this place.
+    /// The source has this fault, which stands at this place.
     BadSource { fault: SourceFault, spot: Spot },
-    /// The source has no such fault, and is not of the form that is read so far.
+    /// The source is C by the grammar, and not of the form that is read so far.
     NotYetRead,
     /// A file could not be read, or the report could not be written.
     Fault,

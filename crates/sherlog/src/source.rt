@@ -1,22 +1,26 @@
 //! Reading a source: from its bytes to its unit, or to why there is none.
-ghost use Rattle.std.specs.Prelude.{◌≡◌, ◌≢◌, ◌≤◌, length, Err};
+ghost use Rattle.std.specs.Prelude.{◌≡◌, ◌≢◌, ◌≤◌, length, Ok, Err};
 ghost use Rattle.c_lexer.specs.Fault.{Refused as IsFaultOf};
-ghost use Rattle.c_lexer.specs.Reading.{lexed, IsFirstFault};
-ghost use Rattle.sherlog.specs.Sources.{HasFault};
-ghost use Rattle.sherlog.specs.Answers.{Reads};
+ghost use Rattle.c_lexer.specs.Reading.{lexed, IsFirstFault, Spells};
+ghost use Rattle.c_parser.specs.Parsing.{Refuses};
+ghost use Rattle.sherlog.specs.Sources.{HasFault, start_at};
+ghost use Rattle.sherlog.specs.Answers.{Reads, IsToldAt, Tells};
 
 use crate::refusal::{MAX_SOURCE, Refusal, SourceFault};
-use c_lexer::{LexFault, lex, locate};
-use first_form::form::{FormFault, parse};
+use c_lexer::{LexFault, Token, Tokens, lex, locate};
+use c_parser::ParseFault;
+use c_parser::unit::parse;
+use first_form::form::{FormFault, read};
 use first_form::tree::Unit;
 use std::alloc::Global;
 
-/// The refusal of a source whose first fault stands at a byte.
+/// The refusal of a source whose fault stands at a byte.
 fn bad_source(alloc: Global, name: &str, bytes: &[u8], fault: SourceFault, at: u32) -> Refusal
     requires short { length bytes.now ≤ MAX_SOURCE }
     requires within { at ≤ length bytes.now }
     requires has { HasFault name.now bytes.now fault at }
-    ensures { Reads name.now bytes.now (Err result) }
+    ensures read { Reads name.now bytes.now (Err result) }
+    ensures told { IsToldAt name.now bytes.now fault at result }
 {
     match locate(alloc, name, bytes, at) {
         Ok(spot) => Refusal::BadSource { fault, spot },
@@ -41,17 +45,54 @@ fn refusal_of(alloc: Global, name: &str, bytes: &[u8], fault: LexFault) -> Refus
     }
 }
 
+/// The byte at which a token begins, by its number, or the end of the source.
+fn start_of(bytes: &[u8], tokens: &[Token], number: usize) -> u32
+    requires short { length bytes.now ≤ MAX_SOURCE }
+    ensures { result ≡ start_at bytes.now tokens.now number }
+{
+    match tokens.get(number) {
+        Some(token) => token.start,
+        None => bytes.len() as u32,
+    }
+}
+
+/// The refusal of a source that the grammar doesn't derive.
+fn unparsed(alloc: Global, name: &str, bytes: &[u8], tokens: &Tokens, fault: ParseFault) -> Refusal
+    requires short { length bytes.now ≤ MAX_SOURCE }
+    requires lexed { lexed name.now bytes.now ≡ Ok tokens.now }
+    requires spelled { Spells name.now bytes.now tokens.now }
+    requires refused { Refuses tokens.now.tokens fault }
+    ensures read { Reads name.now bytes.now (Err result) }
+    ensures told { Tells name.now bytes.now tokens.now.tokens fault result }
+{
+    match fault {
+        ParseFault::Syntax(number) => {
+            let at = start_of(bytes, tokens.as_slice(), number);
+            bad_source(alloc, name, bytes, SourceFault::Syntax, at)
+        }
+        ParseFault::TooDeep(number) => {
+            let at = start_of(bytes, tokens.as_slice(), number);
+            bad_source(alloc, name, bytes, SourceFault::TooDeep, at)
+        }
+        ParseFault::Memory => Refusal::Memory,
+    }
+}
+
 /// Reads a source; `name` is the file that holds before its first line marker.
 pub fn read_source(alloc: Global, name: &str, bytes: &[u8]) -> Result<Unit, Refusal>
     requires { length bytes.now ≤ MAX_SOURCE }
     ensures { Reads name.now bytes.now result }
 {
-    match lex(alloc, name, bytes) {
-        Ok(tokens) => match parse(alloc, &tokens) {
+    let tokens = match lex(alloc, name, bytes) {
+        Ok(tokens) => tokens,
+        Err(fault) => return Err(refusal_of(alloc, name, bytes, fault)),
+    };
+    match parse(alloc, &tokens) {
+        Ok(unit) => match read(alloc, unit) {
             Ok(unit) => Ok(unit),
             Err(FormFault::NotYetRead) => Err(Refusal::NotYetRead),
             Err(FormFault::Memory) => Err(Refusal::Memory),
         },
-        Err(fault) => Err(refusal_of(alloc, name, bytes, fault)),
+        Err(fault) => Err(unparsed(alloc, name, bytes, &tokens, fault)),
     }
 }

@@ -214,29 +214,91 @@ fn files_at_their_limits_and_beyond(rt: HostRuntime) -> Result<(), Fail> {
     Ok(())
 }
 
+/// Statements of `main` that are C and not of the form; a body that is no block is passed over by the grammar.
+const OTHER_BODIES: [&str; 18] = [
+    "printf(\"%d\\n\");",
+    "printf(\"a\" \"b\");",
+    "printf(\"a\", 1);",
+    "puts(\"hi\");",
+    "x = 1;",
+    "int x;",
+    "ext();",
+    "return 1",
+    "return -1;",
+    "return (1);",
+    "return 1u;",
+    "return;",
+    "else ;",
+    "if (ext) ;",
+    "if (ext(1)) ;",
+    "if ((ext())) ;",
+    "if (other()) ;",
+    "while (ext()) ;",
+];
+
+/// Sources that are C and not of the form.
+const OTHER_SOURCES: [&str; 12] = [
+    ";",
+    "int x;",
+    "typedef int T; T f(void);",
+    "int main(void) { return 0; }",
+    "int printf(const char *, ...);",
+    "int printf(const char *, ...); int main(void);",
+    "int printf(const char *, ...); int main(void) { } int f(void);",
+    "int printf(const char *, ...); int f(void); int f(void); int main(void) { }",
+    "int printf(const char *, ...); int puts(void); int main(void) { }",
+    "int printf(const char *); int main(void) { }",
+    "int printf(const char *, ...), f(void); int main(void) { }",
+    "int printf(const char *, ...); int main() { }",
+];
+
+/// That a source is refused as not of the form.
+fn is_not_yet_read(rt: &HostRuntime, source: &str) -> Result<bool, Fail> {
+    let alloc = rt.alloc();
+    let mut outside = Outside::new(alloc, source.as_bytes(), b"hi\n", NOTHING)?;
+    Ok(
+        outside.status_of(alloc, DIAGNOSE)? == 3
+            && outside.out().is_empty()
+            && outside.err() == b"sherlog: 3 NotYetRead\n".as_slice()
+            && outside.shelf.calls() == 1,
+    )
+}
+
 #[test]
 fn sources_that_are_not_of_the_form(rt: HostRuntime) -> Result<(), Fail> {
     let alloc = rt.alloc();
-    let bodies = [
-        "printf(\"%d\\n\");",
-        "puts(\"hi\");",
-        "x = 1;",
-        "return 1",
-        "else ;",
-    ];
-    for body in bodies {
+    for body in OTHER_BODIES {
         let text = source(alloc, body)?;
-        let mut outside = Outside::new(alloc, text.as_bytes(), b"hi\n", NOTHING)?;
-        assert_eq!(rt; outside.status_of(alloc, DIAGNOSE)?, 3, "{body}");
-        assert_eq!(rt; outside.out().len(), 0);
-        assert_eq!(rt; outside.err(), b"sherlog: 3 NotYetRead\n".as_slice());
-        assert_eq!(rt; outside.shelf.calls(), 1);
+        assert!(rt; is_not_yet_read(&rt, text.as_str())?, "{body}");
+    }
+    for text in OTHER_SOURCES {
+        assert!(rt; is_not_yet_read(&rt, text)?, "{text}");
     }
     Ok(())
 }
 
+/// A body of so many blocks in one another.
+fn blocks(alloc: Global, depth: usize) -> Result<String, Fail> {
+    let left = "{".repeat(alloc, depth)?;
+    let right = "}".repeat(alloc, depth)?;
+    Ok(format!(in alloc; "{left};{right}")?)
+}
+
+#[test]
+fn sources_at_the_limits_of_the_form(rt: HostRuntime) -> Result<(), Fail> {
+    let alloc = rt.alloc();
+    let deep = source(alloc, blocks(alloc, 100)?.as_str())?;
+    let mut outside = Outside::new(alloc, deep.as_bytes(), b"", NOTHING)?;
+    assert_eq!(rt; outside.status_of(alloc, DIAGNOSE)?, 0);
+    let deeper = source(alloc, blocks(alloc, 101)?.as_str())?;
+    assert!(rt; is_not_yet_read(&rt, deeper.as_str())?);
+    let many = source(alloc, "if (ext()) ;".repeat(alloc, 13)?.as_str())?;
+    assert!(rt; is_not_yet_read(&rt, many.as_str())?);
+    Ok(())
+}
+
 /// Sources, and the name and place of the first fault that is told of each.
-const FAULTY_SOURCES: [(&[u8], &str); 9] = [
+const FAULTY_SOURCES: [(&[u8], &str); 15] = [
     (b"int x = 18446744073709551616;", "WideNumber a.c:1:9"),
     (b"int x = \"abc", "OpenText a.c:1:9"),
     (b"int x = 09;", "BadConstant a.c:1:9"),
@@ -248,6 +310,17 @@ const FAULTY_SOURCES: [(&[u8], &str); 9] = [
         b"int x;\n# 7 \"b.h\"\nint y;\n char c = '\\q';\n",
         "BadConstant b.h:8:12",
     ),
+    // What the grammar doesn't take: a token, the end of the source, a brace that nothing closes.
+    (b"int x = ;", "Syntax a.c:1:9"),
+    (b"int x\n", "Syntax a.c:2:1"),
+    (b"int main(void) {\n  return 0;\n", "Syntax a.c:3:1"),
+    (
+        b"int x;\n# 7 \"b.h\"\nint y;\nint z = ;\n",
+        "Syntax b.h:8:9",
+    ),
+    (b"int f(int) int g;", "Syntax a.c:1:12"),
+    // A lexical fault comes first, wherever it stands.
+    (b"int x = ;\n@", "BadByte a.c:2:1"),
     // The first of two faults, and one behind what is not of the form.
     (b"int x = @ 09;", "BadByte a.c:1:9"),
     (

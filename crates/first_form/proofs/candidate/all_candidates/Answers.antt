@@ -1,4 +1,4 @@
-use Rattle.std.proofs.Common.{◌≡◌, ◌+◌, ◌∷◌, ◌++◌, [], List, ℕ, take, ap, sym, ◌∙◌, subst, length, arith, ◌≤◌}
+use Rattle.std.proofs.Common.{◌≡◌, ◌+◌, ◌∷◌, ◌++◌, [], List, ℕ, take, ap, sym, ◌∙◌, subst}
 use Rattle.std.proofs.lemmas.List.{take_all, take_more}
 use Rattle.first_form.specs.Answers.{program_in}
 use Rattle.first_form.specs.Candidates.{GivesCandidate}

@@ -1,4 +1,4 @@
-use Rattle.std.proofs.Common.{◌≡◌, ◌<◌, ◌≤◌, ◌+◌, ℕ, Some, length, arith, sym, ap, ◌∙◌}
+use Rattle.std.proofs.Common.{arith}
 use Rattle.std.specs.Prelude.{not}
 use Rattle.first_form.specs.Candidates.{Answers}
 use Rattle.first_form.proofs.Listings.{answers_yes, answers_no, at_index, up_to, first_among}

@@ -1,4 +1,4 @@
-use Rattle.std.proofs.Common.{◌≡◌, drop, ◌++◌}
+use Rattle.std.proofs.Common.{◌≡◌, drop}
 use Rattle.std.specs.Prelude.{map}
 use Rattle.first_form.specs.Meaning.{meaning, ways_in_turn}
 use Rattle.first_form.proofs.Ways.{behind}
