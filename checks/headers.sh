@@ -1,6 +1,6 @@
 #!/usr/bin/env bash
-# The standard headers of the machine's C library, preprocessed, are lexed with no fault. What is lexed and
-# not yet read as C counts as lexed. Skipped where there is no C compiler.
+# The standard headers of the machine's C library, preprocessed, and the sources of examples/ are lexed and derived
+# with no fault: each is reported on, or refused as NotYetRead alone. Skipped where there is no C compiler.
 set -u
 cd "$(dirname "$0")/.." || exit 2
 if ! command -v cc > /dev/null; then
@@ -19,14 +19,15 @@ dirent.h fcntl.h netinet/in.h poll.h pthread.h sched.h semaphore.h sys/mman.h sy
 sys/time.h sys/types.h sys/wait.h termios.h unistd.h"
 : > "$folder/log"
 failed=0
-lexed=0
+derived=0
 
-# Whether a source is lexed: it is diagnosed, or refused for another cause than those of the lexer.
-lexes() {
-    local said
-    said=$(./sherlog diagnose "$1" "$folder/log" 2>&1)
-    if printf '%s\n' "$said" | grep -qE '^sherlog: [0-9]+ (BadByte|OpenText|WideNumber|BadConstant|BadDirective|TooLong|Memory)'; then
-        echo "headers: $2: $said"
+# Whether a source is derived: it is diagnosed, or refused only for a form that is not read so far.
+derives() {
+    local said status
+    said=$(./sherlog diagnose "$1" "$folder/log" 2>&1 > /dev/null)
+    status=$?
+    if [ "$status" -gt 1 ] && [ "$said" != "sherlog: 3 NotYetRead" ]; then
+        echo "headers: $2: status $status: $said"
         return 1
     fi
 }
@@ -35,11 +36,14 @@ for header in $headers; do
     printf '#include <%s>\nint main(void) { return 0; }\n' "$header" > "$folder/one.c"
     cc -E -o "$folder/one.i" "$folder/one.c" 2> /dev/null || continue
     printf '#include <%s>\n' "$header" >> "$folder/all.h"
-    if lexes "$folder/one.i" "$header"; then lexed=$((lexed + 1)); else failed=1; fi
+    if derives "$folder/one.i" "$header"; then derived=$((derived + 1)); else failed=1; fi
 done
 printf '#include "all.h"\nint main(void) { return 0; }\n' > "$folder/all.c"
 if cc -E -o "$folder/all.i" "$folder/all.c" 2> /dev/null; then
-    if lexes "$folder/all.i" "all headers"; then lexed=$((lexed + 1)); else failed=1; fi
+    if derives "$folder/all.i" "all headers"; then derived=$((derived + 1)); else failed=1; fi
 fi
-echo "headers: $lexed sources lexed"
+for source in examples/*.c; do
+    if derives "$source" "$source"; then derived=$((derived + 1)); else failed=1; fi
+done
+echo "headers: $derived sources derived"
 exit "$failed"
