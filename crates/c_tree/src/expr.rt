@@ -103,6 +103,13 @@ pub enum ArrayWord {
     Static,
 }
 
+/// The tag of a structure, union or enumeration (C99 6.7.2.3), by the byte offset of its own token.
+#[derive(Drop)]
+pub struct TagName {
+    pub at: u32,
+    pub name: Name,
+}
+
 /// An expression. Each `at` is the byte offset of a token: of the operator, of `[`, of the `(` of a call, of
 /// `sizeof`, of the `(` of a cast or of a group, and else of the expression's only or first token.
 #[cycle(syntax)]
@@ -258,24 +265,24 @@ pub enum Specifier {
     Tag {
         at: u32,
         kind: AggregateKind,
-        tag: Name,
+        tag: TagName,
     },
     /// A structure or union with its members (C99 6.7.2.1).
     Aggregate {
         at: u32,
         kind: AggregateKind,
-        tag: Option<Name>,
+        tag: Option<TagName>,
         members: Items<Shared<MemberDeclaration>>,
     },
     /// `enum tag` without enumerators (C99 6.7.2.3).
     EnumTag {
         at: u32,
-        tag: Name,
+        tag: TagName,
     },
     /// An enumeration with its enumerators, one at least (C99 6.7.2.2), and whether a comma follows the last.
     Enumeration {
         at: u32,
-        tag: Option<Name>,
+        tag: Option<TagName>,
         enumerators: Items<Shared<Enumerator>>,
         trailing: bool,
     },
@@ -314,7 +321,8 @@ pub struct Enumerator {
 }
 
 /// What a declaration says of one name (C99 6.7.5), or of a type without one (C99 6.7.6). Each `at` is the
-/// byte offset of the name, of `*`, of the `(` of a group or of parameters, or of `[`.
+/// byte offset of the name, of `*`, of the `(` of a group or of parameters, or of `[`; each `inner` is the declarator
+/// that stands nearer to the name.
 #[cycle(syntax)]
 #[derive(Drop)]
 pub enum Declarator {
@@ -334,19 +342,19 @@ pub enum Declarator {
     Pointer {
         at: u32,
         qualifiers: Items<Qualifier>,
-        target: Shared<Declarator>,
+        inner: Shared<Declarator>,
     },
     /// An array (C99 6.7.5.2).
     Array {
         at: u32,
-        element: Shared<Declarator>,
+        inner: Shared<Declarator>,
         words: Items<ArrayWord>,
         length: Option<Shared<Expr>>,
     },
     /// A function (C99 6.7.5.3); it has no prototype where it has no parameters.
     Function {
         at: u32,
-        result: Shared<Declarator>,
+        inner: Shared<Declarator>,
         parameters: Items<Shared<Parameter>>,
         variadic: bool,
     },

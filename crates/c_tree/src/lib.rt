@@ -7,8 +7,8 @@ mod unit;
 
 pub use expr::{
     AggregateKind, ArrayWord, BinaryOperator, Declarator, Enumerator, Expr, Field,
-    MemberDeclaration, Parameter, PostfixOperator, Qualifier, Specifier, StorageClass, TypeName,
-    TypeWord, UnaryOperator,
+    MemberDeclaration, Parameter, PostfixOperator, Qualifier, Specifier, StorageClass, TagName,
+    TypeName, TypeWord, UnaryOperator,
 };
 pub use places::Places;
 pub use unit::{

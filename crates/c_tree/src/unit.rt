@@ -8,12 +8,13 @@ use crate::places::Places;
 use bit_words::Bytes;
 use c_lexer::{Name, Place};
 use plain_data::{Items, Shared};
+use std::alloc::AllocError;
 
 /// A designator (C99 6.7.8), by the offset of its `.` or `[`.
 #[derive(Drop)]
 pub enum Designator {
     Member { at: u32, member: Name },
-    Element { at: u32, index: Expr },
+    Element { at: u32, index: Shared<Expr> },
 }
 
 /// An initializer (C99 6.7.8).
@@ -21,7 +22,7 @@ pub enum Designator {
 #[derive(Drop)]
 pub enum Initializer {
     Value {
-        value: Expr,
+        value: Shared<Expr>,
     },
     /// A braced list, by the offset of its brace, and whether a comma follows the last item.
     List {
@@ -58,7 +59,7 @@ pub struct Declaration {
 /// What a `for` statement begins with (C99 6.8.5.3).
 #[derive(Drop)]
 pub enum ForStart {
-    Value { value: Option<Expr> },
+    Value { value: Option<Shared<Expr>> },
     Declared { declaration: Declaration },
 }
 
@@ -75,7 +76,7 @@ pub enum Stmt {
     },
     Value {
         at: u32,
-        value: Option<Expr>,
+        value: Option<Shared<Expr>>,
     },
     Label {
         at: u32,
@@ -84,7 +85,7 @@ pub enum Stmt {
     },
     Case {
         at: u32,
-        value: Expr,
+        value: Shared<Expr>,
         body: Shared<Stmt>,
     },
     Default {
@@ -93,30 +94,30 @@ pub enum Stmt {
     },
     If {
         at: u32,
-        condition: Expr,
+        condition: Shared<Expr>,
         positive: Shared<Stmt>,
         negative: Option<Shared<Stmt>>,
     },
     Switch {
         at: u32,
-        value: Expr,
+        value: Shared<Expr>,
         body: Shared<Stmt>,
     },
     While {
         at: u32,
-        condition: Expr,
+        condition: Shared<Expr>,
         body: Shared<Stmt>,
     },
     Do {
         at: u32,
         body: Shared<Stmt>,
-        condition: Expr,
+        condition: Shared<Expr>,
     },
     For {
         at: u32,
         start: ForStart,
-        condition: Option<Expr>,
-        step: Option<Expr>,
+        condition: Option<Shared<Expr>>,
+        step: Option<Shared<Expr>>,
         body: Shared<Stmt>,
     },
     Goto {
@@ -131,7 +132,7 @@ pub enum Stmt {
     },
     Return {
         at: u32,
-        value: Option<Expr>,
+        value: Option<Shared<Expr>>,
     },
 }
 
@@ -139,7 +140,7 @@ pub enum Stmt {
 #[derive(Drop)]
 pub enum Body {
     /// A block.
-    Read { block: Stmt },
+    Read { block: Shared<Stmt> },
     /// A brace group that no block of the greatest height or less derives.
     Unread { at: u32 },
 }
@@ -160,11 +161,24 @@ pub enum External {
     },
 }
 
-/// A translation unit (C99 6.9): its external declarations in order, and the places of its tokens.
+/// A translation unit (C99 6.9): its external declarations in order, and the places of its tokens. A clone shares both,
+/// so it takes time and memory by the number of external declarations.
 #[derive(Drop)]
 pub struct Unit {
-    pub externals: Items<External>,
-    pub places: Places,
+    pub externals: Items<Shared<External>>,
+    pub places: Shared<Places>,
+}
+
+impl Clone for Unit {
+    ghost is_clone = { λ unit copy. copy ≡ unit };
+
+    /// The same unit. It fails for want of memory alone.
+    fn clone(&self) -> Result<Unit, AllocError> {
+        Ok(Unit {
+            externals: self.externals.clone()?,
+            places: self.places.clone()?,
+        })
+    }
 }
 
 impl Unit {
@@ -173,13 +187,13 @@ impl Unit {
     pub fn place(&self, at: u32) -> Place
         ensures { result ≡ place_at self.now.places.places at }
     {
-        self.places.place(at)
+        self.places.get().place(at)
     }
 
     /// The name of the file that a place names by its number. It takes no memory.
     pub fn file(&self, file: u32) -> &[u8]
         ensures { result.now ≡ file_at self.now.places.files file }
     {
-        self.places.file(file)
+        self.places.get().file(file)
     }
 }
