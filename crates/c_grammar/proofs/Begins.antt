@@ -25,10 +25,10 @@ use Rattle.c_grammar.specs.declared.declarator_place.DeclaratorPlace.{Declarator
 use Rattle.c_grammar.specs.Parts.{Name, Part, takes, takes_at, holds, typedef_name, Scope, State, Takes, Spans, is_typedef, begins_type, specifies_by, specifies_in}
 use Rattle.c_grammar.specs.Spelling.{unary_mark, postfix_mark, binary_mark, rank_of, class_keyword, qualifier_keyword, word_keyword, aggregate_keyword}
 use Rattle.c_grammar.specs.TypeWords.{is_type}
-use Rattle.c_grammar.specs.Grammar.{shape, Form, form, specifier_of, is_named, assign_parts, literal_parts, specification, specifiers_from, all_specified, tag_parts, braced, joined, listed, comma_if, member_of, enumerator_of}
+use Rattle.c_grammar.specs.Grammar.{shape, Form, form, specifier_of, is_named, assign_parts, literal_parts, specification, specifiers_from, all_specified, takes_tag, tag_parts, braced, joined, listed, comma_if, member_of, enumerator_of}
 use Rattle.c_grammar.specs.Reading.{a_mark, a_keyword, a_unary, begins_by, begins_keyword, typed_in}
 use Rattle.c_grammar.proofs.Spans.{split, no_more, one_less, mark_is}
-use Rattle.c_grammar.proofs.Induction.{Steps, of_expr, of_specifier, of_declarator}
+use Rattle.c_tree.proofs.Induction.{Steps, of_expr, of_specifier, of_declarator}
 use Rattle.c_grammar.proofs.Equations.{shape-Integer, shape-Floating, shape-Character, shape-StringLiteral, shape-FunctionName, shape-Identifier, shape-Parenthesized, shape-Subscript, shape-Call, shape-Member, shape-Arrow, shape-Postfix, shape-Unary, shape-SizeofExpr, shape-SizeofType, shape-Cast, shape-Binary, shape-Conditional, shape-Assign, shape-Comma, form-Name, form-Omitted, form-Grouped, form-Pointer, form-Array, form-Function, specifier-Storage, specifier-Qualifier, specifier-Inline, specifier-Word, specifier-Typedef, specifier-Tag, specifier-Aggregate, specifier-EnumTag, specifier-Enumeration}
 
 -- a token like this one, at this offset and of this kind
@@ -404,9 +404,9 @@ begin_steps = record {
   on_specifier_inline = λ at typed s z. rw specifier-Inline (λ (x : _). by_keyword typed at _ [] s z refl x);
   on_specifier_word = λ at word typed s z. rw specifier-Word (λ (x : _). by_keyword typed at _ [] s z (word_begins word) x);
   on_specifier_typedef = λ at name typed s z. rw specifier-Typedef (λ (x : _). typedef_specifies typed at name s z x);
-  on_specifier_tag = λ at aggregate tag typed s z. rw specifier-Tag (λ (x : _). by_keyword typed at _ (takes (kind.Identifier tag) ∷ []) s z (aggregate_begins aggregate) x);
+  on_specifier_tag = λ at aggregate tag typed s z. rw specifier-Tag (λ (x : _). by_keyword typed at _ (takes_tag tag ∷ []) s z (aggregate_begins aggregate) x);
   on_specifier_aggregate = λ at aggregate tag members i typed s z. rw specifier-Aggregate (λ (x : _). by_keyword typed at _ (tag_parts tag ++ braced (joined (map member_of members))) s z (aggregate_begins aggregate) x);
-  on_specifier_enum_tag = λ at tag typed s z. rw specifier-EnumTag (λ (x : _). by_keyword typed at _ (takes (kind.Identifier tag) ∷ []) s z refl x);
+  on_specifier_enum_tag = λ at tag typed s z. rw specifier-EnumTag (λ (x : _). by_keyword typed at _ (takes_tag tag ∷ []) s z refl x);
   on_specifier_enumeration = λ at tag enumerators trailing i typed s z. rw specifier-Enumeration (λ (x : _). by_keyword typed at _ (tag_parts tag ++ braced (listed (map enumerator_of enumerators) ++ comma_if trailing)) s z refl x);
   on_field_plain = λ d i. tt;
   on_field_bits = λ at d width i j. tt;

@@ -9,7 +9,7 @@ use Rattle.c_grammar.specs.declared.declarator_place.DeclaratorPlace.{Declarator
 use Rattle.c_grammar.specs.Parts.{State, Spans, specifies_in}
 use Rattle.c_grammar.specs.Grammar.{Derives, DerivesSpecifier, DerivesDeclarator, all_specified, specification, highest_specifier, ended_in, type_name_of}
 use Rattle.c_grammar.specs.Reading.{rules, begins, binds, specification_at, type_name_at}
-use Rattle.c_grammar.proofs.Induction.{Each, Steps, of_expr, of_specifier, of_declarator, of_type_name}
+use Rattle.c_tree.proofs.Induction.{Each, Steps, of_expr, of_specifier, of_declarator, of_type_name}
 use Rattle.c_grammar.proofs.Begins.{specifies}
 use Rattle.c_grammar.proofs.Reach.{ExprRead, read_from, inner}
 use Rattle.c_grammar.proofs.Read.{SpecifierRead, inner_specifier, DeclaratorRead, inner_declarator, FieldRead, EnumeratorRead, MemberRead, ParameterRead, TypeNameRead}

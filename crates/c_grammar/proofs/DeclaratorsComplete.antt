@@ -24,7 +24,7 @@ use Rattle.c_grammar.specs.Operators.{qualifier_of, array_word_of}
 use Rattle.c_grammar.specs.Grammar.{shape, Form, form, formed, parameter_of, is_named, may_omit, fits_place, ends_declarator, ended_in, takes_mark, later, highest, qualifier_parts, array_word_parts, length_parts, height_of, variadic_parts, parameter_parts, group_parts, closing_parts, declaring, specification, all_specified}
 use Rattle.c_grammar.specs.Reading.{Rules, rules, a_mark, begins_by, begins, a_qualifier, an_array_word, pointer_at, length_at, array_at, with_name, parameter_at, more_parameters_at, parameters_at, closed_at, function_at, suffixed, suffix_in, suffixes_at, grouped_declarator_at, begins_parameters, named_declarator_at, direct_by, direct_in, suffixed_at, declarator_by, type_name_at}
 use Rattle.c_grammar.proofs.Spans.{join, split, no_more, one_less}
-use Rattle.c_grammar.proofs.Induction.{Each, Maybe}
+use Rattle.c_tree.proofs.Induction.{Each, Maybe}
 use Rattle.c_grammar.proofs.Equations.{form-Name, form-Omitted, form-Grouped, form-Pointer, form-Array, form-Function, parameter-is, type-name-is}
 use Rattle.c_grammar.proofs.Begins.{token, taken, starts, opening, not_opening, opening_in, another, directs, directs_in, declares_by, declares_in, heads, no_specifier, specified_mark}
 use Rattle.c_grammar.proofs.Reach.{nat_le_is, ExprRead, inner, behind}

@@ -23,7 +23,7 @@ use Rattle.c_grammar.specs.Operators.{unary_of, binding_of}
 use Rattle.c_grammar.specs.Grammar.{shape, Piece, type_name_of, takes_mark, takes_mark_at, later, highest, piece_of_rank, argument_parts, highest_shape, more_literals, literal_parts, assign_parts}
 use Rattle.c_grammar.specs.Reading.{Rules, rules, expr_by, extend_by, extend_in, a_literal, begins_by, begins, typed_in, binds, binds_in, binding, more_arguments_at, arguments_at, subscript_at, call_at, member_of_at, arrow_at, conditional_at, assign_at, binary_at, comma_at, parenthesized_at, literal_at, parenthesized_type_at, sizeof_at, unary_at, cast_at}
 use Rattle.c_grammar.proofs.Spans.{split, no_more, one_less}
-use Rattle.c_grammar.proofs.Induction.{Each}
+use Rattle.c_tree.proofs.Induction.{Each}
 use Rattle.c_grammar.proofs.Equations.{shape-Integer, shape-Floating, shape-Character, shape-StringLiteral, shape-FunctionName, shape-Identifier, shape-Parenthesized, shape-Subscript, shape-Call, shape-Member, shape-Arrow, shape-Postfix, shape-Unary, shape-SizeofExpr, shape-SizeofType, shape-Cast, shape-Binary, shape-Conditional, shape-Assign, shape-Comma}
 use Rattle.c_grammar.proofs.Begins.{token, taken, rank_most, rank_least, sized, starts, not_opening}
 use Rattle.c_grammar.proofs.Reach.{nat_le_is, gap_in, left_1, left_16, left_binary, Ends, stopped, loop_binary, BaseOf, ExprRead, inner, grown, left_base, behind}

@@ -19,7 +19,8 @@ use Rattle.c_grammar.specs.declared.declarator_place.DeclaratorPlace.TheVariants
 use Rattle.c_grammar.specs.Spelling.{qualifier_keyword, array_word_keyword}
 use Rattle.c_grammar.specs.Operators.{array_word_of}
 use Rattle.c_grammar.specs.Parts.{Name, Part, holds, opens, entered, Scope, State, Takes, Spans, specifies_in}
-use Rattle.c_grammar.specs.Grammar.{Form, Shape, Piece, Specified, DeclaratorLayer, formed, spelled, field_piece, specified, enumerator_piece, member_piece, parameter_piece, type_name_piece, shape, form, parameter_of, takes_mark, takes_mark_at, later, listed, highest, specification, all_specified, height_of, may_omit, qualifier_parts, array_word_parts, length_parts, variadic_parts, parameter_parts, group_parts, closing_parts, declaring, fits_place, DerivesDeclarator}
+use Rattle.c_tree.specs.Folds.{DeclaratorLayer, fold_declarator}
+use Rattle.c_grammar.specs.Grammar.{Form, Shape, Piece, Specified, Said, formed, spelled, field_piece, specified, enumerator_piece, member_piece, parameter_piece, type_name_piece, shape, form, parameter_of, takes_mark, takes_mark_at, later, listed, highest, specification, all_specified, height_of, may_omit, qualifier_parts, array_word_parts, length_parts, variadic_parts, parameter_parts, group_parts, closing_parts, declaring, fits_place, DerivesDeclarator}
 use Rattle.c_grammar.specs.Reading.{Rules, take_by, a_mark, expect, begins, begins_by, holds_some, specification_at, a_qualifier, an_array_word, run_at, pointer_at, length_at, array_at, with_name, parameter_at, more_parameters_at, parameters_at, closed_at, function_at, suffixed, suffix_by, suffix_in, suffixes_at, grouped_declarator_at, begins_parameters, omitted_at, named_declarator_at, direct_by, direct_in, suffixed_at, declarator_by}
 use Rattle.c_grammar.proofs.Spans.{join, bind_some, chosen, guarded, both, nat_le_true, first_taken, take_at, expects, expects_at, run_takes}
 use Rattle.c_grammar.proofs.IsSound.{IsSound, specification_takes}
@@ -70,7 +71,7 @@ omitted_place place.Member h = cc
 omitted_place place.Parameter h = refl
 omitted_place place.TypeName h = refl
 
-omitted_layer : (y : DeclaratorLayer) → (formed y).omitted ≡ true → IsOmitted (formed y)
+omitted_layer : (y : DeclaratorLayer Said) → (formed y).omitted ≡ true → IsOmitted (formed y)
 omitted_layer open_.Omitted h = record { parts = λ where_. refl; may = omitted_place }
 omitted_layer (open_.Name at name) h = cc
 omitted_layer (open_.Grouped at inner) h = cc
@@ -78,9 +79,11 @@ omitted_layer (open_.Pointer at qualifiers target) h = cc
 omitted_layer (open_.Array at element words length') h = cc
 omitted_layer (open_.Function at result parameters variadic) h = cc
 
-form_is : (d : Declarator) → (y : DeclaratorLayer) × (form d ≡ formed y)
-unfolding form
-form_is d = (_, fold_out-Declarator Form Shape Piece Specified Piece Piece Piece Piece formed spelled field_piece specified enumerator_piece member_piece parameter_piece type_name_piece d)
+form_is : (d : Declarator) → (y : DeclaratorLayer Said) × (form d ≡ formed y)
+unfolding form fold_declarator
+form_is d =
+    (_, fold_out-Declarator Form Shape Piece Specified Piece Piece Piece Piece
+    formed spelled field_piece specified enumerator_piece member_piece parameter_piece type_name_piece d)
 
 omitted_is : (d : Declarator) → (form d).omitted ≡ true → IsOmitted (form d)
 omitted_is d h =

@@ -11,6 +11,7 @@ use Rattle.c_lexer.specs.declared.token.Keyword.{Keyword}
 use Rattle.c_lexer.specs.declared.token.Keyword.TheVariants as keyword
 use Rattle.c_lexer.specs.declared.token.Punctuator.TheVariants as mark
 use Rattle.c_tree.specs.declared.expr.AggregateKind.{AggregateKind}
+use Rattle.c_tree.specs.declared.expr.TagName.{TagName}
 use Rattle.c_tree.specs.declared.expr.StorageClass.{StorageClass}
 use Rattle.c_tree.specs.declared.expr.Qualifier.{Qualifier}
 use Rattle.c_tree.specs.declared.expr.TypeWord.{TypeWord}
@@ -26,9 +27,9 @@ use Rattle.c_grammar.specs.declared.declarator_place.DeclaratorPlace.TheVariants
 use Rattle.c_grammar.specs.Spelling.{class_keyword, qualifier_keyword, word_keyword, aggregate_keyword}
 use Rattle.c_grammar.specs.Operators.{aggregate_of, class_of, qualifier_of, type_word_of, type_specifier, qualified, stored, word_specifier}
 use Rattle.c_grammar.specs.Parts.{Name, Part, takes, declares, declared, Scope, State, Takes, Spans, is_typedef, specifies_by, specifies_in}
-use Rattle.c_grammar.specs.Grammar.{shape, form, specifier_of, field_of, enumerator_of, member_of, takes_mark, takes_mark_at, takes_keyword_at, joined, later, listed, highest, comma_if, of_rank, specification, all_specified, tag_parts, braced, value_parts, height_of, field_name_parts, form_height, fields_parts, DerivesSpecifier}
-use Rattle.c_grammar.specs.Reading.{Rules, ◌>>=◌, expect, name_at, begins, specification_at, value_at, enumerator_at, more_enumerators_at, enumeration_at, enum_at, bits_at, field_at, more_fields_at, fields_at, member_at, members_at, aggregate_at, tagged_at, keyword_specifier, specifier_by, specifier_in}
-use Rattle.c_grammar.proofs.Spans.{join, bind_some, chosen, both, first_taken, taken_as, take_at, expects, expects_at, expects_name, expects_name_at}
+use Rattle.c_grammar.specs.Grammar.{shape, form, specifier_of, field_of, enumerator_of, member_of, takes_mark, takes_mark_at, takes_keyword_at, joined, later, listed, highest, comma_if, of_rank, specification, all_specified, takes_tag, tag_parts, braced, value_parts, height_of, field_name_parts, form_height, fields_parts, DerivesSpecifier}
+use Rattle.c_grammar.specs.Reading.{Rules, ◌>>=◌, expect, name_at, tag_at, begins, specification_at, value_at, enumerator_at, more_enumerators_at, enumeration_at, enum_at, bits_at, field_at, more_fields_at, fields_at, member_at, members_at, aggregate_at, tagged_at, keyword_specifier, specifier_by, specifier_in}
+use Rattle.c_grammar.proofs.Spans.{join, bind_some, chosen, both, first_taken, taken_as, take_at, expects, expects_at, expects_name_at}
 use Rattle.c_grammar.proofs.IsSound.{IsSound, specification_takes}
 use Rattle.c_grammar.proofs.Equations.{specifier-Storage, specifier-Qualifier, specifier-Inline, specifier-Word, specifier-Typedef, specifier-Tag, specifier-Aggregate, specifier-EnumTag, specifier-Enumeration, field-Plain, field-Bits, enumerator-is, member-is}
 
@@ -144,14 +145,14 @@ module _ (below : ℕ) (r : Rules) (sound : IsSound below r) where
   enumerators_parts xs trailing = listed (map enumerator_of xs) ++ comma_if trailing
 
   -- an enumeration from its tag to its end
-  record Enumerates (at : ℕ) (tag : Option Name) (s : State) (x : Specifier) (z : State) : Type 0 where
+  record Enumerates (at : ℕ) (tag : Option TagName) (s : State) (x : Specifier) (z : State) : Type 0 where
     xs : List Enumerator
     trailing : Bool
     is : specifier.Enumeration at tag xs trailing ≡ x
     spans : Spans (braced (enumerators_parts xs trailing)) s z
     is_low : highest (map enumerator_of xs) ≤ below
 
-  enumeration_takes : (s z : State) (at : ℕ) (tag : Option Name) (x : Specifier) → enumeration_at r at tag s ≡ Some (x, z) → Enumerates at tag s x z
+  enumeration_takes : (s z : State) (at : ℕ) (tag : Option TagName) (x : Specifier) → enumeration_at r at tag s ≡ Some (x, z) → Enumerates at tag s x z
   unfolding enumeration_at
   enumeration_takes s z at tag x h =
       let a = bind_some (expect mark.LeftBrace s) _ _ h in
@@ -170,7 +171,14 @@ module _ (below : ℕ) (r : Rules) (sound : IsSound below r) where
       subst (λ (p : Specifier × State). Enumerates at tag s p.0 p.1) {x = found} (same_Some found (x, z) e.2)
       (record { xs = xs; trailing = c.0.0.1; is = refl; spans = w; is_low = omega (arith, d.1, m.is_low) })
 
-  enum_with : (typed : Bool) (s m m' z : State) (at : ℕ) (tag : Option Name) (x : Specifier) → Takes at (kind.Keyword keyword.Enum) s.0 m.0 → s.1 ≡ m.1 → Spans (tag_parts tag) m m' → Enumerates at tag m' x z → DerivesSpecifier (suc below) typed s x z
+  tag_takes : (s z : State) (tag : TagName) → tag_at s ≡ Some (tag, z) → Spans (tag_parts (Some tag)) s z
+  tag_takes s z tag h =
+      let a = bind_some (name_at s) _ _ h in
+      let found : TagName × State = (record { at = a.0.1; name = a.0.0 }, a.0.2) in
+      subst (λ (p : TagName × State). Spans (tag_parts (Some p.0)) s p.1) {x = found} (same_Some found (tag, z) a.2)
+      (expects_name_at [] s a.0.2 a.0 a.1 refl)
+
+  enum_with : (typed : Bool) (s m m' z : State) (at : ℕ) (tag : Option TagName) (x : Specifier) → Takes at (kind.Keyword keyword.Enum) s.0 m.0 → s.1 ≡ m.1 → Spans (tag_parts tag) m m' → Enumerates at tag m' x z → DerivesSpecifier (suc below) typed s x z
   enum_with typed s m m' z at tag x i j t e =
       let body = braced (enumerators_parts e.xs e.trailing) in
       let y = take_at at (kind.Keyword keyword.Enum) (tag_parts tag ++ body) s m z i j (join (tag_parts tag) body m m' z t e.spans) in
@@ -183,13 +191,13 @@ module _ (below : ℕ) (r : Rules) (sound : IsSound below r) where
       elim (chosen (begins mark.LeftBrace m) _ _ _ h) [
         | inl p ↦ enum_with typed s m m z at None x i j refl (enumeration_takes m z at None x p.1)
         | inr p ↦
-            let a = bind_some (name_at m) _ _ p.1 in
-            let t = expects_name [] m a.0.2 a.0 a.1 refl in
-            elim (chosen (begins mark.LeftBrace a.0.2) _ _ _ a.2) [
-              | inl q ↦ enum_with typed s m a.0.2 z at (Some a.0.0) x i j t (enumeration_takes a.0.2 z at (Some a.0.0) x q.1)
+            let a = bind_some (tag_at m) _ _ p.1 in
+            let t = tag_takes m a.0.1 a.0.0 a.1 in
+            elim (chosen (begins mark.LeftBrace a.0.1) _ _ _ a.2) [
+              | inl q ↦ enum_with typed s m a.0.1 z at (Some a.0.0) x i j t (enumeration_takes a.0.1 z at (Some a.0.0) x q.1)
               | inr q ↦
-                  subst (λ (p : Specifier × State). DerivesSpecifier (suc below) typed s p.0 p.1) (same_Some (specifier.EnumTag at a.0.0, a.0.2) (x, z) q.1)
-                  (record { spans = rw specifier-EnumTag (take_at at (kind.Keyword keyword.Enum) (takes (kind.Identifier a.0.0) ∷ []) s m a.0.2 i j t); low = rw specifier-EnumTag (omega arith) })
+                  subst (λ (p : Specifier × State). DerivesSpecifier (suc below) typed s p.0 p.1) (same_Some (specifier.EnumTag at a.0.0, a.0.1) (x, z) q.1)
+                  (record { spans = rw specifier-EnumTag (take_at at (kind.Keyword keyword.Enum) (takes_tag a.0.0 ∷ []) s m a.0.1 i j t); low = rw specifier-EnumTag (omega arith) })
             ]
       ]
 
@@ -287,13 +295,13 @@ module _ (below : ℕ) (r : Rules) (sound : IsSound below r) where
       ]
 
   -- a structure or union from its tag to its end
-  record Aggregates (at : ℕ) (aggregate : AggregateKind) (tag : Option Name) (s : State) (x : Specifier) (z : State) : Type 0 where
+  record Aggregates (at : ℕ) (aggregate : AggregateKind) (tag : Option TagName) (s : State) (x : Specifier) (z : State) : Type 0 where
     xs : List MemberDeclaration
     is : specifier.Aggregate at aggregate tag xs ≡ x
     spans : Spans (braced (joined (map member_of xs))) s z
     is_low : highest (map member_of xs) ≤ below
 
-  aggregate_takes : (s z : State) (at : ℕ) (aggregate : AggregateKind) (tag : Option Name) (x : Specifier) → aggregate_at r at aggregate tag s ≡ Some (x, z) → Aggregates at aggregate tag s x z
+  aggregate_takes : (s z : State) (at : ℕ) (aggregate : AggregateKind) (tag : Option TagName) (x : Specifier) → aggregate_at r at aggregate tag s ≡ Some (x, z) → Aggregates at aggregate tag s x z
   unfolding aggregate_at
   aggregate_takes s z at aggregate tag x h =
       let a = bind_some (expect mark.LeftBrace s) _ _ h in
@@ -306,7 +314,7 @@ module _ (below : ℕ) (r : Rules) (sound : IsSound below r) where
       subst (λ (p : Specifier × State). Aggregates at aggregate tag s p.0 p.1) (same_Some (specifier.Aggregate at aggregate tag b.0.0, c.0.2) (x, z) c.2)
       (record { xs = b.0.0; is = refl; spans = expects mark.LeftBrace (list ++ end) s c.0.2 a.0 a.1 y; is_low = m.1 })
 
-  aggregate_with : (typed : Bool) (s m m' z : State) (at : ℕ) (aggregate : AggregateKind) (tag : Option Name) (x : Specifier) → Takes at (kind.Keyword (aggregate_keyword aggregate)) s.0 m.0 → s.1 ≡ m.1 → Spans (tag_parts tag) m m' → Aggregates at aggregate tag m' x z → DerivesSpecifier (suc below) typed s x z
+  aggregate_with : (typed : Bool) (s m m' z : State) (at : ℕ) (aggregate : AggregateKind) (tag : Option TagName) (x : Specifier) → Takes at (kind.Keyword (aggregate_keyword aggregate)) s.0 m.0 → s.1 ≡ m.1 → Spans (tag_parts tag) m m' → Aggregates at aggregate tag m' x z → DerivesSpecifier (suc below) typed s x z
   aggregate_with typed s m m' z at aggregate tag x i j t e =
       let body = braced (joined (map member_of e.xs)) in
       let y = take_at at (kind.Keyword (aggregate_keyword aggregate)) (tag_parts tag ++ body) s m z i j (join (tag_parts tag) body m m' z t e.spans) in
@@ -319,13 +327,13 @@ module _ (below : ℕ) (r : Rules) (sound : IsSound below r) where
       elim (chosen (begins mark.LeftBrace m) _ _ _ h) [
         | inl p ↦ aggregate_with typed s m m z at aggregate None x i j refl (aggregate_takes m z at aggregate None x p.1)
         | inr p ↦
-            let a = bind_some (name_at m) _ _ p.1 in
-            let t = expects_name [] m a.0.2 a.0 a.1 refl in
-            elim (chosen (begins mark.LeftBrace a.0.2) _ _ _ a.2) [
-              | inl q ↦ aggregate_with typed s m a.0.2 z at aggregate (Some a.0.0) x i j t (aggregate_takes a.0.2 z at aggregate (Some a.0.0) x q.1)
+            let a = bind_some (tag_at m) _ _ p.1 in
+            let t = tag_takes m a.0.1 a.0.0 a.1 in
+            elim (chosen (begins mark.LeftBrace a.0.1) _ _ _ a.2) [
+              | inl q ↦ aggregate_with typed s m a.0.1 z at aggregate (Some a.0.0) x i j t (aggregate_takes a.0.1 z at aggregate (Some a.0.0) x q.1)
               | inr q ↦
-                  subst (λ (p : Specifier × State). DerivesSpecifier (suc below) typed s p.0 p.1) (same_Some (specifier.Tag at aggregate a.0.0, a.0.2) (x, z) q.1)
-                  (record { spans = rw specifier-Tag (take_at at (kind.Keyword (aggregate_keyword aggregate)) (takes (kind.Identifier a.0.0) ∷ []) s m a.0.2 i j t); low = rw specifier-Tag (omega arith) })
+                  subst (λ (p : Specifier × State). DerivesSpecifier (suc below) typed s p.0 p.1) (same_Some (specifier.Tag at aggregate a.0.0, a.0.1) (x, z) q.1)
+                  (record { spans = rw specifier-Tag (take_at at (kind.Keyword (aggregate_keyword aggregate)) (takes_tag a.0.0 ∷ []) s m a.0.1 i j t); low = rw specifier-Tag (omega arith) })
             ]
       ]
 

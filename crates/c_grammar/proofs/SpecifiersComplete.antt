@@ -18,6 +18,7 @@ use Rattle.c_tree.specs.declared.expr.Specifier.TheVariants as specifier
 use Rattle.c_tree.specs.declared.expr.Declarator.{Declarator}
 use Rattle.c_tree.specs.declared.expr.Field.{Field}
 use Rattle.c_tree.specs.declared.expr.Field.TheVariants as field
+use Rattle.c_tree.specs.declared.expr.TagName.{TagName}
 use Rattle.c_tree.specs.declared.expr.Enumerator.{Enumerator}
 use Rattle.c_tree.specs.declared.expr.MemberDeclaration.{MemberDeclaration}
 use Rattle.c_grammar.specs.declared.declarator_place.DeclaratorPlace.TheVariants as place
@@ -30,7 +31,7 @@ use Rattle.c_grammar.specs.Spelling.{class_keyword, qualifier_keyword, word_keyw
 use Rattle.c_grammar.specs.Grammar.{shape, form, Specified, specifier_of, field_of, enumerator_of, member_of, takes_mark, takes_mark_at, joined, later, listed, highest, comma_if, of_rank, specifiers_from, specification, highest_specifier, all_specified, braced, value_parts, height_of, fields_parts, ended_in}
 use Rattle.c_grammar.specs.Reading.{Rules, rules, begins, kind_of, specifiers_at, specification_at, value_at, enumerator_at, more_enumerators_at, enumeration_at, enum_at, bits_at, field_at, more_fields_at, fields_at, member_at, members_at, aggregate_at, tagged_at, specifier_by}
 use Rattle.c_grammar.proofs.Spans.{join, split, no_more, one_less}
-use Rattle.c_grammar.proofs.Induction.{Each, Maybe}
+use Rattle.c_tree.proofs.Induction.{Each, Maybe}
 use Rattle.c_grammar.proofs.Equations.{specifier-Storage, specifier-Qualifier, specifier-Inline, specifier-Word, specifier-Typedef, specifier-Tag, specifier-Aggregate, specifier-EnumTag, specifier-Enumeration, field-Plain, field-Bits, enumerator-is, member-is}
 use Rattle.c_grammar.proofs.Begins.{taken, declares_in, named_declares, no_specifier, specifies, specified_mark, specification_begins}
 use Rattle.c_grammar.proofs.Reach.{ExprRead, inner}
@@ -150,20 +151,20 @@ word_read at w below typed s z = rw specifier-Word (λ (x : _) low h. rw (taken 
 pub typedef_read : (at : ℕ) (name : Name) → SpecifierRead (specifier.Typedef at name)
 typedef_read at name below typed s z = rw specifier-Typedef (λ (x : _) low h. rw (taken x.1.1.1) (ap (λ (q : State). Some (specifier.Typedef at name, q)) x.1.1.2))
 
-pub tag_read : (at : ℕ) (a : AggregateKind) (tag : Name) → SpecifierRead (specifier.Tag at a tag)
+pub tag_read : (at : ℕ) (a : AggregateKind) (tag : TagName) → SpecifierRead (specifier.Tag at a tag)
 unfolding tagged_at
 tag_read at a tag below typed s z = rw specifier-Tag (λ (x : _) low h.
     let y = x.2 in
-    let no_brace : begins mark.LeftBrace (y.1, s.1) ≡ false = ap (begins mark.LeftBrace) y.3 ∙ h in
-    let reads : tagged_at (rules below) at a (x.0, s.1) ≡ Some (specifier.Tag at a tag, z) = rw (taken y.2, no_brace) (ap (λ (q : State). Some (specifier.Tag at a tag, q)) y.3) in
+    let no_brace : begins mark.LeftBrace (y.0, s.1) ≡ false = ap (begins mark.LeftBrace) y.2 ∙ h in
+    let reads : tagged_at (rules below) at a (x.0, s.1) ≡ Some (specifier.Tag at a tag, z) = rw (taken y.1, no_brace) (ap (λ (q : State). Some (specifier.Tag at a tag, q)) y.2) in
     rw (taken x.1) (tagged_by (rules below) at a (x.0, s.1) ∙ reads))
 
-pub enum_tag_read : (at : ℕ) (tag : Name) → SpecifierRead (specifier.EnumTag at tag)
+pub enum_tag_read : (at : ℕ) (tag : TagName) → SpecifierRead (specifier.EnumTag at tag)
 unfolding enum_at
 enum_tag_read at tag below typed s z = rw specifier-EnumTag (λ (x : _) low h.
     let y = x.2 in
-    let no_brace : begins mark.LeftBrace (y.1, s.1) ≡ false = ap (begins mark.LeftBrace) y.3 ∙ h in
-    rw (taken x.1, taken y.2, no_brace) (ap (λ (q : State). Some (specifier.EnumTag at tag, q)) y.3))
+    let no_brace : begins mark.LeftBrace (y.0, s.1) ≡ false = ap (begins mark.LeftBrace) y.2 ∙ h in
+    rw (taken x.1, taken y.1, no_brace) (ap (λ (q : State). Some (specifier.EnumTag at tag, q)) y.2))
 
 -- ---- enumerations (C99 6.7.2.2)
 
@@ -220,7 +221,7 @@ more_enumerators_read below (suc n) (x ∷ xs) trailing s m each enough low y t 
     let reads = more_enumerators_read below n xs trailing p.0 m each.1 (omega arith) (omega arith) more t in
     rw (taken y.2, begun, read, reads) refl
 
-enumeration_body_read : (below at : ℕ) (tag : Option Name) (xs : List Enumerator) (trailing : Bool) (s m : State) → Each EnumeratorRead xs → highest (map enumerator_of xs) ≤ below → Spans (braced (listed (map enumerator_of xs) ++ comma_if trailing)) s m → enumeration_at (rules below) at tag s ≡ Some (specifier.Enumeration at tag xs trailing, m)
+enumeration_body_read : (below at : ℕ) (tag : Option TagName) (xs : List Enumerator) (trailing : Bool) (s m : State) → Each EnumeratorRead xs → highest (map enumerator_of xs) ≤ below → Spans (braced (listed (map enumerator_of xs) ++ comma_if trailing)) s m → enumeration_at (rules below) at tag s ≡ Some (specifier.Enumeration at tag xs trailing, m)
 unfolding enumeration_at
 enumeration_body_read below at tag [] trailing s m each low y = let none = y.3.0 in cc
 enumeration_body_read below at tag (x ∷ xs) trailing s m each low y =
@@ -233,7 +234,7 @@ enumeration_body_read below at tag (x ∷ xs) trailing s m each low y =
     let reads = more_enumerators_read below (suc (length p.0.0)) xs trailing p.0 o.0 each.1 (omega arith) (omega arith) more o.2.2 in
     rw (taken y.2, read, reads, taken o.2.2) (ap (λ (w : State). Some (specifier.Enumeration at tag (x ∷ xs) trailing, w)) o.2.3)
 
-pub enumeration_read : (at : ℕ) (tag : Option Name) (xs : List Enumerator) (trailing : Bool) → Each EnumeratorRead xs → SpecifierRead (specifier.Enumeration at tag xs trailing)
+pub enumeration_read : (at : ℕ) (tag : Option TagName) (xs : List Enumerator) (trailing : Bool) → Each EnumeratorRead xs → SpecifierRead (specifier.Enumeration at tag xs trailing)
 unfolding enum_at
 enumeration_read at None xs trailing each below typed s z = rw specifier-Enumeration (λ (x : _) low h.
     let read = enumeration_body_read below at None xs trailing (x.0, s.1) z each (omega arith) x.2 in
@@ -241,9 +242,9 @@ enumeration_read at None xs trailing each below typed s z = rw specifier-Enumera
     rw (taken x.1, begun, read) refl)
 enumeration_read at (Some tag) xs trailing each below typed s z = rw specifier-Enumeration (λ (x : _) low h.
     let y = x.2 in
-    let read = enumeration_body_read below at (Some tag) xs trailing (y.1, s.1) z each (omega arith) y.3 in
-    let begun : begins mark.LeftBrace (y.1, s.1) ≡ true = rw (taken y.3.2) refl in
-    rw (taken x.1, taken y.2, begun, read) refl)
+    let read = enumeration_body_read below at (Some tag) xs trailing (y.0, s.1) z each (omega arith) y.2 in
+    let begun : begins mark.LeftBrace (y.0, s.1) ≡ true = rw (taken y.2.2) refl in
+    rw (taken x.1, taken y.1, begun, read) refl)
 
 -- ---- structures and unions (C99 6.7.2.1)
 
@@ -356,14 +357,14 @@ members_read below (suc n) (x ∷ xs) s m each enough low y t =
     let more = members_read below n xs p.0 m each.1 (omega arith) (omega arith) p.2 t in
     rw (begun, read, more) refl
 
-aggregate_body_read : (below at : ℕ) (a : AggregateKind) (tag : Option Name) (xs : List MemberDeclaration) (s m : State) → Each MemberRead xs → highest (map member_of xs) ≤ below → Spans (braced (joined (map member_of xs))) s m → aggregate_at (rules below) at a tag s ≡ Some (specifier.Aggregate at a tag xs, m)
+aggregate_body_read : (below at : ℕ) (a : AggregateKind) (tag : Option TagName) (xs : List MemberDeclaration) (s m : State) → Each MemberRead xs → highest (map member_of xs) ≤ below → Spans (braced (joined (map member_of xs))) s m → aggregate_at (rules below) at a tag s ≡ Some (specifier.Aggregate at a tag xs, m)
 unfolding aggregate_at
 aggregate_body_read below at a tag xs s m each low y =
     let p = split (joined (map member_of xs)) (takes_mark mark.RightBrace ∷ []) (y.1, s.1) m y.3 in
     let read = members_read below (suc (length y.1)) xs (y.1, s.1) p.0 each (omega arith) low p.1 p.2.2 in
     rw (taken y.2, read, taken p.2.2) (ap (λ (w : State). Some (specifier.Aggregate at a tag xs, w)) p.2.3)
 
-pub aggregate_read : (at : ℕ) (a : AggregateKind) (tag : Option Name) (xs : List MemberDeclaration) → Each MemberRead xs → SpecifierRead (specifier.Aggregate at a tag xs)
+pub aggregate_read : (at : ℕ) (a : AggregateKind) (tag : Option TagName) (xs : List MemberDeclaration) → Each MemberRead xs → SpecifierRead (specifier.Aggregate at a tag xs)
 unfolding tagged_at
 aggregate_read at a None xs each below typed s z = rw specifier-Aggregate (λ (x : _) low h.
     let read = aggregate_body_read below at a None xs (x.0, s.1) z each (omega arith) x.2 in
@@ -372,7 +373,7 @@ aggregate_read at a None xs each below typed s z = rw specifier-Aggregate (λ (x
     rw (taken x.1) (tagged_by (rules below) at a (x.0, s.1) ∙ reads))
 aggregate_read at a (Some tag) xs each below typed s z = rw specifier-Aggregate (λ (x : _) low h.
     let y = x.2 in
-    let read = aggregate_body_read below at a (Some tag) xs (y.1, s.1) z each (omega arith) y.3 in
-    let begun : begins mark.LeftBrace (y.1, s.1) ≡ true = rw (taken y.3.2) refl in
-    let reads : tagged_at (rules below) at a (x.0, s.1) ≡ Some (specifier.Aggregate at a (Some tag) xs, z) = rw (taken y.2, begun, read) refl in
+    let read = aggregate_body_read below at a (Some tag) xs (y.0, s.1) z each (omega arith) y.2 in
+    let begun : begins mark.LeftBrace (y.0, s.1) ≡ true = rw (taken y.2.2) refl in
+    let reads : tagged_at (rules below) at a (x.0, s.1) ≡ Some (specifier.Aggregate at a (Some tag) xs, z) = rw (taken y.1, begun, read) refl in
     rw (taken x.1) (tagged_by (rules below) at a (x.0, s.1) ∙ reads))

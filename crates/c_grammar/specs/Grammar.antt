@@ -10,15 +10,17 @@ use Rattle.c_lexer.specs.declared.token.Punctuator.TheVariants as mark
 use Rattle.c_tree.specs.declared.expr.BinaryOperator.{BinaryOperator}
 use Rattle.c_tree.specs.declared.expr.Qualifier.{Qualifier}
 use Rattle.c_tree.specs.declared.expr.ArrayWord.{ArrayWord}
-use Rattle.c_tree.specs.declared.expr.Expr.{Expr, fold-Expr}
-use Rattle.c_tree.specs.declared.expr.TypeName.{TypeName, fold-TypeName}
-use Rattle.c_tree.specs.declared.expr.Specifier.{Specifier, fold-Specifier}
-use Rattle.c_tree.specs.declared.expr.MemberDeclaration.{MemberDeclaration, fold-MemberDeclaration}
-use Rattle.c_tree.specs.declared.expr.Field.{Field, fold-Field}
-use Rattle.c_tree.specs.declared.expr.Enumerator.{Enumerator, fold-Enumerator}
-use Rattle.c_tree.specs.declared.expr.Declarator.{Declarator, fold-Declarator}
-use Rattle.c_tree.specs.declared.expr.Parameter.{Parameter, fold-Parameter}
+use Rattle.c_tree.specs.declared.expr.Expr.{Expr}
+use Rattle.c_tree.specs.declared.expr.TypeName.{TypeName}
+use Rattle.c_tree.specs.declared.expr.Specifier.{Specifier}
+use Rattle.c_tree.specs.declared.expr.MemberDeclaration.{MemberDeclaration}
+use Rattle.c_tree.specs.declared.expr.Field.{Field}
+use Rattle.c_tree.specs.declared.expr.Enumerator.{Enumerator}
+use Rattle.c_tree.specs.declared.expr.Declarator.{Declarator}
+use Rattle.c_tree.specs.declared.expr.Parameter.{Parameter}
 use Rattle.c_tree.specs.declared.expr.Declarator.TheOpen as open_
+use Rattle.c_tree.specs.declared.expr.TagName.{TagName}
+use Rattle.c_tree.specs.Folds.{Carrier, Algebra, DeclaratorLayer, ExprLayer, FieldLayer, SpecifierLayer, EnumeratorLayer, MemberDeclarationLayer, ParameterLayer, TypeNameLayer, fold_declarator, fold_expr, fold_field, fold_specifier, fold_enumerator, fold_member, fold_parameter, fold_type_name}
 use Rattle.c_grammar.specs.declared.declarator_place.DeclaratorPlace.{DeclaratorPlace}
 use Rattle.c_grammar.specs.declared.declarator_place.DeclaratorPlace.TheVariants as place
 use Rattle.c_grammar.specs.declared.type_words.TypeKind.{TypeKind}
@@ -56,30 +58,18 @@ pub record Form : Type 0 where
   pub omitted : Bool
   pub derived : Bool
 
--- one level of each type, with what the grammar says of the trees below
-abbrev pub ExprLayer : Type 0
-ExprLayer = open_.Expr-F Form Shape Piece Specified Piece Piece Piece Piece
-
-abbrev pub DeclaratorLayer : Type 0
-DeclaratorLayer = open_.Declarator-F Form Shape Piece Specified Piece Piece Piece Piece
-
-abbrev pub FieldLayer : Type 0
-FieldLayer = open_.Field-F Form Shape Piece Specified Piece Piece Piece Piece
-
-abbrev pub SpecifierLayer : Type 0
-SpecifierLayer = open_.Specifier-F Form Shape Piece Specified Piece Piece Piece Piece
-
-abbrev pub EnumeratorLayer : Type 0
-EnumeratorLayer = open_.Enumerator-F Form Shape Piece Specified Piece Piece Piece Piece
-
-abbrev pub MemberLayer : Type 0
-MemberLayer = open_.MemberDeclaration-F Form Shape Piece Specified Piece Piece Piece Piece
-
-abbrev pub ParameterLayer : Type 0
-ParameterLayer = open_.Parameter-F Form Shape Piece Specified Piece Piece Piece Piece
-
-abbrev pub TypeNameLayer : Type 0
-TypeNameLayer = open_.TypeName-F Form Shape Piece Specified Piece Piece Piece Piece
+-- of each type of tree
+abbrev pub Said : Carrier
+Said = record {
+  declarator = Form;
+  expr = Shape;
+  field = Piece;
+  specifier = Specified;
+  enumerator = Piece;
+  member = Piece;
+  parameter = Piece;
+  type_name = Piece;
+}
 
 -- ---- lists
 
@@ -148,9 +138,13 @@ abbrev pub highest_specifier : List Specified → ℕ
 highest_specifier [] = 0
 highest_specifier (x ∷ xs) = max x.height (highest_specifier xs)
 
-abbrev pub tag_parts : Option Name → List Part
+-- a tag, by the offset of its own token
+abbrev pub takes_tag : TagName → Part
+takes_tag tag = takes_at tag.at (kind.Identifier tag.name)
+
+abbrev pub tag_parts : Option TagName → List Part
 tag_parts None = []
-tag_parts (Some tag) = takes (kind.Identifier tag) ∷ []
+tag_parts (Some tag) = takes_tag tag ∷ []
 
 abbrev pub braced : List Part → List Part
 braced ps = takes_mark mark.LeftBrace ∷ (ps ++ takes_mark mark.RightBrace ∷ [])
@@ -158,7 +152,7 @@ braced ps = takes_mark mark.LeftBrace ∷ (ps ++ takes_mark mark.RightBrace ∷ 
 abbrev pub word_of : ℕ → Keyword → TypeKind → Specified
 word_of at k says = record { parts = λ typed. takes_keyword_at at k ∷ []; height = 1; kind = says }
 
-abbrev pub specified : SpecifierLayer → Specified
+abbrev pub specified : SpecifierLayer Said → Specified
 specified (open_.Storage at class) = word_of at (class_keyword class) type_kind.NoType
 specified (open_.Qualifier at qualifier) = word_of at (qualifier_keyword qualifier) type_kind.NoType
 specified (open_.Inline at) = word_of at keyword.Inline type_kind.NoType
@@ -166,7 +160,7 @@ specified (open_.Word at word) = word_of at (word_keyword word) (type_kind.Word 
 specified (open_.Typedef at name) =
     record { parts = λ typed. holds (not typed) ∷ typedef_name name ∷ takes_at at (kind.Identifier name) ∷ []; height = 1; kind = type_kind.Whole }
 specified (open_.Tag at aggregate tag) =
-    record { parts = λ typed. takes_keyword_at at (aggregate_keyword aggregate) ∷ takes (kind.Identifier tag) ∷ []; height = 1; kind = type_kind.Whole }
+    record { parts = λ typed. takes_keyword_at at (aggregate_keyword aggregate) ∷ takes_tag tag ∷ []; height = 1; kind = type_kind.Whole }
 specified (open_.Aggregate at aggregate tag members) =
     record {
       parts = λ typed. takes_keyword_at at (aggregate_keyword aggregate) ∷ (tag_parts tag ++ braced (joined members));
@@ -174,7 +168,7 @@ specified (open_.Aggregate at aggregate tag members) =
       kind = type_kind.Whole;
     }
 specified (open_.EnumTag at tag) =
-    record { parts = λ typed. takes_keyword_at at keyword.Enum ∷ takes (kind.Identifier tag) ∷ []; height = 1; kind = type_kind.Whole }
+    record { parts = λ typed. takes_keyword_at at keyword.Enum ∷ takes_tag tag ∷ []; height = 1; kind = type_kind.Whole }
 specified (open_.Enumeration at tag enumerators trailing) =
     record {
       parts = λ typed. takes_keyword_at at keyword.Enum ∷ (tag_parts tag ++ braced (listed enumerators ++ comma_if trailing));
@@ -191,7 +185,7 @@ height_of None = 0
 height_of (Some e) = e.height
 
 -- an enumeration constant is in scope behind its enumerator (6.2.1)
-abbrev pub enumerator_piece : EnumeratorLayer → Piece
+abbrev pub enumerator_piece : EnumeratorLayer Said → Piece
 enumerator_piece x = record { parts = takes_at x.at (kind.Identifier x.name) ∷ (value_parts x.value ++ declares x.name false ∷ []); height = height_of x.value }
 
 -- ---- declarators
@@ -235,7 +229,7 @@ abbrev pub closing_parts : DeclaratorPlace → Bool → Part
 closing_parts place.Declaration false = keeps
 closing_parts _ _ = closes
 
-abbrev pub formed : DeclaratorLayer → Form
+abbrev pub formed : DeclaratorLayer Said → Form
 formed (open_.Name at name) =
     record { parts = λ where_. takes_at at (kind.Identifier name) ∷ []; rank = 0; height = 1; name = Some name; omitted = false; derived = false }
 formed open_.Omitted = record { parts = λ where_. []; rank = 0; height = 1; name = None; omitted = true; derived = false }
@@ -248,30 +242,30 @@ formed (open_.Grouped at inner) =
       omitted = false;
       derived = inner.derived;
     }
-formed (open_.Pointer at qualifiers target) =
+formed (open_.Pointer at qualifiers inner) =
     record {
-      parts = λ where_. takes_mark_at at mark.Star ∷ (qualifier_parts qualifiers ++ target.parts where_);
+      parts = λ where_. takes_mark_at at mark.Star ∷ (qualifier_parts qualifiers ++ inner.parts where_);
       rank = 2;
-      height = suc target.height;
-      name = target.name;
+      height = suc inner.height;
+      name = inner.name;
       omitted = false;
       derived = true;
     }
-formed (open_.Array at element words length) =
+formed (open_.Array at inner words length) =
     record {
-      parts = λ where_. at_most element.rank 1 ∷ (element.parts where_ ++ takes_mark_at at mark.LeftBracket ∷ (array_word_parts words ++ (length_parts length ++ takes_mark mark.RightBracket ∷ [])));
+      parts = λ where_. at_most inner.rank 1 ∷ (inner.parts where_ ++ takes_mark_at at mark.LeftBracket ∷ (array_word_parts words ++ (length_parts length ++ takes_mark mark.RightBracket ∷ [])));
       rank = 1;
-      height = suc (max element.height (height_of length));
-      name = element.name;
+      height = suc (max inner.height (height_of length));
+      name = inner.name;
       omitted = false;
       derived = true;
     }
-formed (open_.Function at result parameters variadic) =
+formed (open_.Function at inner parameters variadic) =
     record {
-      parts = λ where_. at_most result.rank 1 ∷ (result.parts where_ ++ takes_mark_at at mark.LeftParen ∷ opens ∷ (parameter_parts parameters variadic ++ closing_parts where_ result.derived ∷ takes_mark mark.RightParen ∷ []));
+      parts = λ where_. at_most inner.rank 1 ∷ (inner.parts where_ ++ takes_mark_at at mark.LeftParen ∷ opens ∷ (parameter_parts parameters variadic ++ closing_parts where_ inner.derived ∷ takes_mark mark.RightParen ∷ []));
       rank = 1;
-      height = suc (max result.height (highest parameters));
-      name = result.name;
+      height = suc (max inner.height (highest parameters));
+      name = inner.name;
       omitted = false;
       derived = true;
     }
@@ -281,13 +275,13 @@ declaring None is_type = []
 declaring (Some name) is_type = declares name is_type ∷ []
 
 -- a parameter declares its name
-abbrev pub parameter_piece : ParameterLayer → Piece
+abbrev pub parameter_piece : ParameterLayer Said → Piece
 parameter_piece x = record {
   parts = specification x.specifiers ++ (x.declarator.parts place.Parameter ++ declaring x.declarator.name false);
   height = max (highest_specifier x.specifiers) x.declarator.height;
 }
 
-abbrev pub type_name_piece : TypeNameLayer → Piece
+abbrev pub type_name_piece : TypeNameLayer Said → Piece
 type_name_piece x = record {
   parts = specification x.specifiers ++ holds (not (is_named x.declarator)) ∷ x.declarator.parts place.TypeName;
   height = max (highest_specifier x.specifiers) x.declarator.height;
@@ -302,7 +296,7 @@ abbrev pub form_height : Option Form → ℕ
 form_height None = 0
 form_height (Some d) = d.height
 
-abbrev pub field_piece : FieldLayer → Piece
+abbrev pub field_piece : FieldLayer Said → Piece
 field_piece (open_.Plain declarator) = record { parts = field_name_parts (Some declarator); height = declarator.height }
 field_piece (open_.Bits at declarator width) =
     record { parts = field_name_parts declarator ++ takes_mark_at at mark.Colon ∷ of_rank 14 width; height = max (form_height declarator) width.height }
@@ -311,7 +305,7 @@ abbrev pub fields_parts : List Piece → List Part
 fields_parts [] = []
 fields_parts (x ∷ xs) = listed (x ∷ xs)
 
-abbrev pub member_piece : MemberLayer → Piece
+abbrev pub member_piece : MemberDeclarationLayer Said → Piece
 member_piece x = record {
   parts = specification x.specifiers ++ (fields_parts x.fields ++ takes_mark mark.Semicolon ∷ []);
   height = max (highest_specifier x.specifiers) (highest x.fields);
@@ -340,7 +334,7 @@ assign_parts at operator = elim (assign_mark operator) as (λ _. List Part) [ No
 abbrev pub in_parens : List Part → List Part
 in_parens ps = takes_mark mark.LeftParen ∷ (ps ++ takes_mark mark.RightParen ∷ [])
 
-abbrev pub spelled : ExprLayer → Shape
+abbrev pub spelled : ExprLayer Said → Shape
 spelled (open_.Integer at constant) = leaf (takes_at at (kind.Integer constant) ∷ [])
 spelled (open_.Floating at) = leaf (takes_at at kind.Floating ∷ [])
 spelled (open_.Character at value) = leaf (takes_at at (kind.Character value) ∷ [])
@@ -371,29 +365,41 @@ spelled (open_.Comma at left right) =
 
 -- ---- trees
 
+abbrev pub grammar : Algebra Said
+grammar = record {
+  declarator = formed;
+  expr = spelled;
+  field = field_piece;
+  specifier = specified;
+  enumerator = enumerator_piece;
+  member = member_piece;
+  parameter = parameter_piece;
+  type_name = type_name_piece;
+}
+
 unfoldable pub shape : Expr → Shape
-shape e = fold-Expr Form Shape Piece Specified Piece Piece Piece Piece formed spelled field_piece specified enumerator_piece member_piece parameter_piece type_name_piece e
+shape e = fold_expr grammar e
 
 unfoldable pub form : Declarator → Form
-form d = fold-Declarator Form Shape Piece Specified Piece Piece Piece Piece formed spelled field_piece specified enumerator_piece member_piece parameter_piece type_name_piece d
+form d = fold_declarator grammar d
 
 unfoldable pub specifier_of : Specifier → Specified
-specifier_of x = fold-Specifier Form Shape Piece Specified Piece Piece Piece Piece formed spelled field_piece specified enumerator_piece member_piece parameter_piece type_name_piece x
+specifier_of x = fold_specifier grammar x
 
 unfoldable pub field_of : Field → Piece
-field_of x = fold-Field Form Shape Piece Specified Piece Piece Piece Piece formed spelled field_piece specified enumerator_piece member_piece parameter_piece type_name_piece x
+field_of x = fold_field grammar x
 
 unfoldable pub enumerator_of : Enumerator → Piece
-enumerator_of x = fold-Enumerator Form Shape Piece Specified Piece Piece Piece Piece formed spelled field_piece specified enumerator_piece member_piece parameter_piece type_name_piece x
+enumerator_of x = fold_enumerator grammar x
 
 unfoldable pub member_of : MemberDeclaration → Piece
-member_of x = fold-MemberDeclaration Form Shape Piece Specified Piece Piece Piece Piece formed spelled field_piece specified enumerator_piece member_piece parameter_piece type_name_piece x
+member_of x = fold_member grammar x
 
 unfoldable pub parameter_of : Parameter → Piece
-parameter_of x = fold-Parameter Form Shape Piece Specified Piece Piece Piece Piece formed spelled field_piece specified enumerator_piece member_piece parameter_piece type_name_piece x
+parameter_of x = fold_parameter grammar x
 
 unfoldable pub type_name_of : TypeName → Piece
-type_name_of x = fold-TypeName Form Shape Piece Specified Piece Piece Piece Piece formed spelled field_piece specified enumerator_piece member_piece parameter_piece type_name_piece x
+type_name_of x = fold_type_name grammar x
 
 -- the specifiers of a declaration
 abbrev pub all_specified : List Specifier → List Specified

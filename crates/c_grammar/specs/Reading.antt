@@ -16,6 +16,7 @@ use Rattle.c_tree.specs.declared.expr.BinaryOperator.{BinaryOperator}
 use Rattle.c_tree.specs.declared.expr.Qualifier.{Qualifier}
 use Rattle.c_tree.specs.declared.expr.ArrayWord.{ArrayWord}
 use Rattle.c_tree.specs.declared.expr.AggregateKind.{AggregateKind}
+use Rattle.c_tree.specs.declared.expr.TagName.{TagName}
 use Rattle.c_tree.specs.declared.expr.Expr.{Expr}
 use Rattle.c_tree.specs.declared.expr.Expr.TheVariants as expr
 use Rattle.c_tree.specs.declared.expr.TypeName.{TypeName}
@@ -78,6 +79,10 @@ expect_keyword wanted s = take_by (a_keyword wanted) s.0 s.1
 
 abbrev pub name_at : State → Option (Name × ℕ × State)
 name_at s = take_by a_name s.0 s.1
+
+-- a tag, by the offset of its own token
+abbrev pub tag_at : State → Reading TagName
+tag_at s = name_at s >>= (λ name. Some (record { at = name.1; name = name.0 }, name.2))
 
 abbrev pub holds_some : {A : Type 0} → Option A → Bool
 holds_some None = false
@@ -145,7 +150,7 @@ more_enumerators_at r (suc n) s = cond (begins mark.Comma s)
     (enumerator_at r c.2 >>= (λ x. more_enumerators_at r n x.1 >>= (λ more. Some ((x.0 ∷ more.0.0, more.0.1), more.1))))))
     (Some (([], false), s))
 
-unfoldable pub enumeration_at : Rules → ℕ → Option Name → State → Reading Specifier
+unfoldable pub enumeration_at : Rules → ℕ → Option TagName → State → Reading Specifier
 enumeration_at r at tag s = do
   start ← expect mark.LeftBrace s
   first ← enumerator_at r start.2
@@ -156,8 +161,10 @@ enumeration_at r at tag s = do
 -- after the word `enum`
 unfoldable pub enum_at : Rules → ℕ → State → Reading Specifier
 enum_at r at s = cond (begins mark.LeftBrace s) (enumeration_at r at None s) (do
-  tag ← name_at s
-  cond (begins mark.LeftBrace tag.2) (enumeration_at r at (Some tag.0) tag.2) (Some (specifier.EnumTag at tag.0, tag.2)))
+  tag ← tag_at s
+  cond (begins mark.LeftBrace tag.1)
+      (enumeration_at r at (Some tag.0) tag.1)
+      (Some (specifier.EnumTag at tag.0, tag.1)))
 
 unfoldable pub bits_at : Rules → Option Declarator → State → Reading Field
 bits_at r d s = do
@@ -195,7 +202,7 @@ members_at r (suc n) s = cond (begins mark.RightBrace s)
     (Some ([], s))
     (member_at r s >>= (λ x. members_at r n x.1 >>= (λ more. Some (x.0 ∷ more.0, more.1))))
 
-unfoldable pub aggregate_at : Rules → ℕ → AggregateKind → Option Name → State → Reading Specifier
+unfoldable pub aggregate_at : Rules → ℕ → AggregateKind → Option TagName → State → Reading Specifier
 aggregate_at r at aggregate tag s = do
   start ← expect mark.LeftBrace s
   members ← members_at r (suc (length start.2.0)) start.2
@@ -205,8 +212,10 @@ aggregate_at r at aggregate tag s = do
 -- after the word `struct` or `union`
 unfoldable pub tagged_at : Rules → ℕ → AggregateKind → State → Reading Specifier
 tagged_at r at aggregate s = cond (begins mark.LeftBrace s) (aggregate_at r at aggregate None s) (do
-  tag ← name_at s
-  cond (begins mark.LeftBrace tag.2) (aggregate_at r at aggregate (Some tag.0) tag.2) (Some (specifier.Tag at aggregate tag.0, tag.2)))
+  tag ← tag_at s
+  cond (begins mark.LeftBrace tag.1)
+      (aggregate_at r at aggregate (Some tag.0) tag.1)
+      (Some (specifier.Tag at aggregate tag.0, tag.1)))
 
 abbrev pub keyword_specifier : Rules → ℕ → Keyword → Option AggregateKind → State → Reading Specifier
 keyword_specifier r at k (Some aggregate) s = tagged_at r at aggregate s
@@ -244,8 +253,8 @@ unfoldable pub pointer_at : Rules → DeclaratorPlace → State → Reading Decl
 pointer_at r where_ s = do
   star ← expect mark.Star s
   qualifiers ← run_at a_qualifier (suc (length star.2.0)) star.2
-  target ← r.declarator where_ qualifiers.1
-  Some (declarator.Pointer star.1 qualifiers.0 target.0, target.1)
+  inner ← r.declarator where_ qualifiers.1
+  Some (declarator.Pointer star.1 qualifiers.0 inner.0, inner.1)
 
 -- an assignment expression, where something else than `]` comes next
 unfoldable pub length_at : Rules → State → Reading (Option Expr)
@@ -255,11 +264,11 @@ length_at r s = cond (begins mark.RightBracket s) (Some (None, s)) (do
 
 -- after `[`
 unfoldable pub array_at : Rules → ℕ → Declarator → State → Reading Declarator
-array_at r at element s = do
+array_at r at inner s = do
   words ← run_at an_array_word (suc (length s.0)) s
   length' ← length_at r words.1
   end ← expect mark.RightBracket length'.1
-  Some (declarator.Array at element words.0 length'.0, end.2)
+  Some (declarator.Array at inner words.0 length'.0, end.2)
 
 abbrev pub with_name : Option Name → Bool → State → State
 with_name None is_type s = s
@@ -292,10 +301,10 @@ closed_at _ _ scope = left scope
 
 -- after `(`
 unfoldable pub function_at : Rules → DeclaratorPlace → ℕ → Declarator → State → Reading Declarator
-function_at r where_ at result s = do
+function_at r where_ at inner s = do
   xs ← parameters_at r (s.0, entered s.1)
-  end ← expect mark.RightParen (xs.1.0, closed_at where_ (form result).derived xs.1.1)
-  Some (declarator.Function at result xs.0.0 xs.0.1, end.2)
+  end ← expect mark.RightParen (xs.1.0, closed_at where_ (form inner).derived xs.1.1)
+  Some (declarator.Function at inner xs.0.0 xs.0.1, end.2)
 
 abbrev pub is_suffix : TokenKind → Bool
 is_suffix (kind.Punctuator mark.LeftBracket) = true
