@@ -7,7 +7,6 @@ pub mod DeclarationSound
 pub mod DeclaratorsComplete
 pub mod Equations
 pub mod ExprsComplete
-pub mod Induction
 pub mod IsSound
 pub mod Reach
 pub mod Read
@@ -19,6 +18,8 @@ pub mod Spans
 pub mod SpecifiersComplete
 pub mod StmtComplete
 pub mod StmtSound
+pub mod Tables
+pub mod TypeSpecifiers
 pub mod UnitBegins
 pub mod UnitComplete
 pub mod UnitEquations
