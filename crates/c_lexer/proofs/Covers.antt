@@ -19,7 +19,8 @@ use Rattle.c_lexer.specs.declared.piece.Lexeme.TheVariants as lexeme
 use Rattle.c_lexer.specs.declared.token.Punctuator.{Punctuator}
 use Rattle.c_lexer.proofs.Runs.{run_covers, number_covers, body_closes}
 use Rattle.c_lexer.proofs.Closings.{comment_closes}
-use Rattle.c_lexer.proofs.Marks.{Finds, punctuator_finds, mark, table}
+use Rattle.c_lexer.specs.Vocabulary.{punctuators}
+use Rattle.c_lexer.proofs.Marks.{Finds, punctuator_finds, mark}
 use Rattle.c_lexer.proofs.Fronts.{is_stray, apart, letter_blank, digit_goes}
 
 -- a piece is this one, or is longer
@@ -264,7 +265,7 @@ point_covers p fresh b (c ∷ bytes) rest first second h =
 not_l : (b : ℕ) → is_in class.Letter b ≡ false → eqb b 76 ≡ false
 not_l b h = elim (eqb_tells b 76) [ inl t ↦ absurd (false≢true (sym h ∙ ap (is_in class.Letter) t.1)) | inr t ↦ t.0 ]
 
-module _ (fresh : Bool) (p : Punctuator) (b : ℕ) (bytes rest : Text) (has : Has table (b ∷ bytes) p) (shut : opens fresh (b ∷ bytes ++ rest) ≡ false) where
+module _ (fresh : Bool) (p : Punctuator) (b : ℕ) (bytes rest : Text) (has : Has punctuators (b ∷ bytes) p) (shut : opens fresh (b ∷ bytes ++ rest) ≡ false) where
   other_at : other fresh (b ∷ bytes ++ rest) ≡ marked (punctuator (b ∷ bytes ++ rest))
   unfolding other
   other_at =
@@ -287,7 +288,7 @@ module _ (fresh : Bool) (p : Punctuator) (b : ℕ) (bytes rest : Text) (has : Ha
       let m = mark (b ∷ bytes) p has in
       rw (m.blank, not_l b m.letter, m.letter) (by_number (begins_number (b ∷ bytes ++ rest)) refl)
 
-punctuator_covers : (fresh : Bool) (p : Punctuator) (bytes rest : Text) → Has table bytes p → opens fresh (bytes ++ rest) ≡ false → Covers (lexeme.Punctuator p) (length bytes) (piece_at fresh (bytes ++ rest))
+punctuator_covers : (fresh : Bool) (p : Punctuator) (bytes rest : Text) → Has punctuators bytes p → opens fresh (bytes ++ rest) ≡ false → Covers (lexeme.Punctuator p) (length bytes) (piece_at fresh (bytes ++ rest))
 punctuator_covers fresh p [] rest has shut = absurd (omega (arith, (mark [] p has).some))
 punctuator_covers fresh p (b ∷ bytes) rest has shut = mark_covers fresh p b bytes rest has shut
 

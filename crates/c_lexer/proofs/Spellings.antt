@@ -1,13 +1,13 @@
 -- The tables of spellings.
-use Rattle.std.proofs.Common.{◌≡◌, ℕ, ◌<◌, ◌≤◌, Bool, true, false, ◌&&◌, cond, nat_lt, nat_eq, List, [], ◌∷◌, map, length, Option, Some, None, refl, arith}
+use Rattle.std.proofs.Common.{◌≡◌, ℕ, ◌<◌, ◌≤◌, Bool, true, false, ◌&&◌, cond, nat_lt, nat_eq, List, [], ◌∷◌, length, Option, Some, None, refl, arith}
 use Rattle.std.specs.List.{starts_with}
 use Rattle.std.specs.Option.{IfSome}
 use Rattle.std.proofs.lemmas.Bool.{false≢true}
 use Rattle.std.proofs.lemmas.Bool.Decides.{nat_tests}
 use Rattle.c_lexer.specs.Class.{Text}
 use Rattle.c_lexer.specs.Tables.{first_prefix, punctuator}
+use Rattle.c_lexer.specs.Vocabulary.{punctuators, longest_first}
 use Rattle.c_lexer.specs.declared.token.Punctuator.{Punctuator}
-use Rattle.c_lexer.specs.declared.table.TheConstants.{PUNCTUATORS}
 
 abbrev all_long : List (Text × Punctuator) → Bool
 all_long [] = true
@@ -32,7 +32,7 @@ first_prefix_long (row ∷ rows) text h =
 -- no punctuator is empty
 pub punctuator_long : (text : Text) → IfSome (punctuator text) (λ p. 1 ≤ p.1)
 unfolding punctuator
-punctuator_long text = first_prefix_long (map (λ row. (row.0.now, row.1)) PUNCTUATORS) text refl
+punctuator_long text = first_prefix_long (longest_first punctuators) text refl
 
 pub within_both : (found : Option (Punctuator × ℕ)) (n : ℕ) → IfSome found (λ p. 1 ≤ p.1) → IfSome found (λ p. p.1 ≤ n) → IfSome found (λ p. (1 ≤ p.1) × (p.1 ≤ n))
 within_both None n low high = tt

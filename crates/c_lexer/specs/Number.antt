@@ -2,6 +2,7 @@
 use Rattle.std.specs.Prelude.{ℕ, ◌+◌, ◌-◌, ◌*◌, ◌^◌, Bool, true, false, not, ◌&&◌, ◌||◌, if◌then◌else◌, ◌==◌, nat_le, nat_lt, List, [], ◌∷◌, drop, length, fold, slice_index, slice_range, Option, Some, None, Result, Ok, Err}
 use Rattle.c_lexer.specs.Class.{Text, is_in, past}
 use Rattle.c_lexer.specs.Tables.{suffix}
+use Rattle.c_lexer.specs.Vocabulary.{decimal_types, other_types, unsigned_types}
 use Rattle.c_lexer.specs.declared.class.Class.{Class}
 use Rattle.c_lexer.specs.declared.class.Class.TheVariants as class
 use Rattle.c_lexer.specs.declared.number.Base.{Base}
@@ -10,7 +11,6 @@ use Rattle.c_lexer.specs.declared.number.NumberFault.{NumberFault}
 use Rattle.c_lexer.specs.declared.number.NumberFault.TheVariants as fault
 use Rattle.c_lexer.specs.declared.number.Numeric.{Numeric}
 use Rattle.c_lexer.specs.declared.number.Numeric.TheVariants as kind
-use Rattle.c_lexer.specs.declared.number.TheConstants.{DECIMAL, ANY, UNSIGNED}
 use Rattle.c_lexer.specs.declared.table.Length.{Length}
 use Rattle.c_lexer.specs.declared.table.Length.TheVariants as len
 use Rattle.c_lexer.specs.declared.table.Suffix.{Suffix}
@@ -96,10 +96,10 @@ steps len.LongLong = 2
 
 -- the types that a constant may have, by its base and its suffix, in the order of the standard's table
 abbrev pub candidates : Base → Suffix → List IntegerType
-candidates b (sign.Unsigned l) = drop (steps l) UNSIGNED
-candidates base.Decimal (sign.Signed l) = drop (steps l) DECIMAL
-candidates base.Octal (sign.Signed l) = drop (2 * steps l) ANY
-candidates base.Hexadecimal (sign.Signed l) = drop (2 * steps l) ANY
+candidates b (sign.Unsigned l) = drop (steps l) unsigned_types
+candidates base.Decimal (sign.Signed l) = drop (steps l) decimal_types
+candidates base.Octal (sign.Signed l) = drop (2 * steps l) other_types
+candidates base.Hexadecimal (sign.Signed l) = drop (2 * steps l) other_types
 
 abbrev pub first_that_holds : List IntegerType → ℕ → Option IntegerType
 first_that_holds [] value = None

@@ -1,6 +1,7 @@
 -- What each kind of piece is spelled by (C99 6.4), and the division of a source into pieces, each the longest that begins at its place.
-use Rattle.std.specs.Prelude.{◌≡◌, ◌≢◌, ℕ, ◌≤◌, Bool, true, false, ◌&&◌, ◌||◌, ◌==◌, ◌⊎◌, List, [], ◌∷◌, ◌++◌, length, map, slice_index, Some, IsSome, if◌then◌else◌, ⊤}
+use Rattle.std.specs.Prelude.{◌≡◌, ◌≢◌, ℕ, ◌≤◌, Bool, true, false, ◌&&◌, ◌||◌, ◌==◌, ◌⊎◌, List, [], ◌∷◌, ◌++◌, length, slice_index, Some, IsSome, if◌then◌else◌, ⊤}
 use Rattle.c_lexer.specs.Class.{Text, is_in}
+use Rattle.c_lexer.specs.Vocabulary.{punctuators}
 use Rattle.c_lexer.specs.Number.{goes_on}
 use Rattle.c_lexer.specs.Directive.{directive}
 use Rattle.c_lexer.specs.Piece.{begins_number}
@@ -12,7 +13,6 @@ use Rattle.c_lexer.specs.declared.piece.Lexeme.{Lexeme}
 use Rattle.c_lexer.specs.declared.piece.Lexeme.TheVariants as lexeme
 use Rattle.c_lexer.specs.declared.piece.Stray.{Stray}
 use Rattle.c_lexer.specs.declared.piece.Stray.TheVariants as stray
-use Rattle.c_lexer.specs.declared.table.TheConstants.{PUNCTUATORS}
 
 -- each byte is of a class
 abbrev pub AllIn : Class → Text → Type 0
@@ -90,7 +90,7 @@ Begins fresh lexeme.Character bytes rest = IsQuoted 39 bytes
 Begins fresh lexeme.Text bytes rest = IsQuoted 34 bytes
 Begins fresh lexeme.WideCharacter bytes rest = (more : Text) × IsQuoted 39 more × (bytes ≡ 76 ∷ more)
 Begins fresh lexeme.WideText bytes rest = (more : Text) × IsQuoted 34 more × (bytes ≡ 76 ∷ more)
-Begins fresh (lexeme.Punctuator p) bytes rest = Has (map (λ row. (row.0.now, row.1)) PUNCTUATORS) bytes p × (opens fresh (bytes ++ rest) ≡ false)
+Begins fresh (lexeme.Punctuator p) bytes rest = Has punctuators bytes p × (opens fresh (bytes ++ rest) ≡ false)
 Begins fresh (lexeme.Stray s) bytes rest = ⊥
 
 -- a piece of a text is the longest that begins there

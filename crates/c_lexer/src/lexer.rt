@@ -5,6 +5,7 @@ ghost use Rattle.std.specs.Prelude.{OnOk, IfOk, IfErr, IfSome, IsOkUnless};
 ghost use Rattle.std.specs.List.{All};
 ghost use Rattle.c_lexer.specs.Piece.{IsNamedWithin};
 ghost use Rattle.c_lexer.specs.Attributes.{keep};
+ghost use Rattle.c_lexer.specs.Dropping.{Gives};
 ghost use Rattle.c_lexer.specs.Collected.{collected, IsNested};
 ghost use Rattle.c_lexer.specs.Fault.{Answers, Refused};
 ghost use Rattle.c_lexer.specs.Places.{located};
@@ -168,6 +169,9 @@ pub fn lex(alloc: Global, name: &str, bytes: &[u8]) -> Result<Tokens, LexFault>
         (tokens : TokenList) → spec.Spells name.now bytes.now tokens → ⊥) }
     ensures first { IfErr result (λ fault. fault ≢ LexFault.Memory → spec.IsFirstFault bytes.now fault) }
     ensures faulty { (fault : Fault) → spec.IsFirstFault bytes.now fault → spec.lexed name.now bytes.now ≡ Err fault }
+    ensures given { IfOk result (λ tokens. Gives name.now bytes.now tokens) }
+    ensures none_given { IfErr result (λ fault. fault ≢ LexFault.Memory →
+        (tokens : TokenList) → Gives name.now bytes.now tokens → ⊥) }
     ensures placed { IfOk result (λ tokens. All (IsPlaced name.now bytes.now tokens.files) tokens.tokens) }
     ensures stands { IfOk result (λ tokens. StandInOrder 0 (length bytes.now) tokens.tokens) }
     ensures within { IfErr result (λ fault. IfSome (fault_byte fault) (λ at. at < length bytes.now)) }
