@@ -24,7 +24,8 @@ suffix = lookup suffixes
 -- the first spelling that a text begins with
 abbrev pub first_prefix : List (Text × Punctuator) → Text → Option (Punctuator × ℕ)
 first_prefix [] text = None
-first_prefix (row ∷ rows) text = if starts_with nat_eq text row.0 then Some (row.1, length row.0) else first_prefix rows text
+first_prefix (row ∷ rows) text =
+    if starts_with nat_eq text row.0 then Some (row.1, length row.0) else first_prefix rows text
 
 -- The longest punctuator that a text begins with (C99 6.4.6), and its length.
 unfoldable pub punctuator : Text → Option (Punctuator × ℕ)

@@ -36,7 +36,7 @@ pub struct Lexer<'a> {
     pub collected: Collected,
 }
 
-/// Puts a piece's token, if it is one, at the end.
+/// Puts a piece's token (C99 6.4), if it is one, at the end.
 fn collect(
     tokens: &mut Collected,
     place: Place,
@@ -63,7 +63,7 @@ fn collect(
     }
 }
 
-/// Puts the name that a piece gives to the lines after it, if it is a marker, at the end.
+/// Puts the name that a line marker (C99 6.10.4) gives to the lines after it at the end.
 fn name_file(
     alloc: Global,
     files: &mut Vec<Name>,
@@ -87,6 +87,7 @@ impl<'a> Lexer<'a> {
     ghost use Rattle.c_lexer.specs.Walks.{whole, IsValid};
     ghost use Rattle.c_lexer.specs.Reading.{lexed};
 
+    /// The beginning of a source, whose first line has the number 1 (C99 6.10.4).
     fn new(alloc: Global, source: &'a [u8], bytes: &'a [u8]) -> Result<Lexer<'a>, LexFault>
         requires { length bytes.now ≤ 8388608 }
         ensures ok { IfOk result (λ lexer. whole lexer ≡ lexed source.now bytes.now) }
@@ -103,7 +104,7 @@ impl<'a> Lexer<'a> {
         })
     }
 
-    /// Takes the next piece.
+    /// Takes the next piece (C99 6.4).
     fn take(&mut self, alloc: Global) -> Result<(), LexFault>
         requires some { 0 < length self.old.walk.rest.now }
         requires valid { IsValid self.old }
@@ -131,6 +132,7 @@ impl<'a> Lexer<'a> {
     }
 }
 
+/// The tokens of a source (C99 6.4), piece by piece.
 fn tokens_of(alloc: Global, name: &str, bytes: &[u8]) -> Result<Tokens, LexFault>
     requires { length bytes.now ≤ 8388608 }
     ensures { Answers (λ tokens. tokens) (spec.lexed name.now bytes.now) result }
@@ -181,8 +183,8 @@ pub fn lex(alloc: Global, name: &str, bytes: &[u8]) -> Result<Tokens, LexFault>
     tokens_of(alloc, name, bytes)
 }
 
-/// Where the byte at an offset stands, or the end of the source, by the line markers before it. It fails
-/// for want of memory alone.
+/// Where the byte at an offset stands, or the end of the source, by the line markers before it (C99 6.10.4). It
+/// fails for want of memory alone.
 pub fn locate(alloc: Global, name: &str, bytes: &[u8], at: u32) -> Result<Spot, LexFault>
     requires short { length bytes.now ≤ 8388608 }
     requires within { at ≤ length bytes.now }
