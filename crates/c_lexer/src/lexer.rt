@@ -4,9 +4,8 @@ ghost use Rattle.std.specs.Prelude.{◌≡◌, ◌≢◌, true, ◌<◌, ◌≤�
 ghost use Rattle.std.specs.Prelude.{OnOk, IfOk, IfErr, IfSome, IsOkUnless};
 ghost use Rattle.std.specs.List.{All};
 ghost use Rattle.c_lexer.specs.Piece.{IsNamedWithin};
-ghost use Rattle.c_lexer.specs.Attributes.{keep};
 ghost use Rattle.c_lexer.specs.Dropping.{Gives};
-ghost use Rattle.c_lexer.specs.Collected.{collected, IsNested};
+ghost use Rattle.c_lexer.specs.Collected.{Collects, IsNested};
 ghost use Rattle.c_lexer.specs.Fault.{Answers, Refused};
 ghost use Rattle.c_lexer.specs.Places.{located};
 ghost use Rattle.c_lexer.specs.Reading as spec;
@@ -45,10 +44,7 @@ fn collect(
     kind: Option<TokenKind>,
 ) -> Result<(), LexFault>
     requires nested { IsNested tokens.old }
-    ensures ok { OnOk result (
-        (rest : List Token)
-        → collected tokens.new (keep rest) ≡ collected tokens.old (keep (spec.token_at place start end kind ++ rest))
-        ) }
+    ensures ok { OnOk result (Collects tokens.old (spec.token_at place start end kind) tokens.new) }
     ensures nested { OnOk result (IsNested tokens.new) }
     ensures err { IsOkUnless result LexFault.Memory }
 {
