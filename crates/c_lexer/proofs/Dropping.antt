@@ -1,11 +1,13 @@
 -- What is kept of tokens is what is left of them without their attributes.
-use Rattle.std.proofs.Common.{◌≡◌, ◌≢◌, ℕ, true, List, [], ◌∷◌, ◌++◌, drop, Option, Some, None, Ok, Err, refl, ap, sym, subst, ◌∙◌, append_assoc}
+use Rattle.std.proofs.Common.{◌≡◌, ◌≢◌, ℕ, true, List, [], ◌∷◌, ◌++◌, drop, Option, Some, None, Ok, Err, refl, ap, sym}
+use Rattle.std.proofs.Common.{subst, ◌∙◌, append_assoc}
 use Rattle.std.specs.Prelude.{unwrap_or}
 use Rattle.std.specs.Result.{IfOk, IfErr}
 use Rattle.c_lexer.specs.Class.{Text}
 use Rattle.c_lexer.specs.Places.{beginning}
 use Rattle.c_lexer.specs.Attributes.{Kept, keep, kept_before, first_of_all, role_of}
-use Rattle.c_lexer.specs.Dropping.{Matched, IsClosed, IsGroup, IsAttribute, IsLeft, Gives, none, plain, group, attribute, other}
+use Rattle.c_lexer.specs.Dropping.{Matched, IsClosed, IsGroup, IsAttribute, IsLeft, Gives, none, plain, group}
+use Rattle.c_lexer.specs.Dropping.{attribute, other}
 use Rattle.c_lexer.specs.Reading.{Reading, Spells, read, finished}
 use Rattle.c_lexer.specs.declared.attribute.Role.{Role}
 use Rattle.c_lexer.specs.declared.attribute.Role.TheVariants as role
@@ -33,17 +35,22 @@ record Same (a : List Token) (x : Token) (r b : List Token) (y : Token) (s : Lis
   last : x ≡ y
   rest : r ≡ s
 
-one_more : (t u : Token) (a : List Token) (x : Token) (r b : List Token) (y : Token) (s : List Token) → t ≡ u → Same a x r b y s →
+one_more : (t u : Token) (a : List Token) (x : Token) (r b : List Token) (y : Token) (s : List Token) → t ≡ u →
+    Same a x r b y s →
     Same (t ∷ a) x r (u ∷ b) y s
-one_more t u a x r b y s same is = record { inner = ap (λ v. v ∷ a) same ∙ ap (λ l. u ∷ l) is.inner; last = is.last; rest = is.rest }
+one_more t u a x r b y s same is =
+    record { inner = ap (λ v. v ∷ a) same ∙ ap (λ l. u ∷ l) is.inner; last = is.last; rest = is.rest }
 
-one_end : (a : List Token) → Matched a → (b : List Token) → Matched b → (x y : Token) (r s : List Token) → a ++ x ∷ r ≡ b ++ y ∷ s →
+one_end : (a : List Token) → Matched a → (b : List Token) → Matched b → (x y : Token) (r s : List Token) →
+    a ++ x ∷ r ≡ b ++ y ∷ s →
     role_of x.kind ≡ role.Close → role_of y.kind ≡ role.Close → Same a x r b y s
 one_end _ none _ none x y r s h cx cy = record { inner = refl; last = head_is h; rest = tail_is h }
 one_end _ none _ (plain u us o c m) x y r s h cx cy = absurd (c (role_is u x role.Close (sym (head_is h)) cx))
-one_end _ none _ (group g l inner us o c m n) x y r s h cx cy = absurd (apart g o (role_is g x role.Close (sym (head_is h)) cx))
+one_end _ none _ (group g l inner us o c m n) x y r s h cx cy =
+    absurd (apart g o (role_is g x role.Close (sym (head_is h)) cx))
 one_end _ (plain t ts o c m) _ none x y r s h cx cy = absurd (c (role_is t y role.Close (head_is h) cy))
-one_end _ (group f k inner ts o c m n) _ none x y r s h cx cy = absurd (apart f o (role_is f y role.Close (head_is h) cy))
+one_end _ (group f k inner ts o c m n) _ none x y r s h cx cy =
+    absurd (apart f o (role_is f y role.Close (head_is h) cy))
 one_end _ (plain t ts o c m) _ (plain u us o' c' m') x y r s h cx cy =
     one_more t u ts x r us y s (head_is h) (one_end ts m us m' x y r s (tail_is h) cx cy)
 one_end _ (plain t ts o c m) _ (group g l inner us o' c' m' n') x y r s h cx cy =
@@ -66,7 +73,8 @@ one_end _ (group f k inner ts o c m n) _ (group g l inner' us o' c' m' n') x y r
     }
 
 closed_once : (ts r s : List Token) → IsClosed ts r → IsClosed ts s → r ≡ s
-closed_once ts r s c d = (one_end c.inner c.matched d.inner d.matched c.last d.last r s (sym c.is ∙ d.is) c.closes d.closes).rest
+closed_once ts r s c d = (one_end c.inner c.matched d.inner d.matched c.last d.last r s
+    (sym c.is ∙ d.is) c.closes d.closes).rest
 
 group_once : (ts r s : List Token) → IsGroup ts r → IsGroup ts s → r ≡ s
 group_once ts r s g h =
@@ -91,14 +99,16 @@ one_left _ a b (attribute tokens rest left is more) (attribute _ rest' left' is'
     one_left rest a b more (subst (λ l. IsLeft l b) (attribute_once tokens rest' rest is' is) more')
 one_left _ a _ (attribute tokens rest left is more) (other t ts left' never more') = absurd (never rest is)
 one_left _ _ b (other t ts left never more) (attribute _ rest left' is more') = absurd (never rest is)
-one_left _ _ _ (other t ts left never more) (other _ _ left' never' more') = ap (λ l. t ∷ l) (one_left ts left left' more more')
+one_left _ _ _ (other t ts left never more) (other _ _ left' never' more') =
+    ap (λ l. t ∷ l) (one_left ts left left' more more')
 
 -- ---- what is kept
 
 -- what is left behind each closing bracket that closes none of some tokens
 data AreClosed : List Token → List (List Token) → Type 0 where
   stops : (ts : List Token) → ((rest : List Token) → IsClosed ts rest → ⊥) → AreClosed ts []
-  next : (ts rest left : List Token) (lefts : List (List Token)) → IsClosed ts rest → IsLeft rest left → AreClosed rest lefts →
+  next : (ts rest left : List Token) (lefts : List (List Token)) → IsClosed ts rest → IsLeft rest left →
+      AreClosed rest lefts →
       AreClosed ts (left ∷ lefts)
 
 record LeftBehind (ts left : List Token) : Type 0 where
@@ -119,14 +129,17 @@ record IsKept (ts : List Token) (k : Kept) : Type 0 where
 no_group : (t : Token) (ts : List Token) → role_of t.kind ≢ role.Open → (rest : List Token) → IsGroup (t ∷ ts) rest → ⊥
 no_group t ts not_open rest g = not_open (role_is t g.first role.Open (head_is g.is) g.begins)
 
-no_attribute : (t : Token) (ts : List Token) → role_of t.kind ≢ role.Attribute → (rest : List Token) → IsAttribute (t ∷ ts) rest → ⊥
+no_attribute : (t : Token) (ts : List Token) → role_of t.kind ≢ role.Attribute → (rest : List Token) →
+    IsAttribute (t ∷ ts) rest → ⊥
 no_attribute t ts not_word rest a = not_word (role_is t a.word role.Attribute (head_is a.is) a.names)
 
-stays : (t : Token) (ts left : List Token) → role_of t.kind ≢ role.Attribute → IsLeft ts left → IsLeft (t ∷ ts) (t ∷ left)
+stays : (t : Token) (ts left : List Token) → role_of t.kind ≢ role.Attribute → IsLeft ts left →
+    IsLeft (t ∷ ts) (t ∷ left)
 stays t ts left not_word is = other t ts left (no_attribute t ts not_word) is
 
 -- a token that is no bracket stands before what closes
-closed_more : (t : Token) (ts rest : List Token) → role_of t.kind ≢ role.Open → role_of t.kind ≢ role.Close → IsClosed ts rest → IsClosed (t ∷ ts) rest
+closed_more : (t : Token) (ts rest : List Token) → role_of t.kind ≢ role.Open → role_of t.kind ≢ role.Close →
+    IsClosed ts rest → IsClosed (t ∷ ts) rest
 closed_more t ts rest o c is = record {
   inner = t ∷ is.inner;
   last = is.last;
@@ -135,18 +148,22 @@ closed_more t ts rest o c is = record {
   closes = is.closes;
 }
 
-closed_less : (t : Token) (ts rest : List Token) → role_of t.kind ≢ role.Open → role_of t.kind ≢ role.Close → IsClosed (t ∷ ts) rest → IsClosed ts rest
+closed_less : (t : Token) (ts rest : List Token) → role_of t.kind ≢ role.Open → role_of t.kind ≢ role.Close →
+    IsClosed (t ∷ ts) rest → IsClosed ts rest
 closed_less t ts rest o c is = by_inner is.inner is.matched is.is
   where
     by_inner : (inner : List Token) → Matched inner → t ∷ ts ≡ inner ++ is.last ∷ rest → IsClosed ts rest
     by_inner _ none h = absurd (c (role_is t is.last role.Close (head_is h) is.closes))
-    by_inner _ (plain u us o' c' m) h = record { inner = us; last = is.last; is = tail_is h; matched = m; closes = is.closes }
+    by_inner _ (plain u us o' c' m) h =
+        record { inner = us; last = is.last; is = tail_is h; matched = m; closes = is.closes }
     by_inner _ (group f l inner us o' c' m n) h = absurd (o (role_is t f role.Open (head_is h) o'))
 
-all_more : (t : Token) (ts : List Token) (lefts : List (List Token)) → role_of t.kind ≢ role.Open → role_of t.kind ≢ role.Close →
+all_more : (t : Token) (ts : List Token) (lefts : List (List Token)) → role_of t.kind ≢ role.Open →
+    role_of t.kind ≢ role.Close →
     AreClosed ts lefts → AreClosed (t ∷ ts) lefts
 all_more t _ _ o c (stops ts never) = stops (t ∷ ts) (λ rest is. never rest (closed_less t ts rest o c is))
-all_more t _ _ o c (next ts rest left lefts is more all) = next (t ∷ ts) rest left lefts (closed_more t ts rest o c is) more all
+all_more t _ _ o c (next ts rest left lefts is more all) =
+    next (t ∷ ts) rest left lefts (closed_more t ts rest o c is) more all
 
 -- an opening bracket pairs with the first of those that close
 record Pairs (ts rest : List Token) : Type 0 where
@@ -162,44 +179,61 @@ pair_up t ts rest o is = by_inner is.inner is.matched is.is
     by_inner _ (plain u us o' c' m) h = absurd (o' (role_is u t role.Open (sym (head_is h)) o))
     by_inner _ (group f l inner us o' c' m n) h = record {
       between = us ++ is.last ∷ rest;
-      first = record { inner = inner; last = l; is = tail_is h ∙ append_assoc inner (l ∷ us) (is.last ∷ rest); matched = m; closes = c' };
+      first = record {
+        inner = inner;
+        last = l;
+        is = tail_is h
+            ∙ append_assoc inner (l ∷ us) (is.last ∷ rest);
+        matched = m;
+        closes = c';
+      };
       second = record { inner = us; last = is.last; is = refl; matched = n; closes = is.closes };
     }
 
-pair : (t : Token) (ts between rest : List Token) → role_of t.kind ≡ role.Open → IsClosed ts between → IsClosed between rest → IsClosed (t ∷ ts) rest
+pair : (t : Token) (ts between rest : List Token) → role_of t.kind ≡ role.Open → IsClosed ts between →
+    IsClosed between rest → IsClosed (t ∷ ts) rest
 pair t ts between rest o c d = record {
   inner = t ∷ (c.inner ++ c.last ∷ d.inner);
   last = d.last;
-  is = ap (λ l. t ∷ l) (c.is ∙ ap (λ l. c.inner ++ c.last ∷ l) d.is ∙ sym (append_assoc c.inner (c.last ∷ d.inner) (d.last ∷ rest)));
+  is = ap (λ l. t ∷ l) (c.is ∙ ap (λ l. c.inner ++ c.last ∷ l) d.is
+      ∙ sym (append_assoc c.inner (c.last ∷ d.inner) (d.last ∷ rest)));
   matched = group t c.last c.inner d.inner o c.closes c.matched d.matched;
   closes = d.closes;
 }
 
-later_closed : (t : Token) (ts : List Token) (lefts : List (List Token)) → role_of t.kind ≡ role.Open → AreClosed ts lefts → AreClosed (t ∷ ts) (drop 1 lefts)
-later_closed t _ _ o (stops ts never) = stops (t ∷ ts) (λ rest is. let p = pair_up t ts rest o is in never p.between p.first)
+later_closed : (t : Token) (ts : List Token) (lefts : List (List Token)) → role_of t.kind ≡ role.Open →
+    AreClosed ts lefts → AreClosed (t ∷ ts) (drop 1 lefts)
+later_closed t _ _ o (stops ts never) =
+    stops (t ∷ ts) (λ rest is. let p = pair_up t ts rest o is in never p.between p.first)
 later_closed t _ _ o (next ts between left lefts is more all) = behind lefts all
   where
     behind : (ls : List (List Token)) → AreClosed between ls → AreClosed (t ∷ ts) ls
     behind _ (stops _ never) = stops (t ∷ ts) (λ rest c. let p = pair_up t ts rest o c in
         never rest (subst (λ l. IsClosed l rest) (closed_once ts p.between between p.first is) p.second))
-    behind _ (next _ rest left' ls is' more' all') = next (t ∷ ts) rest left' ls (pair t ts between rest o is is') more' all'
+    behind _ (next _ rest left' ls is' more' all') =
+        next (t ∷ ts) rest left' ls (pair t ts between rest o is is') more' all'
 
-first_behind : (t : Token) (ts : List Token) (lefts : List (List Token)) → role_of t.kind ≡ role.Open → AreClosed ts lefts → IsBehind (t ∷ ts) (first_of_all lefts)
-first_behind t _ _ o (stops ts never) = λ rest g. never rest (subst (λ l. IsClosed l rest) (sym (tail_is g.is)) g.closed)
+first_behind : (t : Token) (ts : List Token) (lefts : List (List Token)) → role_of t.kind ≡ role.Open →
+    AreClosed ts lefts → IsBehind (t ∷ ts) (first_of_all lefts)
+first_behind t _ _ o (stops ts never) = λ rest g.
+    never rest (subst (λ l. IsClosed l rest) (sym (tail_is g.is)) g.closed)
 first_behind t _ _ o (next ts rest left lefts is more all) = record {
   rest = rest;
   is = record { first = t; more = ts; is = refl; begins = o; closed = is };
   left_is = more;
 }
 
-chosen_left : (t : Token) (ts here : List Token) (g : Option (List Token)) → role_of t.kind ≡ role.Attribute → IsBehind ts g → IsLeft ts here →
+chosen_left : (t : Token) (ts here : List Token) (g : Option (List Token)) → role_of t.kind ≡ role.Attribute →
+    IsBehind ts g → IsLeft ts here →
     IsLeft (t ∷ ts) (unwrap_or g (t ∷ here))
 chosen_left t ts here None is behind left =
     other t ts here (λ rest a. behind rest (subst (λ l. IsGroup l rest) (sym (tail_is a.is)) a.group)) left
 chosen_left t ts here (Some g) is behind left =
-    attribute (t ∷ ts) behind.rest g (record { word = t; more = ts; is = refl; names = is; group = behind.is }) behind.left_is
+    attribute (t ∷ ts) behind.rest g
+    (record { word = t; more = ts; is = refl; names = is; group = behind.is }) behind.left_is
 
-one_kept : (r : Role) (t : Token) (ts : List Token) (k : Kept) → role_of t.kind ≡ r → IsKept ts k → IsKept (t ∷ ts) (kept_before r t k)
+one_kept : (r : Role) (t : Token) (ts : List Token) (k : Kept) → role_of t.kind ≡ r → IsKept ts k →
+    IsKept (t ∷ ts) (kept_before r t k)
 one_kept role.Open t ts k is all = record {
   here = stays t ts k.here (λ e. cc) all.here;
   group_is = first_behind t ts k.closers is all.closers;
@@ -208,7 +242,8 @@ one_kept role.Open t ts k is all = record {
 one_kept role.Close t ts k is all = record {
   here = stays t ts k.here (λ e. cc) all.here;
   group_is = no_group t ts (λ e. cc);
-  closers = next (t ∷ ts) ts k.here k.closers (record { inner = []; last = t; is = refl; matched = none; closes = is }) all.here all.closers;
+  closers = next (t ∷ ts) ts k.here k.closers
+      (record { inner = []; last = t; is = refl; matched = none; closes = is }) all.here all.closers;
 }
 one_kept role.Attribute t ts k is all = record {
   here = chosen_left t ts k.here k.group is all.group_is all.here;
@@ -241,7 +276,8 @@ all_kept (t ∷ ts) = one_kept (role_of t.kind) t ts (keep ts) refl (all_kept ts
 ok_is : {x y : Tokens} {r : Reading} → r ≡ Ok x → r ≡ Ok y → x ≡ y
 ok_is is also = cc
 
-gives_all : (name bytes : Text) (tokens : Tokens) (s : Spells name bytes tokens) (r : Reading) → read 0 0 (beginning name) s.division ≡ r →
+gives_all : (name bytes : Text) (tokens : Tokens) (s : Spells name bytes tokens) (r : Reading) →
+    read 0 0 (beginning name) s.division ≡ r →
     finished name r ≡ Ok tokens → Gives name bytes tokens
 gives_all name bytes tokens s (Err f) is h = absurd cc
 gives_all name bytes tokens s (Ok all) is h =
@@ -271,11 +307,13 @@ gives_spells name bytes tokens g = record {
       (one_left g.all.tokens (keep g.all.tokens).here tokens.tokens (all_kept g.all.tokens).here g.left);
 }
 
-pub answer_gives : (name bytes : Text) (r : Reading) → IfOk r (λ tokens. Spells name bytes tokens) → IfOk r (λ tokens. Gives name bytes tokens)
+pub answer_gives : (name bytes : Text) (r : Reading) → IfOk r (λ tokens. Spells name bytes tokens) →
+    IfOk r (λ tokens. Gives name bytes tokens)
 answer_gives name bytes (Ok tokens) s = spells_gives name bytes tokens s
 answer_gives name bytes (Err f) s = tt
 
-pub answer_gives_none : (name bytes : Text) (r : Reading) → IfErr r (λ f. f ≢ fault.Memory → (tokens : Tokens) → Spells name bytes tokens → ⊥) →
+pub answer_gives_none : (name bytes : Text) (r : Reading) →
+    IfErr r (λ f. f ≢ fault.Memory → (tokens : Tokens) → Spells name bytes tokens → ⊥) →
     IfErr r (λ f. f ≢ fault.Memory → (tokens : Tokens) → Gives name bytes tokens → ⊥)
 answer_gives_none name bytes (Ok tokens) refuses = tt
 answer_gives_none name bytes (Err f) refuses = λ other tokens g. refuses other tokens (gives_spells name bytes tokens g)

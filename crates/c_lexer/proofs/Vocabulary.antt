@@ -1,6 +1,7 @@
 -- The code's tables are the standard's.
 use Rattle.std.proofs.Common.{◌≡◌, map, refl}
-use Rattle.c_lexer.specs.Vocabulary.{reserved_words, suffixes, punctuators, longest_first, decimal_types, other_types, unsigned_types}
+use Rattle.c_lexer.specs.Vocabulary.{reserved_words, suffixes, punctuators, longest_first, decimal_types, other_types}
+use Rattle.c_lexer.specs.Vocabulary.{unsigned_types}
 use Rattle.c_lexer.specs.declared.number.TheConstants.{DECIMAL, ANY, UNSIGNED}
 use Rattle.c_lexer.specs.declared.table.TheConstants.{RESERVED, SUFFIXES, PUNCTUATORS}
 

@@ -1,5 +1,6 @@
 -- What tokens that are collected in turn become, once the rest is known.
-use Rattle.std.specs.Prelude.{◌≡◌, ℕ, ◌-◌, ◌≤◌, Bool, true, false, List, [], ◌∷◌, ◌++◌, length, take, reverse, Option, Some}
+use Rattle.std.specs.Prelude.{◌≡◌, ℕ, ◌-◌, ◌≤◌, Bool, true, false, List, [], ◌∷◌, ◌++◌, length, take, reverse, Option}
+use Rattle.std.specs.Prelude.{Some}
 use Rattle.std.specs.Prelude.{None, if◌then◌else◌, ⊤}
 use Rattle.c_lexer.specs.Attributes.{Kept, keep}
 use Rattle.c_lexer.specs.declared.attribute.Collected.{Collected}

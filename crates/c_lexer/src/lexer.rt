@@ -159,6 +159,9 @@ fn tokens_of(alloc: Global, name: &str, bytes: &[u8]) -> Result<Tokens, LexFault
 ///
 /// A source divides in one way at most, and what that division spells is answered. What is refused for
 /// another cause than memory spells no tokens, and the fault that is answered is the one first fault.
+///
+/// Each token stands where its place says, that is where `locate` finds its first byte. Tokens stand one behind
+/// another, and each takes a byte at least. A fault stands at a byte of the source.
 pub fn lex(alloc: Global, name: &str, bytes: &[u8]) -> Result<Tokens, LexFault>
     requires { length bytes.now ≤ 8388608 }
     ensures value { Answers (λ tokens. tokens) (spec.lexed name.now bytes.now) result }
