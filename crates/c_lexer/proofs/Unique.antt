@@ -1,5 +1,7 @@
 -- A text has one division, and it is the one that is read.
-use Rattle.std.proofs.Common.{◌≡◌, ◌≢◌, ℕ, zero, suc, ◌+◌, ◌-◌, ◌<◌, ◌≤◌, Bool, true, false, List, [], ◌∷◌, length, take, drop, Ok, Err, refl, ap, sym, subst, ◌∙◌, inl, inr, arith, length-append, length-drop}
+use Rattle.std.proofs.Common.{◌≡◌, ◌≢◌, ℕ, zero, suc, ◌+◌, ◌-◌, ◌<◌, ◌≤◌, Bool, true, false, List, [], ◌∷◌, length}
+use Rattle.std.proofs.Common.{take, drop, Ok, Err, refl, ap, sym, subst, ◌∙◌, inl, inr, arith, length-append}
+use Rattle.std.proofs.Common.{length-drop}
 use Rattle.std.specs.Result.{IfOk, IfErr}
 use Rattle.std.proofs.lemmas.List.{take_at, drop_at}
 use Rattle.c_lexer.specs.Class.{Text}
@@ -23,7 +25,8 @@ use Rattle.c_lexer.proofs.Marks.{mark}
 
 -- ---- one piece
 
-pub begins_plain : (fresh : Bool) (kind : Lexeme) (bytes rest : Text) → Begins fresh kind bytes rest → is_stray kind ≡ false
+pub begins_plain : (fresh : Bool) (kind : Lexeme) (bytes rest : Text) → Begins fresh kind bytes rest →
+    is_stray kind ≡ false
 begins_plain fresh lexeme.Blank bytes rest b = refl
 begins_plain fresh lexeme.Newline bytes rest b = refl
 begins_plain fresh lexeme.Comment bytes rest b = refl
@@ -64,13 +67,15 @@ covered kind len p (inl c) = omega (arith, c.1)
 covered kind len p (inr c) = omega (arith, c.1)
 
 -- the piece at a place is the longest that begins there
-pub piece_longest : (fresh : Bool) (text : Text) (f : Front fresh text (piece_at fresh text)) → IsLongest fresh text (piece_at fresh text).0 f.bytes f.rest
+pub piece_longest : (fresh : Bool) (text : Text) (f : Front fresh text (piece_at fresh text)) →
+    IsLongest fresh text (piece_at fresh text).0 f.bytes f.rest
 piece_longest fresh text f = record {
   splits = f.text_is;
   begins = f.begins;
   longest = λ other more less h b.
       let c = covers fresh other more less b in
-      let long = covered other (length more) (piece_at fresh text) (subst (λ t. Covers other (length more) (piece_at fresh t)) (sym h) c) in
+      let long = covered other (length more) (piece_at fresh text)
+      (subst (λ t. Covers other (length more) (piece_at fresh t)) (sym h) c) in
       omega (arith, long, f.long);
 }
 
@@ -81,25 +86,29 @@ pub record IsPiece (fresh : Bool) (text : Text) (kind : Lexeme) (bytes rest : Te
   pub rest_is : rest ≡ drop (piece_at fresh text).1 text
   pub some : 1 ≤ (piece_at fresh text).1
 
-pub longest_piece : (fresh : Bool) (text : Text) (kind : Lexeme) (bytes rest : Text) → IsLongest fresh text kind bytes rest → (0 < length text) × IsPiece fresh text kind bytes rest
-longest_piece fresh text kind bytes rest is =
-    (nonempty, by_cover (subst (λ t. Covers kind (length bytes) (piece_at fresh t)) (sym is.splits) (covers fresh kind bytes rest is.begins))) where
-      long : 1 ≤ length bytes
-      long = begins_long fresh kind bytes rest is.begins
+pub longest_piece : (fresh : Bool) (text : Text) (kind : Lexeme) (bytes rest : Text) →
+    IsLongest fresh text kind bytes rest → (0 < length text) × IsPiece fresh text kind bytes rest
+longest_piece fresh text kind bytes rest is = (
+  nonempty,
+  by_cover (subst (λ t. Covers kind (length bytes) (piece_at fresh t)) (sym is.splits)
+      (covers fresh kind bytes rest is.begins)),
+) where
+  long : 1 ≤ length bytes
+  long = begins_long fresh kind bytes rest is.begins
 
-      nonempty : 0 < length text
-      nonempty = omega (arith, long, ap length is.splits, length-append bytes rest)
+  nonempty : 0 < length text
+  nonempty = omega (arith, long, ap length is.splits, length-append bytes rest)
 
-      by_cover : Covers kind (length bytes) (piece_at fresh text) → IsPiece fresh text kind bytes rest
-      by_cover (inl c) = record {
-        kind_is = c.0;
-        bytes_are = sym (ap (take (piece_at fresh text).1) is.splits ∙ take_at bytes rest (piece_at fresh text).1 c.1);
-        rest_is = sym (ap (drop (piece_at fresh text).1) is.splits ∙ drop_at bytes rest (piece_at fresh text).1 c.1);
-        some = omega (arith, long, c.1);
-      }
-      by_cover (inr c) =
-          let f = sound fresh text nonempty c.0 in
-          absurd (omega (arith, c.1, f.long, is.longest (piece_at fresh text).0 f.bytes f.rest f.text_is f.begins))
+  by_cover : Covers kind (length bytes) (piece_at fresh text) → IsPiece fresh text kind bytes rest
+  by_cover (inl c) = record {
+    kind_is = c.0;
+    bytes_are = sym (ap (take (piece_at fresh text).1) is.splits ∙ take_at bytes rest (piece_at fresh text).1 c.1);
+    rest_is = sym (ap (drop (piece_at fresh text).1) is.splits ∙ drop_at bytes rest (piece_at fresh text).1 c.1);
+    some = omega (arith, long, c.1);
+  }
+  by_cover (inr c) =
+      let f = sound fresh text nonempty c.0 in
+      absurd (omega (arith, c.1, f.long, is.longest (piece_at fresh text).0 f.bytes f.rest f.text_is f.begins))
 
 -- ---- the whole
 
@@ -128,7 +137,8 @@ both_ok (Err f) more t h = absurd cc
 both_ok (Ok a) (Err f) t h = absurd cc
 both_ok (Ok a) (Ok b) t h = record { first = a; first_is = refl; second = b; second_is = refl }
 
-given_plain : (file at : ℕ) (s : Spot) (kind : Lexeme) (bytes : Text) (t : Tokens) → given file at s (kind, bytes) (meaning at (kind, bytes)) ≡ Ok t → is_stray kind ≡ false
+given_plain : (file at : ℕ) (s : Spot) (kind : Lexeme) (bytes : Text) (t : Tokens) →
+    given file at s (kind, bytes) (meaning at (kind, bytes)) ≡ Ok t → is_stray kind ≡ false
 unfolding meaning
 given_plain file at s lexeme.Blank bytes t h = refl
 given_plain file at s lexeme.Newline bytes t h = refl
@@ -145,7 +155,8 @@ given_plain file at s (lexeme.Punctuator p) bytes t h = refl
 given_plain file at s (lexeme.Stray x) bytes t h = absurd cc
 
 -- what is read divides
-exists : (limit : ℕ) (fresh : Bool) (text : Text) (file at : ℕ) (s : Spot) (t : Tokens) → length text ≤ limit → read file at s (divide 0 fresh text) ≡ Ok t → Divides fresh text (divide 0 fresh text)
+exists : (limit : ℕ) (fresh : Bool) (text : Text) (file at : ℕ) (s : Spot) (t : Tokens) → length text ≤ limit →
+    read file at s (divide 0 fresh text) ≡ Ok t → Divides fresh text (divide 0 fresh text)
 exists limit fresh [] file at s t short h = refl
 exists zero fresh (b ∷ text) file at s t short h = absurd (omega arith)
 exists (suc limit) fresh (b ∷ text) file at s t short h =
@@ -153,20 +164,26 @@ exists (suc limit) fresh (b ∷ text) file at s t short h =
     let p = piece_at fresh whole in
     let first : Element = (p.0, take p.1 whole) in
     let some : 0 < length whole = omega arith in
-    let ok = both_ok (given file at s first (meaning at first)) (read (file + length (named_by first)) (at + length first.1) (spot_after s first) (divide (p.1 - 1) (fresh_after fresh p.0) text)) t h in
+    let ok = both_ok (given file at s first (meaning at first))
+    (read (file + length (named_by first)) (at + length first.1) (spot_after s first)
+    (divide (p.1 - 1) (fresh_after fresh p.0) text)) t h in
     let f = sound fresh whole some (given_plain file at s p.0 (take p.1 whole) ok.first ok.first_is) in
     let long : 1 ≤ p.1 = omega (arith, begins_long fresh p.0 f.bytes f.rest f.begins, f.long) in
     let bytes_are : f.bytes ≡ take p.1 whole = sym (ap (take p.1) f.text_is ∙ take_at f.bytes f.rest p.1 f.long) in
     let rest_is : f.rest ≡ drop p.1 whole = sym (ap (drop p.1) f.text_is ∙ drop_at f.bytes f.rest p.1 f.long) in
     let next = divide_next fresh whole some long in
     let is : IsLongest fresh whole p.0 (take p.1 whole) (drop p.1 whole)
-    = subst (λ r. IsLongest fresh whole p.0 (take p.1 whole) r) rest_is (subst (λ bs. IsLongest fresh whole p.0 bs f.rest) bytes_are (piece_longest fresh whole f)) in
-    let left : read (file + length (named_by first)) (at + length first.1) (spot_after s first) (divide 0 (fresh_after fresh p.0) (drop p.1 whole)) ≡ Ok ok.second
-    = ap (read (file + length (named_by first)) (at + length first.1) (spot_after s first)) (sym (divide_rest (p.1) b text (fresh_after fresh p.0) long)) ∙ ok.second_is in
+    = subst (λ r. IsLongest fresh whole p.0 (take p.1 whole) r) rest_is
+    (subst (λ bs. IsLongest fresh whole p.0 bs f.rest) bytes_are (piece_longest fresh whole f)) in
+    let left : read (file + length (named_by first)) (at + length first.1) (spot_after s first)
+    (divide 0 (fresh_after fresh p.0) (drop p.1 whole)) ≡ Ok ok.second
+    = ap (read (file + length (named_by first)) (at + length first.1) (spot_after s first))
+    (sym (divide_rest (p.1) b text (fresh_after fresh p.0) long)) ∙ ok.second_is in
     subst (Divides fresh whole) (sym next) (
       drop p.1 whole,
       is,
-      exists limit (fresh_after fresh p.0) (drop p.1 whole) (file + length (named_by first)) (at + length first.1) (spot_after s first) ok.second
+      exists limit (fresh_after fresh p.0) (drop p.1 whole) (file + length (named_by first)) (at + length first.1)
+          (spot_after s first) ok.second
           (omega (arith, length-drop p.1 whole)) left,
     )
 
@@ -179,16 +196,23 @@ pub spells_lexed : (name bytes : Text) (tokens : Tokens) → lexed name bytes �
 unfolding lexed
 spells_lexed name bytes tokens h =
     let u = finished_ok name (read 0 0 (beginning name) (divide 0 true bytes)) tokens h in
-    record { division = divide 0 true bytes; divides = exists (length bytes) true bytes 0 0 (beginning name) u.0 (omega arith) u.1; reads = h }
+    record {
+      division = divide 0 true bytes;
+      divides =
+          exists (length bytes) true bytes 0 0 (beginning name) u.0 (omega arith) u.1;
+      reads = h;
+    }
 
 -- and what is spelled lexes
 pub lexed_spells : (name bytes : Text) (tokens : Tokens) → Spells name bytes tokens → lexed name bytes ≡ Ok tokens
 unfolding lexed
-lexed_spells name bytes tokens s = ap (λ es. finished name (read 0 0 (beginning name) es)) (sym (only true bytes s.division s.divides)) ∙ s.reads
+lexed_spells name bytes tokens s =
+    ap (λ es. finished name (read 0 0 (beginning name) es)) (sym (only true bytes s.division s.divides)) ∙ s.reads
 
 -- ---- what is answered
 
-pub answer_spelled : (name bytes : Text) (r : Reading) → Answers (λ tokens. tokens) (lexed name bytes) r → IfOk r (λ tokens. Spells name bytes tokens)
+pub answer_spelled : (name bytes : Text) (r : Reading) → Answers (λ tokens. tokens) (lexed name bytes) r →
+    IfOk r (λ tokens. Spells name bytes tokens)
 answer_spelled name bytes (Ok tokens) h = spells_lexed name bytes tokens h
 answer_spelled name bytes (Err f) h = tt
 
@@ -203,7 +227,9 @@ refused_none meant (fault.BadDirective at) h other t is = cc
 pub answer_refused : (name bytes : Text) (r : Reading) → Answers (λ tokens. tokens) (lexed name bytes) r →
     IfErr r (λ f. f ≢ fault.Memory → (tokens : Tokens) → Spells name bytes tokens → ⊥)
 answer_refused name bytes (Ok tokens) h = tt
-answer_refused name bytes (Err f) h = λ other tokens s. refused_none (lexed name bytes) f h other tokens (lexed_spells name bytes tokens s)
+answer_refused name bytes (Err f) h = λ other tokens s.
+    refused_none (lexed name bytes) f h other tokens (lexed_spells name bytes tokens s)
 
-pub one_division : (bytes : Text) (one other : List Element) → Divides true bytes one → Divides true bytes other → one ≡ other
+pub one_division : (bytes : Text) (one other : List Element) → Divides true bytes one → Divides true bytes other →
+    one ≡ other
 one_division bytes one other d e = only true bytes one d ∙ sym (only true bytes other e)

@@ -16,7 +16,8 @@ role_of (kind.Identifier name) =
     if bytes_eq name (codes "__attribute__") || bytes_eq name (codes "__attribute") then role.Attribute else role.Other
 role_of _ = role.Other
 
--- What is kept of some tokens; if they begin with a parenthesis that is closed, what is kept after it; and what is kept after each parenthesis that closes none of them.
+-- What is kept of some tokens; if they begin with a parenthesis that is closed, what is kept after it; and what is kept
+-- after each parenthesis that closes none of them.
 pub record Kept : Type 0 where
   pub here : List Token
   pub group : Option (List Token)

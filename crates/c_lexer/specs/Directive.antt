@@ -1,5 +1,6 @@
 -- Directives (C99 6.10): line markers (6.10.4, and those of GNU C) and pragmas (6.10.6).
-use Rattle.std.specs.Prelude.{ℕ, ◌+◌, ◌-◌, ◌*◌, ◌^◌, ◌<◌, ◌≤◌, Bool, false, not, ◌&&◌, ◌||◌, if◌then◌else◌, ◌==◌, nat_lt, length, drop, slice_index, slice_range, codes, Option, Some, None, ⊤}
+use Rattle.std.specs.Prelude.{ℕ, ◌+◌, ◌-◌, ◌*◌, ◌^◌, ◌<◌, ◌≤◌, Bool, false, not, ◌&&◌, ◌||◌, if◌then◌else◌, ◌==◌}
+use Rattle.std.specs.Prelude.{nat_lt, length, drop, slice_index, slice_range, codes, Option, Some, None, ⊤}
 use Rattle.std.specs.Str.{bytes_eq, is_utf8}
 use Rattle.c_lexer.specs.Class.{Text, past}
 use Rattle.c_lexer.specs.Number.{value_of}
@@ -17,7 +18,8 @@ is_text bytes = is_utf8 bytes
 abbrev pub line_number : Text → Option ℕ
 line_number digits = if length digits == 0 || nat_lt 9 (length digits) then None else Some (value_of 10 digits)
 
--- The name stands between `from` and the closing quote before `close`, and is UTF-8. What follows is of the class `tail`.
+-- The name stands between `from` and the closing quote before `close`, and is UTF-8. What follows is of the class
+-- `tail`.
 abbrev pub named : Text → Class → ℕ → ℕ → Option ℕ → Option Directive
 named line tail number from None = None
 named line tail number from (Some close) =
@@ -37,7 +39,8 @@ marker line at tail =
     let end = past class.Digit line at in
     numbered line end tail (line_number (slice_range line at end))
 
--- What the directive of a line says, which begins with `#`: a pragma, a line marker of the standard, with no flags, or one of GNU C.
+-- What the directive of a line says, which begins with `#`: a pragma, a line marker of the standard, with no flags, or
+-- one of GNU C.
 unfoldable pub directive : Text → Option Directive
 directive line =
     let at = past class.Blank line 1 in

@@ -18,7 +18,8 @@ fresh_after fresh (lexeme.Marker line from to) = true
 fresh_after fresh lexeme.Ignored = true
 fresh_after fresh _ = false
 
--- The pieces of a text, each the one that begins where the last one ends. The number counts the bytes that are left of a piece.
+-- The pieces of a text, each the one that begins where the last one ends. The number counts the bytes that are left of
+-- a piece.
 abbrev pub divide : ℕ → Bool → Text → List Element
 divide left fresh [] = []
 divide (suc left) fresh (b ∷ text) = divide left fresh text

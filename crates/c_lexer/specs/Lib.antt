@@ -1,4 +1,5 @@
 pub mod Class
+pub mod Vocabulary
 pub mod Tables
 pub mod Number
 pub mod Fault
@@ -14,4 +15,5 @@ pub mod Attributes
 pub mod Collected
 pub mod Spelling
 pub mod Reading
+pub mod Dropping
 pub mod Walks

@@ -1,12 +1,14 @@
 -- Character constants and string literals (C99 6.4.4.4, 6.4.5).
-use Rattle.std.specs.Prelude.{ℕ, zero, suc, ◌+◌, ◌-◌, Bool, not, ◌&&◌, ◌||◌, if◌then◌else◌, ◌==◌, nat_lt, [], ◌∷◌, take, slice_index, slice_range, Option, Some, None, Result, Ok, Err}
+use Rattle.std.specs.Prelude.{ℕ, zero, suc, ◌+◌, ◌-◌, Bool, not, ◌&&◌, ◌||◌, if◌then◌else◌, ◌==◌, nat_lt, [], ◌∷◌, take}
+use Rattle.std.specs.Prelude.{slice_index, slice_range, Option, Some, None, Result, Ok, Err}
 use Rattle.c_lexer.specs.Class.{Text, is_in, past}
 use Rattle.c_lexer.specs.Number.{value_of}
 use Rattle.c_lexer.specs.declared.class.Class.TheVariants as class
 use Rattle.c_lexer.specs.declared.fault.LexFault.{LexFault}
 use Rattle.c_lexer.specs.declared.fault.LexFault.TheVariants as fault
 
--- The place after the closing quote, for a text that begins at `at`: the first quote that no backslash escapes. A newline closes no literal.
+-- The place after the closing quote, for a text that begins at `at`: the first quote that no backslash escapes. A
+-- newline closes no literal.
 abbrev pub closing : ℕ → Bool → ℕ → Text → Option ℕ
 closing quote escaped at [] = None
 closing quote escaped at (b ∷ text) =
@@ -18,7 +20,8 @@ closing quote escaped at (b ∷ text) =
 abbrev pub simple_escape : ℕ → Option ℕ
 simple_escape b =
     if b == 39 || b == 34 || b == 63 || b == 92 then Some b
-    else (if b == 97 then Some 7 else (if b == 98 then Some 8 else (if b == 102 then Some 12 else (if b == 110 then Some 10
+    else (if b == 97 then Some 7 else (if b == 98 then Some 8 else (if b == 102 then Some 12
+    else (if b == 110 then Some 10
     else (if b == 114 then Some 13 else (if b == 116 then Some 9 else (if b == 118 then Some 11 else None)))))))
 
 -- digits that spell a byte, and where they end
@@ -29,7 +32,8 @@ abbrev pub two_long : Option ℕ → Option (ℕ × ℕ)
 two_long None = None
 two_long (Some meant) = Some (meant, 2)
 
--- What the escape at the front of a text means, and its length: one to three octal digits, `x` and hexadecimal digits, or one letter.
+-- What the escape at the front of a text means, and its length: one to three octal digits, `x` and hexadecimal digits,
+-- or one letter.
 unfoldable pub escape : Text → Option (ℕ × ℕ)
 escape text =
     if is_in class.Octal (slice_index text 1) then
@@ -51,7 +55,8 @@ abbrev pub from_unit : Option (ℕ × ℕ) → ℕ → (ℕ → Result Text LexF
 from_unit None at rest = Err (fault.BadConstant at)
 from_unit (Some u) at rest = before u.0 (rest (u.1 - 1))
 
--- What a text between quotes means, that begins at the offset `at`, or where its first bad escape stands. The number counts the bytes that are left of an escape.
+-- What a text between quotes means, that begins at the offset `at`, or where its first bad escape stands. The number
+-- counts the bytes that are left of an escape.
 abbrev pub unescape : ℕ → ℕ → Text → Result Text LexFault
 unescape left at [] = Ok []
 unescape (suc left) at (b ∷ text) = unescape left (at + 1) text

@@ -1,7 +1,10 @@
 -- Numeric constants (C99 6.4.4, 6.4.8).
-use Rattle.std.specs.Prelude.{ℕ, ◌+◌, ◌-◌, ◌*◌, ◌^◌, Bool, true, false, not, ◌&&◌, ◌||◌, if◌then◌else◌, ◌==◌, nat_le, nat_lt, List, [], ◌∷◌, drop, length, fold, slice_index, slice_range, Option, Some, None, Result, Ok, Err}
+use Rattle.std.specs.Prelude.{ℕ, ◌+◌, ◌-◌, ◌*◌, ◌^◌, Bool, true, false, not, ◌&&◌, ◌||◌, if◌then◌else◌, ◌==◌, nat_le}
+use Rattle.std.specs.Prelude.{nat_lt, List, [], ◌∷◌, drop, length, fold, slice_index, slice_range, Option, Some, None}
+use Rattle.std.specs.Prelude.{Result, Ok, Err}
 use Rattle.c_lexer.specs.Class.{Text, is_in, past}
 use Rattle.c_lexer.specs.Tables.{suffix}
+use Rattle.c_lexer.specs.Vocabulary.{decimal_types, other_types, unsigned_types}
 use Rattle.c_lexer.specs.declared.class.Class.{Class}
 use Rattle.c_lexer.specs.declared.class.Class.TheVariants as class
 use Rattle.c_lexer.specs.declared.number.Base.{Base}
@@ -10,7 +13,6 @@ use Rattle.c_lexer.specs.declared.number.NumberFault.{NumberFault}
 use Rattle.c_lexer.specs.declared.number.NumberFault.TheVariants as fault
 use Rattle.c_lexer.specs.declared.number.Numeric.{Numeric}
 use Rattle.c_lexer.specs.declared.number.Numeric.TheVariants as kind
-use Rattle.c_lexer.specs.declared.number.TheConstants.{DECIMAL, ANY, UNSIGNED}
 use Rattle.c_lexer.specs.declared.table.Length.{Length}
 use Rattle.c_lexer.specs.declared.table.Length.TheVariants as len
 use Rattle.c_lexer.specs.declared.table.Suffix.{Suffix}
@@ -24,7 +26,8 @@ use Rattle.c_lexer.specs.declared.token.IntegerType.TheVariants as type
 -- a word byte, a point, or a sign right after the letter of an exponent goes on a number
 abbrev pub goes_on : ℕ → ℕ → Bool
 goes_on previous b =
-    is_in class.Word b || b == 46 || (is_in class.Sign b && (is_in class.Exponent previous || is_in class.BinaryExponent previous))
+    is_in class.Word b || b == 46
+    || (is_in class.Sign b && (is_in class.Exponent previous || is_in class.BinaryExponent previous))
 
 -- how many bytes go on a number whose last byte is `previous`
 abbrev pub number_more : ℕ → Text → ℕ
@@ -48,7 +51,8 @@ is_hexadecimal text = slice_index text 0 == 48 && (slice_index text 1 == 120 || 
 
 -- nothing, or one of f, F, l, L, stands from a place on
 abbrev pub is_suffix_of_float : Text → ℕ → Bool
-is_suffix_of_float text at = at == length text || (at + 1 == length text && is_in class.FloatSuffix (slice_index text at))
+is_suffix_of_float text at =
+    at == length text || (at + 1 == length text && is_in class.FloatSuffix (slice_index text at))
 
 -- where an exponent ends, whose letter stands before a place: a sign may stand before its digits
 abbrev pub exponent_end : Text → ℕ → Option ℕ
@@ -61,14 +65,16 @@ abbrev pub ends_float : Text → Option ℕ → Bool
 ends_float text None = false
 ends_float text (Some stop) = is_suffix_of_float text stop
 
--- Digits, with a point among them or not, then an exponent, then a suffix. The exponent may be missing where a point is enough.
+-- Digits, with a point among them or not, then an exponent, then a suffix. The exponent may be missing where a point is
+-- enough.
 unfoldable pub has_floating_form : Text → ℕ → Class → Class → Bool → Bool
 has_floating_form text from digit letter point_is_enough =
     let whole = past digit text from in
     let has_point = slice_index text whole == 46 in
     let end = if has_point then past digit text (whole + 1) else whole in
     if not (nat_lt from whole || nat_lt (whole + 1) end) then false
-    else (if nat_lt end (length text) && is_in letter (slice_index text end) then ends_float text (exponent_end text (end + 1))
+    else (if nat_lt end (length text) && is_in letter (slice_index text end)
+    then ends_float text (exponent_end text (end + 1))
     else point_is_enough && has_point && is_suffix_of_float text end)
 
 unfoldable pub is_floating : Text → Bool
@@ -79,7 +85,8 @@ is_floating text =
 -- ---- integer constants (6.4.4.1)
 
 abbrev pub base_of : Text → Base
-base_of text = if is_hexadecimal text then base.Hexadecimal else (if slice_index text 0 == 48 then base.Octal else base.Decimal)
+base_of text =
+    if is_hexadecimal text then base.Hexadecimal else (if slice_index text 0 == 48 then base.Octal else base.Decimal)
 
 abbrev pub holds : ℕ → IntegerType → Bool
 holds value type.Int = nat_lt value (2 ^ 31)
@@ -96,10 +103,10 @@ steps len.LongLong = 2
 
 -- the types that a constant may have, by its base and its suffix, in the order of the standard's table
 abbrev pub candidates : Base → Suffix → List IntegerType
-candidates b (sign.Unsigned l) = drop (steps l) UNSIGNED
-candidates base.Decimal (sign.Signed l) = drop (steps l) DECIMAL
-candidates base.Octal (sign.Signed l) = drop (2 * steps l) ANY
-candidates base.Hexadecimal (sign.Signed l) = drop (2 * steps l) ANY
+candidates b (sign.Unsigned l) = drop (steps l) unsigned_types
+candidates base.Decimal (sign.Signed l) = drop (steps l) decimal_types
+candidates base.Octal (sign.Signed l) = drop (2 * steps l) other_types
+candidates base.Hexadecimal (sign.Signed l) = drop (2 * steps l) other_types
 
 abbrev pub first_that_holds : List IntegerType → ℕ → Option IntegerType
 first_that_holds [] value = None
@@ -126,7 +133,8 @@ typed value (Some t) = Ok (record { value = value; integer_type = t })
 
 -- a value below 2^64 has the first of the types that hold it
 abbrev pub of_value : Base → ℕ → Suffix → Result IntegerConstant NumberFault
-of_value b value s = if nat_lt value (2 ^ 64) then typed value (first_that_holds (candidates b s) value) else Err fault.Wide
+of_value b value s =
+    if nat_lt value (2 ^ 64) then typed value (first_that_holds (candidates b s) value) else Err fault.Wide
 
 abbrev pub suffixed : Base → Text → Option Suffix → Result IntegerConstant NumberFault
 suffixed b digits None = Err fault.Bad

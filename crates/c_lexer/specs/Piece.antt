@@ -1,5 +1,6 @@
 -- The piece of a source that begins at a place (C99 6.4).
-use Rattle.std.specs.Prelude.{ℕ, ◌+◌, ◌*◌, ◌^◌, ◌<◌, ◌≤◌, Bool, false, ◌&&◌, ◌||◌, if◌then◌else◌, ◌==◌, [], ◌∷◌, length, take, drop, slice_index, Option, Some, None, ⊤}
+use Rattle.std.specs.Prelude.{ℕ, ◌+◌, ◌*◌, ◌^◌, ◌<◌, ◌≤◌, Bool, false, ◌&&◌, ◌||◌, if◌then◌else◌, ◌==◌, [], ◌∷◌, length}
+use Rattle.std.specs.Prelude.{take, drop, slice_index, Option, Some, None, ⊤}
 use Rattle.c_lexer.specs.Class.{Text, is_in, past}
 use Rattle.c_lexer.specs.Tables.{punctuator}
 use Rattle.c_lexer.specs.Number.{number_more}
@@ -23,27 +24,33 @@ closed kind None = (lexeme.Stray stray.OpenText, 1)
 closed kind (Some end) = (kind, end)
 
 abbrev pub literal : Lexeme → Text → ℕ → Piece
-literal kind text open_at = closed kind (closing (slice_index text open_at) false (open_at + 1) (drop (open_at + 1) text))
+literal kind text open_at =
+    closed kind (closing (slice_index text open_at) false (open_at + 1) (drop (open_at + 1) text))
 
 -- the place after `*/`, for a text that begins at `at`
 abbrev pub comment_end : Bool → ℕ → Text → Option ℕ
 comment_end after_star at [] = None
-comment_end after_star at (b ∷ text) = if after_star && b == 47 then Some (at + 1) else comment_end (b == 42) (at + 1) text
+comment_end after_star at (b ∷ text) =
+    if after_star && b == 47 then Some (at + 1) else comment_end (b == 42) (at + 1) text
 
 abbrev pub block_comment : Text → Piece
 block_comment text = closed lexeme.Comment (comment_end false 2 (drop 2 text))
 
--- a directive, with the newline that ends its line, or without one at the source's end, where a marker says nothing of any line
+-- a directive, with the newline that ends its line, or without one at the source's end, where a marker says nothing of
+-- any line
 abbrev pub directive_piece : Text → ℕ → Option Directive → Piece
 directive_piece text end None = (lexeme.Stray stray.BadDirective, 1)
-directive_piece text end (Some (says.Marker line from to)) = if end == length text then (lexeme.Ignored, end) else (lexeme.Marker line from to, end + 1)
-directive_piece text end (Some says.Pragma) = if end == length text then (lexeme.Ignored, end) else (lexeme.Ignored, end + 1)
+directive_piece text end (Some (says.Marker line from to)) =
+    if end == length text then (lexeme.Ignored, end) else (lexeme.Marker line from to, end + 1)
+directive_piece text end (Some says.Pragma) =
+    if end == length text then (lexeme.Ignored, end) else (lexeme.Ignored, end + 1)
 
 abbrev pub directive_line : Text → Piece
 directive_line text = let end = past class.Line text 0 in directive_piece text end (directive (take end text))
 
 abbrev pub begins_number : Text → Bool
-begins_number text = is_in class.Digit (slice_index text 0) || (slice_index text 0 == 46 && is_in class.Digit (slice_index text 1))
+begins_number text =
+    is_in class.Digit (slice_index text 0) || (slice_index text 0 == 46 && is_in class.Digit (slice_index text 1))
 
 -- a wide literal, or a word that begins with `L`
 abbrev pub wide : Text → Piece
@@ -70,7 +77,8 @@ other fresh text =
     else (if b == 35 && fresh then directive_line text
     else punctuation text)))))
 
--- The piece at the front of a text. A `#` begins a directive where only white space and comments stand before it on its line, that is where `fresh`.
+-- The piece at the front of a text. A `#` begins a directive where only white space and comments stand before it on its
+-- line, that is where `fresh`.
 unfoldable pub piece_at : Bool → Text → Piece
 piece_at fresh text =
     let b = slice_index text 0 in

@@ -1,5 +1,6 @@
 -- Where the pieces of a source stand.
-use Rattle.std.specs.Prelude.{ℕ, ◌+◌, ◌-◌, true, if◌then◌else◌, ◌==◌, nat_lt, List, [], ◌∷◌, length, take, fold, slice_range}
+use Rattle.std.specs.Prelude.{ℕ, ◌+◌, ◌-◌, true, if◌then◌else◌, ◌==◌, nat_lt, List, [], ◌∷◌, length, take, fold}
+use Rattle.std.specs.Prelude.{slice_range}
 use Rattle.c_lexer.specs.Class.{Text}
 use Rattle.c_lexer.specs.Division.{Element, divide}
 use Rattle.c_lexer.specs.declared.piece.Lexeme.TheVariants as lexeme
@@ -28,7 +29,8 @@ spot_after s (_, bytes) = record s { column = s.column + length bytes }
 -- the place so many bytes after the first of some pieces
 abbrev pub spot_in : Spot → List Element → ℕ → Spot
 spot_in s [] at = s
-spot_in s (e ∷ es) at = if nat_lt at (length e.1) then moved s (take at e.1) else spot_in (spot_after s e) es (at - length e.1)
+spot_in s (e ∷ es) at =
+    if nat_lt at (length e.1) then moved s (take at e.1) else spot_in (spot_after s e) es (at - length e.1)
 
 -- the place of a byte of a source, or of the end
 unfoldable pub located : Text → Text → ℕ → Spot

@@ -1,5 +1,6 @@
 -- The tokens that a source spells, or its first fault.
-use Rattle.std.specs.Prelude.{◌≡◌, ◌≢◌, ℕ, ◌+◌, Bool, true, ◌⊎◌, List, [], ◌∷◌, ◌++◌, length, slice_range, Option, Some, None, Result, Ok, Err, IsOk}
+use Rattle.std.specs.Prelude.{◌≡◌, ◌≢◌, ℕ, ◌+◌, Bool, true, ◌⊎◌, List, [], ◌∷◌, ◌++◌, length, slice_range, Option, Some}
+use Rattle.std.specs.Prelude.{None, Result, Ok, Err, IsOk}
 use Rattle.c_lexer.specs.Class.{Text}
 use Rattle.c_lexer.specs.Division.{Element, divide, fresh_after}
 use Rattle.c_lexer.specs.Spelling.{Divides, IsLongest, IsStray, stray_at}
@@ -35,7 +36,8 @@ place_at file s = record { file = file; line = s.line; column = s.column }
 -- what one piece gives, by what it means
 abbrev pub given : ℕ → ℕ → Spot → Element → Meaning → Reading
 given file at s e (Err f) = Err f
-given file at s e (Ok k) = Ok (record { files = named_by e; tokens = token_at (place_at file s) at (at + length e.1) k })
+given file at s e (Ok k) =
+    Ok (record { files = named_by e; tokens = token_at (place_at file s) at (at + length e.1) k })
 
 -- the first fault, or all names and tokens
 abbrev pub followed_by : Reading → Reading → Reading
@@ -47,7 +49,8 @@ followed_by (Ok t) (Ok u) = Ok (record { files = t.files ++ u.files; tokens = t.
 abbrev pub read : ℕ → ℕ → Spot → List Element → Reading
 read file at s [] = Ok (record { files = []; tokens = [] })
 read file at s (e ∷ es) =
-    followed_by (given file at s e (meaning at e)) (read (file + length (named_by e)) (at + length e.1) (spot_after s e) es)
+    followed_by (given file at s e (meaning at e))
+    (read (file + length (named_by e)) (at + length e.1) (spot_after s e) es)
 
 abbrev pub finished : Text → Reading → Reading
 finished name (Err f) = Err f
@@ -63,17 +66,20 @@ pub record Spells (name bytes : Text) (tokens : Tokens) : Type 0 where
   pub divides : Divides true bytes division
   pub reads : finished name (read 0 0 (beginning name) division) ≡ Ok tokens
 
--- A fault stands at an offset, where some text begins. Nothing begins there, or the longest piece that does means nothing.
+-- A fault stands at an offset, where some text begins. Nothing begins there, or the longest piece that does means
+-- nothing.
 abbrev pub FaultAt : Bool → ℕ → Text → LexFault → Type 0
 FaultAt fresh at text f =
     ((text ≢ []) × IsStray fresh text × (f ≡ stray_fault at (stray_at fresh text)))
-    ⊎ ((kind : Lexeme) × (bytes : Text) × (rest : Text) × IsLongest fresh text kind bytes rest × (meaning at (kind, bytes) ≡ Err f))
+    ⊎ ((kind : Lexeme) × (bytes : Text) × (rest : Text) × IsLongest fresh text kind bytes rest
+    × (meaning at (kind, bytes) ≡ Err f))
 
 -- the first fault of a text comes after some pieces, each the longest at its place, which all mean something
 abbrev pub FaultAfter : List Element → Bool → ℕ → Text → LexFault → Type 0
 FaultAfter [] fresh at text f = FaultAt fresh at text f
 FaultAfter (e ∷ es) fresh at text f =
-    (rest : Text) × IsLongest fresh text e.0 e.1 rest × IsOk (meaning at e) × FaultAfter es (fresh_after fresh e.0) (at + length e.1) rest f
+    (rest : Text) × IsLongest fresh text e.0 e.1 rest × IsOk (meaning at e)
+    × FaultAfter es (fresh_after fresh e.0) (at + length e.1) rest f
 
 -- the first fault of a source
 pub record IsFirstFault (bytes : Text) (f : LexFault) : Type 0 where

@@ -48,7 +48,8 @@ completed files c (Ok t) = Ok (record { files = files ++ t.files; tokens = colle
 -- what the whole source gives, as a lexer stands
 abbrev pub whole : Lexer → Reading
 whole l =
-    completed l.files.items l.collected (read (length l.files.items - 1) l.walk.at (spot_of l.walk.here) (divide 0 l.walk.fresh l.walk.rest.now))
+    completed l.files.items l.collected
+    (read (length l.files.items - 1) l.walk.at (spot_of l.walk.here) (divide 0 l.walk.fresh l.walk.rest.now))
 
 pub record IsValid (l : Lexer) : Type 0 where
   pub small : IsSmall l.walk

@@ -8,4 +8,5 @@ use Rattle.c_lexer.specs.declared.words.Words.{Words}
 
 -- what was found of a word is what it means
 abbrev pub IsRight : Words → Type 0
-IsRight words = (bytes : Text) → IfSome (get_by (λ key. bytes_eq bytes key.now) words.seen) (λ meant. meant_kind meant ≡ word_kind bytes)
+IsRight words = (bytes : Text) →
+    IfSome (get_by (λ key. bytes_eq bytes key.now) words.seen) (λ meant. meant_kind meant ≡ word_kind bytes)

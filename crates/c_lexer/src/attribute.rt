@@ -2,8 +2,8 @@
 
 ghost use Rattle.std.specs.Prelude.{◌≡◌, ◌-◌, List, [], ◌∷◌, length, false, if◌then◌else◌, OnOk, IsOkUnless};
 ghost use Rattle.c_lexer.specs.declared.token.Token.{Token};
-ghost use Rattle.c_lexer.specs.Attributes.{role_of, keep};
-ghost use Rattle.c_lexer.specs.Collected.{collected, IsNested};
+ghost use Rattle.c_lexer.specs.Attributes.{role_of};
+ghost use Rattle.c_lexer.specs.Collected.{Collects, IsNested};
 
 use crate::fault::LexFault;
 use crate::token::{Punctuator, Token, TokenKind};
@@ -29,6 +29,7 @@ pub struct Collected {
     pub after_word: bool,
 }
 
+/// How a token takes part in attributes of GNU C: they are no tokens of C99 6.4.
 fn role_of(kind: &TokenKind) -> Role
     ensures { result ≡ role_of kind.now }
 {
@@ -72,10 +73,11 @@ impl Collected {
         }
     }
 
+    /// Takes an opening round bracket (C99 6.4.6).
     fn open_group(&mut self, token: Token) -> Result<(), LexFault>
         requires nested { IsNested self.old }
         requires role { role_of token.kind ≡ Role.Open }
-        ensures ok { OnOk result ((rest : List Token) → collected self.new (keep rest) ≡ collected self.old (keep (token ∷ rest))) }
+        ensures ok { OnOk result (Collects self.old (token ∷ []) self.new) }
         ensures nested { OnOk result (IsNested self.new) }
         ensures err { IsOkUnless result LexFault.Memory }
     {
@@ -86,10 +88,11 @@ impl Collected {
         Ok(())
     }
 
+    /// Takes a closing round bracket (C99 6.4.6), which ends an attribute where its group began one.
     fn close_group(&mut self, token: Token) -> Result<(), LexFault>
         requires nested { IsNested self.old }
         requires role { role_of token.kind ≡ Role.Close }
-        ensures ok { OnOk result ((rest : List Token) → collected self.new (keep rest) ≡ collected self.old (keep (token ∷ rest))) }
+        ensures ok { OnOk result (Collects self.old (token ∷ []) self.new) }
         ensures nested { OnOk result (IsNested self.new) }
         ensures err { IsOkUnless result LexFault.Memory }
     {
@@ -105,7 +108,7 @@ impl Collected {
     /// Puts a token at the end. It fails for want of memory alone.
     pub fn push(&mut self, token: Token) -> Result<(), LexFault>
         requires nested { IsNested self.old }
-        ensures ok { OnOk result ((rest : List Token) → collected self.new (keep rest) ≡ collected self.old (keep (token ∷ rest))) }
+        ensures ok { OnOk result (Collects self.old (token ∷ []) self.new) }
         ensures nested { OnOk result (IsNested self.new) }
         ensures err { IsOkUnless result LexFault.Memory }
     {

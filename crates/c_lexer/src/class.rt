@@ -26,6 +26,7 @@ pub enum Class {
     FloatSuffix,
 }
 
+/// Whether a byte is of a class (C99 5.2.1, 6.4).
 pub fn is_in(class: Class, b: u8) -> bool
     ensures { result ≡ spec.is_in class b }
 {
@@ -45,7 +46,7 @@ pub fn is_in(class: Class, b: u8) -> bool
     }
 }
 
-/// The byte at an index, or 0 past the end.
+/// The byte at an index (C99 6.4), or 0 past the end.
 pub fn byte(text: &[u8], at: usize) -> u8
     ensures value { result ≡ slice_index text.now at }
     ensures within { result ≢ 0 → at < length text.now }
@@ -53,7 +54,8 @@ pub fn byte(text: &[u8], at: usize) -> u8
     if at < text.len() { text[at] } else { 0 }
 }
 
-/// The first index from `at` on whose byte isn't of the class, or the text's length.
+/// Where a run of one class ends (C99 6.4): the first index from `at` on whose byte isn't of the class, or the text's
+/// length.
 pub fn past(class: Class, text: &[u8], at: usize) -> usize
     requires { at ≤ length text.now }
     ensures value { result ≡ spec.past class text.now at }

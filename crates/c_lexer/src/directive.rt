@@ -16,6 +16,7 @@ pub enum Directive {
     Pragma,
 }
 
+/// Whether a file's name is UTF-8 (C99 6.10.4 leaves its form open).
 fn is_text(bytes: &[u8]) -> bool
     ensures { result ≡ spec.is_text bytes.now }
 {
@@ -25,7 +26,7 @@ fn is_text(bytes: &[u8]) -> bool
     }
 }
 
-/// The number that one to nine digits spell.
+/// The number of a line marker (C99 6.10.4), of one to nine digits.
 fn line_number(digits: &[u8]) -> Option<u32>
     ensures value { result ≡ spec.line_number digits.now }
     ensures small { IfSome result (λ number. number < 2 * 10 ^ 9) }
@@ -39,7 +40,7 @@ fn line_number(digits: &[u8]) -> Option<u32>
     }
 }
 
-/// A line marker from its number on, which stands at an index of its line; after the file's name stands
+/// A line marker (C99 6.10.4) from its number on, which stands at an index of its line; after the file's name stands
 /// what is of the class `tail`.
 #[tactic(auto, unfolding(crate::specs::Directive::marker))]
 fn marker(line: &[u8], at: usize, tail: Class) -> Option<Directive>
@@ -68,7 +69,7 @@ fn marker(line: &[u8], at: usize, tail: Class) -> Option<Directive>
     }
 }
 
-/// What the directive that a line holds says: the line begins with its `#`.
+/// What a directive says (C99 6.10) whose line begins with its `#`.
 #[tactic(auto, unfolding(crate::specs::Directive::directive))]
 pub fn read_directive(line: &[u8]) -> Option<Directive>
     requires some { 0 < length line.now }

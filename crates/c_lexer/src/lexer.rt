@@ -4,8 +4,8 @@ ghost use Rattle.std.specs.Prelude.{◌≡◌, ◌≢◌, true, ◌<◌, ◌≤�
 ghost use Rattle.std.specs.Prelude.{OnOk, IfOk, IfErr, IfSome, IsOkUnless};
 ghost use Rattle.std.specs.List.{All};
 ghost use Rattle.c_lexer.specs.Piece.{IsNamedWithin};
-ghost use Rattle.c_lexer.specs.Attributes.{keep};
-ghost use Rattle.c_lexer.specs.Collected.{collected, IsNested};
+ghost use Rattle.c_lexer.specs.Dropping.{Gives};
+ghost use Rattle.c_lexer.specs.Collected.{Collects, IsNested};
 ghost use Rattle.c_lexer.specs.Fault.{Answers, Refused};
 ghost use Rattle.c_lexer.specs.Places.{located};
 ghost use Rattle.c_lexer.specs.Reading as spec;
@@ -35,7 +35,7 @@ pub struct Lexer<'a> {
     pub collected: Collected,
 }
 
-/// Puts a piece's token, if it is one, at the end.
+/// Puts a piece's token (C99 6.4), if it is one, at the end.
 fn collect(
     tokens: &mut Collected,
     place: Place,
@@ -44,10 +44,7 @@ fn collect(
     kind: Option<TokenKind>,
 ) -> Result<(), LexFault>
     requires nested { IsNested tokens.old }
-    ensures ok { OnOk result (
-        (rest : List Token)
-        → collected tokens.new (keep rest) ≡ collected tokens.old (keep (spec.token_at place start end kind ++ rest))
-        ) }
+    ensures ok { OnOk result (Collects tokens.old (spec.token_at place start end kind) tokens.new) }
     ensures nested { OnOk result (IsNested tokens.new) }
     ensures err { IsOkUnless result LexFault.Memory }
 {
@@ -62,7 +59,7 @@ fn collect(
     }
 }
 
-/// Puts the name that a piece gives to the lines after it, if it is a marker, at the end.
+/// Puts the name that a line marker (C99 6.10.4) gives to the lines after it at the end.
 fn name_file(
     alloc: Global,
     files: &mut Vec<Name>,
@@ -86,6 +83,7 @@ impl<'a> Lexer<'a> {
     ghost use Rattle.c_lexer.specs.Walks.{whole, IsValid};
     ghost use Rattle.c_lexer.specs.Reading.{lexed};
 
+    /// The beginning of a source, whose first line has the number 1 (C99 6.10.4).
     fn new(alloc: Global, source: &'a [u8], bytes: &'a [u8]) -> Result<Lexer<'a>, LexFault>
         requires { length bytes.now ≤ 8388608 }
         ensures ok { IfOk result (λ lexer. whole lexer ≡ lexed source.now bytes.now) }
@@ -102,7 +100,7 @@ impl<'a> Lexer<'a> {
         })
     }
 
-    /// Takes the next piece.
+    /// Takes the next piece (C99 6.4).
     fn take(&mut self, alloc: Global) -> Result<(), LexFault>
         requires some { 0 < length self.old.walk.rest.now }
         requires valid { IsValid self.old }
@@ -130,6 +128,7 @@ impl<'a> Lexer<'a> {
     }
 }
 
+/// The tokens of a source (C99 6.4), piece by piece.
 fn tokens_of(alloc: Global, name: &str, bytes: &[u8]) -> Result<Tokens, LexFault>
     requires { length bytes.now ≤ 8388608 }
     ensures { Answers (λ tokens. tokens) (spec.lexed name.now bytes.now) result }
@@ -160,6 +159,9 @@ fn tokens_of(alloc: Global, name: &str, bytes: &[u8]) -> Result<Tokens, LexFault
 ///
 /// A source divides in one way at most, and what that division spells is answered. What is refused for
 /// another cause than memory spells no tokens, and the fault that is answered is the one first fault.
+///
+/// Each token stands where its place says, that is where `locate` finds its first byte. Tokens stand one behind
+/// another, and each takes a byte at least. A fault stands at a byte of the source.
 pub fn lex(alloc: Global, name: &str, bytes: &[u8]) -> Result<Tokens, LexFault>
     requires { length bytes.now ≤ 8388608 }
     ensures value { Answers (λ tokens. tokens) (spec.lexed name.now bytes.now) result }
@@ -168,6 +170,9 @@ pub fn lex(alloc: Global, name: &str, bytes: &[u8]) -> Result<Tokens, LexFault>
         (tokens : TokenList) → spec.Spells name.now bytes.now tokens → ⊥) }
     ensures first { IfErr result (λ fault. fault ≢ LexFault.Memory → spec.IsFirstFault bytes.now fault) }
     ensures faulty { (fault : Fault) → spec.IsFirstFault bytes.now fault → spec.lexed name.now bytes.now ≡ Err fault }
+    ensures given { IfOk result (λ tokens. Gives name.now bytes.now tokens) }
+    ensures none_given { IfErr result (λ fault. fault ≢ LexFault.Memory →
+        (tokens : TokenList) → Gives name.now bytes.now tokens → ⊥) }
     ensures placed { IfOk result (λ tokens. All (IsPlaced name.now bytes.now tokens.files) tokens.tokens) }
     ensures stands { IfOk result (λ tokens. StandInOrder 0 (length bytes.now) tokens.tokens) }
     ensures within { IfErr result (λ fault. IfSome (fault_byte fault) (λ at. at < length bytes.now)) }
@@ -177,8 +182,8 @@ pub fn lex(alloc: Global, name: &str, bytes: &[u8]) -> Result<Tokens, LexFault>
     tokens_of(alloc, name, bytes)
 }
 
-/// Where the byte at an offset stands, or the end of the source, by the line markers before it. It fails
-/// for want of memory alone.
+/// Where the byte at an offset stands, or the end of the source, by the line markers before it (C99 6.10.4). It
+/// fails for want of memory alone.
 pub fn locate(alloc: Global, name: &str, bytes: &[u8], at: u32) -> Result<Spot, LexFault>
     requires short { length bytes.now ≤ 8388608 }
     requires within { at ≤ length bytes.now }

@@ -9,7 +9,8 @@ use crate::fault::LexFault;
 use crate::number::value_of;
 use std::alloc::Global;
 
-/// The index after the closing quote, for a text that begins at `at`, right after the opening one.
+/// Where a literal ends (C99 6.4.4.4, 6.4.5): the index after the closing quote, for a text that begins at `at`, right
+/// after the opening one.
 pub fn closing(quote: u8, mut at: usize, mut text: &[u8]) -> Option<usize>
     requires { at + length text.now < 2 ^ 63 }
     ensures value { result ≡ spec.closing quote false at text.entry.now }
@@ -30,6 +31,7 @@ pub fn closing(quote: u8, mut at: usize, mut text: &[u8]) -> Option<usize>
     None
 }
 
+/// What the letter of a simple escape means (C99 6.4.4.4).
 fn simple_escape(b: u8) -> Option<u8>
     ensures { result ≡ spec.simple_escape b }
 {
@@ -46,7 +48,7 @@ fn simple_escape(b: u8) -> Option<u8>
     }
 }
 
-/// The byte that digits spell, with the index at which they end.
+/// The byte that the digits of an escape spell (C99 6.4.4.4), with the index at which they end.
 fn numeric_escape(base: u64, digits: &[u8], end: usize) -> Option<(u8, usize)>
     requires { 0 < base }
     ensures { result ≡ spec.numeric_escape base digits.now end }
@@ -57,7 +59,7 @@ fn numeric_escape(base: u64, digits: &[u8], end: usize) -> Option<(u8, usize)>
     }
 }
 
-/// The byte that the escape at the front of a text means, and its length.
+/// The byte that the escape (C99 6.4.4.4) at the front of a text means, and its length.
 #[tactic(auto, unfolding(crate::specs::Literal::escape))]
 fn escape(text: &[u8]) -> Option<(u8, usize)>
     requires { 0 < length text.now }
@@ -84,7 +86,7 @@ fn escape(text: &[u8]) -> Option<(u8, usize)>
     }
 }
 
-/// The byte that the byte or the escape at the front of a text means, and its length.
+/// The byte that the byte or the escape (C99 6.4.4.4) at the front of a text means, and its length.
 fn unit(text: &[u8]) -> Option<(u8, usize)>
     requires { 0 < length text.now }
     ensures value { result ≡ spec.unit text.now }
@@ -97,7 +99,8 @@ fn unit(text: &[u8]) -> Option<(u8, usize)>
     }
 }
 
-/// The bytes that the text between the quotes of a literal means, where it begins at the offset `at`.
+/// The bytes that the text between the quotes of a literal (C99 6.4.4.4, 6.4.5) means, where it begins at the offset
+/// `at`.
 pub fn unescape(alloc: Global, mut at: u32, mut text: &[u8]) -> Result<Vec<u8>, LexFault>
     requires { at + length text.now < 2 ^ 32 }
     ensures { Answers (λ meant. meant.items) (spec.unescape 0 at text.entry.now) result }

@@ -16,6 +16,7 @@ use crate::words::Words;
 use plain_data::{Items, Shared};
 use std::alloc::Global;
 
+/// What a preprocessing number means (C99 6.4.4, 6.4.8).
 fn numeric(at: u32, text: &[u8]) -> Result<Option<TokenKind>, LexFault>
     ensures { result ≡ spec.number_kind at (number text.now) }
 {
@@ -27,7 +28,7 @@ fn numeric(at: u32, text: &[u8]) -> Result<Option<TokenKind>, LexFault>
     }
 }
 
-/// What stands between the quotes of a literal.
+/// What stands between the quotes of a literal (C99 6.4.4.4, 6.4.5).
 fn between_quotes(text: &[u8]) -> &[u8]
     ensures value { result.now ≡ spec.between_quotes text.now }
     ensures within { length result.now + 1 ≤ length text.now + 1 }
@@ -39,9 +40,11 @@ fn between_quotes(text: &[u8]) -> &[u8]
     }
 }
 
+/// What a character constant means (C99 6.4.4.4).
 fn character(alloc: Global, at: u32, text: &[u8]) -> Result<Option<TokenKind>, LexFault>
     requires { at + length text.now + 1 < 2 ^ 32 }
-    ensures { Answers (λ kind. kind) (spec.character_kind at (unescape 0 (at + 1) (spec.between_quotes text.now))) result }
+    ensures { Answers (λ kind. kind)
+        (spec.character_kind at (unescape 0 (at + 1) (spec.between_quotes text.now))) result }
 {
     let meant = unescape(alloc, at + 1, between_quotes(text))?;
     match meant.as_slice() {
@@ -50,6 +53,7 @@ fn character(alloc: Global, at: u32, text: &[u8]) -> Result<Option<TokenKind>, L
     }
 }
 
+/// What a string literal means (C99 6.4.5).
 fn string(alloc: Global, at: u32, text: &[u8]) -> Result<Option<TokenKind>, LexFault>
     requires { at + length text.now + 1 < 2 ^ 32 }
     ensures { Answers (λ kind. kind) (spec.string_kind (unescape 0 (at + 1) (spec.between_quotes text.now))) result }
@@ -58,6 +62,7 @@ fn string(alloc: Global, at: u32, text: &[u8]) -> Result<Option<TokenKind>, LexF
     Ok(Some(TokenKind::StringLiteral(Shared::new(alloc, Items::from_vec(meant))?)))
 }
 
+/// The fault of a byte at which no piece begins (C99 6.4).
 fn stray_fault(at: u32, stray: Stray) -> LexFault
     ensures { result ≡ spec.stray_fault at stray }
 {
@@ -68,7 +73,7 @@ fn stray_fault(at: u32, stray: Stray) -> LexFault
     }
 }
 
-/// What the piece means that has these bytes and begins at an offset: a token's kind, nothing, or a fault.
+/// What a piece means (C99 6.4) that has these bytes and begins at an offset: a token's kind, nothing, or a fault.
 #[tactic(auto, unfolding(crate::specs::Meaning::meaning))]
 pub fn meaning<'a>(
     alloc: Global,

@@ -33,7 +33,7 @@ pub enum Numeric {
     Floating,
 }
 
-/// The length of what goes on a preprocessing number after the byte `previous`.
+/// The length of what goes on a preprocessing number (C99 6.4.8) after the byte `previous`.
 pub fn number_more(mut previous: u8, mut text: &[u8]) -> usize
     requires { length text.now < 2 ^ 63 }
     ensures value { result ≡ spec.number_more previous text.entry.now }
@@ -51,6 +51,7 @@ pub fn number_more(mut previous: u8, mut text: &[u8]) -> usize
     count
 }
 
+/// Whether a byte goes on a preprocessing number (C99 6.4.8).
 fn goes_on(previous: u8, b: u8) -> bool
     ensures { result ≡ spec.goes_on previous b }
 {
@@ -60,6 +61,7 @@ fn goes_on(previous: u8, b: u8) -> bool
             && (is_in(Class::Exponent, previous) || is_in(Class::BinaryExponent, previous)))
 }
 
+/// The value of a digit (C99 6.4.4.1).
 fn digit_of(b: u8) -> u8
     ensures value { result ≡ spec.digit_of b }
     ensures small { result < 16 }
@@ -72,7 +74,7 @@ fn digit_of(b: u8) -> u8
     }
 }
 
-/// The number that digits spell, where it is below 2^64.
+/// The number that digits spell (C99 6.4.4.1), where it is below 2^64.
 pub fn value_of(base: u64, digits: &[u8]) -> Option<u64>
     requires { 0 < base }
     ensures { SomeIff result (spec.value_of base digits.now < 2 ^ 64) (spec.value_of base digits.now) }
@@ -86,6 +88,7 @@ pub fn value_of(base: u64, digits: &[u8]) -> Option<u64>
     Some(value)
 }
 
+/// Whether a constant has a hexadecimal prefix (C99 6.4.4.1).
 fn is_hexadecimal(text: &[u8]) -> bool
     ensures value { result ≡ spec.is_hexadecimal text.now }
     ensures within { result ≡ true → 2 ≤ length text.now }
@@ -94,6 +97,7 @@ fn is_hexadecimal(text: &[u8]) -> bool
     byte(text, 0) == b'0' && (x == b'x' || x == b'X')
 }
 
+/// Whether a floating suffix (C99 6.4.4.2) or nothing stands from an index on.
 fn is_suffix_of_float(text: &[u8], at: usize) -> bool
     requires { at ≤ length text.now }
     ensures { result ≡ spec.is_suffix_of_float text.now at }
@@ -101,6 +105,7 @@ fn is_suffix_of_float(text: &[u8], at: usize) -> bool
     at == text.len() || (at + 1 == text.len() && is_in(Class::FloatSuffix, byte(text, at)))
 }
 
+/// Where an exponent part ends (C99 6.4.4.2), from behind its letter.
 fn exponent_end(text: &[u8], at: usize) -> Option<usize>
     requires { at ≤ length text.now }
     ensures value { result ≡ spec.exponent_end text.now at }
@@ -115,6 +120,7 @@ fn exponent_end(text: &[u8], at: usize) -> Option<usize>
     if from < end { Some(end) } else { None }
 }
 
+/// Whether digits, a point, an exponent part and a suffix are a floating constant (C99 6.4.4.2).
 #[tactic(auto, unfolding(crate::specs::Number::has_floating_form))]
 fn has_floating_form(
     text: &[u8],
@@ -146,6 +152,7 @@ fn has_floating_form(
     }
 }
 
+/// Whether a preprocessing number is a floating constant (C99 6.4.4.2).
 #[tactic(auto, unfolding(crate::specs::Number::is_floating))]
 fn is_floating(text: &[u8]) -> bool
     ensures { result ≡ spec.is_floating text.now }
@@ -157,6 +164,7 @@ fn is_floating(text: &[u8]) -> bool
     }
 }
 
+/// The base of an integer constant (C99 6.4.4.1).
 fn base_of(text: &[u8]) -> Base
     ensures { result ≡ spec.base_of text.now }
 {
@@ -169,6 +177,7 @@ fn base_of(text: &[u8]) -> Base
     }
 }
 
+/// Whether a type holds a value (C99 6.2.5, 6.4.4.1).
 fn holds(integer_type: IntegerType, value: u64) -> bool
     ensures { result ≡ spec.holds value integer_type }
 {
@@ -199,6 +208,7 @@ const UNSIGNED: [IntegerType; 3] = [
     IntegerType::UnsignedLongLong,
 ];
 
+/// How many steps of the list of types a long suffix leaves out (C99 6.4.4.1).
 fn steps(length: Length) -> usize
     ensures value { result ≡ spec.steps length }
     ensures within { result ≤ 2 }
@@ -210,7 +220,7 @@ fn steps(length: Length) -> usize
     }
 }
 
-/// The types that a constant may have, in the standard's order.
+/// The types that an integer constant may have (C99 6.4.4.1), in the standard's order.
 fn candidates(base: Base, suffix: Suffix) -> &'static [IntegerType]
     ensures { result.now ≡ spec.candidates base suffix }
 {
@@ -224,6 +234,7 @@ fn candidates(base: Base, suffix: Suffix) -> &'static [IntegerType]
     }
 }
 
+/// The first of some types that holds a value (C99 6.4.4.1).
 fn first_that_holds(mut types: &[IntegerType], value: u64) -> Option<IntegerType>
     ensures { result ≡ spec.first_that_holds types.entry.now value }
 {
@@ -236,7 +247,7 @@ fn first_that_holds(mut types: &[IntegerType], value: u64) -> Option<IntegerType
     None
 }
 
-/// The index of the first digit of a constant in this base.
+/// The index of the first digit of an integer constant in this base (C99 6.4.4.1).
 fn first_digit(base: Base) -> usize
     ensures { result ≡ spec.first_digit base }
 {
@@ -246,6 +257,7 @@ fn first_digit(base: Base) -> usize
     }
 }
 
+/// The digits of a base (C99 6.4.4.1).
 fn digit_class(base: Base) -> Class
     ensures { result ≡ spec.digit_class base }
 {
@@ -256,6 +268,7 @@ fn digit_class(base: Base) -> Class
     }
 }
 
+/// The number of digits of a base (C99 6.4.4.1).
 fn radix(base: Base) -> u64
     ensures value { result ≡ spec.radix base }
     ensures positive { 0 < result }
@@ -296,7 +309,7 @@ fn integer(text: &[u8]) -> Result<IntegerConstant, NumberFault>
     }
 }
 
-/// What a preprocessing number means.
+/// What a preprocessing number means (C99 6.4.4).
 #[tactic(auto, unfolding(crate::specs::Number::number))]
 pub fn number(text: &[u8]) -> Result<Numeric, NumberFault>
     ensures { result ≡ spec.number text.now }

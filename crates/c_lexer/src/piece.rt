@@ -46,6 +46,7 @@ pub enum Lexeme {
 /// What a piece is, and its length.
 pub type Piece = (Lexeme, usize);
 
+/// A character constant or a string literal (C99 6.4.4.4, 6.4.5), or a quote that nothing closes.
 fn literal(lexeme: Lexeme, text: &[u8], quote: usize) -> Piece
     requires in_range { quote < length text.now }
     requires short { length text.now < 2 ^ 32 }
@@ -58,7 +59,7 @@ fn literal(lexeme: Lexeme, text: &[u8], quote: usize) -> Piece
     }
 }
 
-/// The index after `*/`, for a text that begins at `at`, right after `/*`.
+/// Where a comment ends (C99 6.4.9): the index after `*/`, for a text that begins at `at`, right after `/*`.
 fn comment_end(mut at: usize, mut text: &[u8]) -> Option<usize>
     requires { at + length text.now < 2 ^ 63 }
     ensures value { result ≡ spec.comment_end false at text.entry.now }
@@ -76,6 +77,7 @@ fn comment_end(mut at: usize, mut text: &[u8]) -> Option<usize>
     None
 }
 
+/// A comment from `/*` on (C99 6.4.9).
 fn block_comment(text: &[u8]) -> Piece
     requires long { 2 ≤ length text.now }
     requires short { length text.now < 2 ^ 32 }
@@ -88,7 +90,7 @@ fn block_comment(text: &[u8]) -> Piece
     }
 }
 
-/// What begins with a `#` that begins a directive.
+/// A directive (C99 6.10), whose `#` comes first on its line.
 fn directive_line(text: &[u8]) -> Piece
     requires hash { slice_index text.now 0 ≡ 35 }
     requires some { 0 < length text.now }
@@ -111,6 +113,7 @@ fn directive_line(text: &[u8]) -> Piece
     (lexeme, end + 1)
 }
 
+/// Whether a preprocessing number begins here (C99 6.4.8): a digit, or a point and a digit.
 fn begins_number(text: &[u8]) -> bool
     ensures value { result ≡ spec.begins_number text.now }
     ensures within { result ≡ true → 0 < length text.now }
@@ -119,6 +122,7 @@ fn begins_number(text: &[u8]) -> bool
     is_in(Class::Digit, b) || (b == b'.' && is_in(Class::Digit, byte(text, 1)))
 }
 
+/// A literal with the prefix `L` (C99 6.4.4.4, 6.4.5), or a word that begins with this letter.
 fn wide(text: &[u8]) -> Piece
     requires some { 0 < length text.now }
     requires short { length text.now < 2 ^ 32 }
@@ -132,6 +136,7 @@ fn wide(text: &[u8]) -> Piece
     }
 }
 
+/// A punctuator (C99 6.4.6), or a byte that begins nothing.
 fn punctuation(text: &[u8]) -> Piece
     requires { 0 < length text.now }
     ensures value { result ≡ spec.punctuation text.now }
@@ -143,7 +148,7 @@ fn punctuation(text: &[u8]) -> Piece
     }
 }
 
-/// What begins with a byte that begins no word and no number.
+/// The piece (C99 6.4) at the front of a text that begins neither with white space nor a word nor a number.
 #[tactic(auto, unfolding(crate::specs::Piece::other))]
 fn other(fresh: bool, text: &[u8]) -> Piece
     requires some { 0 < length text.now }
@@ -164,7 +169,7 @@ fn other(fresh: bool, text: &[u8]) -> Piece
     }
 }
 
-/// The piece at the front of a text, the longest that begins there. Only white space and comments stand
+/// The piece at the front of a text (C99 6.4), the longest that begins there. Only white space and comments stand
 /// before it on its line, where `fresh`.
 #[tactic(auto, unfolding(crate::specs::Piece::piece_at))]
 pub fn piece_at(fresh: bool, text: &[u8]) -> Piece

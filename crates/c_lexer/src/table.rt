@@ -74,7 +74,7 @@ pub const RESERVED: [(&[u8], Reserved); 59] = [
     (b"_Noreturn", Reserved::Dropped),
 ];
 
-/// The punctuators of C99 6.4.6 but for `%:` and `%:%:`, longer ones first.
+/// The punctuators of C99 6.4.6 but for `%:` and `%:%:`, longer ones first, else in the standard's order.
 pub const PUNCTUATORS: [(&[u8], Punctuator); 52] = [
     (b"...", Punctuator::Ellipsis),
     (b"<<=", Punctuator::ShiftLeftEqual),
@@ -103,18 +103,15 @@ pub const PUNCTUATORS: [(&[u8], Punctuator); 52] = [
     (b":>", Punctuator::RightBracket),
     (b"<%", Punctuator::LeftBrace),
     (b"%>", Punctuator::RightBrace),
-    (b"(", Punctuator::LeftParen),
-    (b")", Punctuator::RightParen),
-    (b";", Punctuator::Semicolon),
-    (b",", Punctuator::Comma),
-    (b"*", Punctuator::Star),
-    (b"=", Punctuator::Equal),
-    (b"{", Punctuator::LeftBrace),
-    (b"}", Punctuator::RightBrace),
     (b"[", Punctuator::LeftBracket),
     (b"]", Punctuator::RightBracket),
+    (b"(", Punctuator::LeftParen),
+    (b")", Punctuator::RightParen),
+    (b"{", Punctuator::LeftBrace),
+    (b"}", Punctuator::RightBrace),
     (b".", Punctuator::Dot),
     (b"&", Punctuator::Ampersand),
+    (b"*", Punctuator::Star),
     (b"+", Punctuator::Plus),
     (b"-", Punctuator::Minus),
     (b"~", Punctuator::Tilde),
@@ -127,6 +124,9 @@ pub const PUNCTUATORS: [(&[u8], Punctuator); 52] = [
     (b"|", Punctuator::Bar),
     (b"?", Punctuator::Question),
     (b":", Punctuator::Colon),
+    (b";", Punctuator::Semicolon),
+    (b"=", Punctuator::Equal),
+    (b",", Punctuator::Comma),
     (b"#", Punctuator::Hash),
 ];
 
@@ -145,29 +145,29 @@ pub enum Suffix {
     Unsigned(Length),
 }
 
-/// The suffixes of integer constants (C99 6.4.4.1).
+/// The suffixes of integer constants (C99 6.4.4.1), in the order of the standard's productions.
 pub const SUFFIXES: [(&[u8], Suffix); 23] = [
     (b"", Suffix::Signed(Length::Plain)),
     (b"u", Suffix::Unsigned(Length::Plain)),
     (b"U", Suffix::Unsigned(Length::Plain)),
+    (b"ul", Suffix::Unsigned(Length::Long)),
+    (b"uL", Suffix::Unsigned(Length::Long)),
+    (b"Ul", Suffix::Unsigned(Length::Long)),
+    (b"UL", Suffix::Unsigned(Length::Long)),
+    (b"ull", Suffix::Unsigned(Length::LongLong)),
+    (b"uLL", Suffix::Unsigned(Length::LongLong)),
+    (b"Ull", Suffix::Unsigned(Length::LongLong)),
+    (b"ULL", Suffix::Unsigned(Length::LongLong)),
     (b"l", Suffix::Signed(Length::Long)),
     (b"L", Suffix::Signed(Length::Long)),
+    (b"lu", Suffix::Unsigned(Length::Long)),
+    (b"lU", Suffix::Unsigned(Length::Long)),
+    (b"Lu", Suffix::Unsigned(Length::Long)),
+    (b"LU", Suffix::Unsigned(Length::Long)),
     (b"ll", Suffix::Signed(Length::LongLong)),
     (b"LL", Suffix::Signed(Length::LongLong)),
-    (b"ul", Suffix::Unsigned(Length::Long)),
-    (b"lu", Suffix::Unsigned(Length::Long)),
-    (b"uL", Suffix::Unsigned(Length::Long)),
-    (b"Lu", Suffix::Unsigned(Length::Long)),
-    (b"ull", Suffix::Unsigned(Length::LongLong)),
     (b"llu", Suffix::Unsigned(Length::LongLong)),
-    (b"uLL", Suffix::Unsigned(Length::LongLong)),
-    (b"LLu", Suffix::Unsigned(Length::LongLong)),
-    (b"Ul", Suffix::Unsigned(Length::Long)),
-    (b"lU", Suffix::Unsigned(Length::Long)),
-    (b"UL", Suffix::Unsigned(Length::Long)),
-    (b"LU", Suffix::Unsigned(Length::Long)),
-    (b"Ull", Suffix::Unsigned(Length::LongLong)),
     (b"llU", Suffix::Unsigned(Length::LongLong)),
-    (b"ULL", Suffix::Unsigned(Length::LongLong)),
+    (b"LLu", Suffix::Unsigned(Length::LongLong)),
     (b"LLU", Suffix::Unsigned(Length::LongLong)),
 ];

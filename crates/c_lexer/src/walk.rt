@@ -28,7 +28,7 @@ pub struct Walk<'a> {
     pub here: Here<'a>,
 }
 
-/// The line and the column after some bytes.
+/// The line and the column after some bytes (C99 5.1.1.2, 6.10.4).
 pub fn past_bytes(mut line: u32, mut column: u32, bytes: &[u8]) -> (u32, u32)
     requires line_fits { line + length bytes.now < 2 ^ 32 }
     requires column_fits { column + length bytes.now < 2 ^ 32 }
@@ -47,7 +47,7 @@ pub fn past_bytes(mut line: u32, mut column: u32, bytes: &[u8]) -> (u32, u32)
     (line, column)
 }
 
-/// The place after a piece.
+/// The place after a piece (C99 6.10.4).
 fn past_piece<'a>(here: Here<'a>, lexeme: Lexeme, text: &'a [u8]) -> Here<'a>
     requires some { 0 < length text.now }
     requires line_fits { here.line + length text.now < 2 ^ 32 }
@@ -84,6 +84,7 @@ fn past_piece<'a>(here: Here<'a>, lexeme: Lexeme, text: &'a [u8]) -> Here<'a>
     }
 }
 
+/// Whether a `#` behind a piece would begin a directive (C99 6.10).
 fn fresh_after(fresh: bool, lexeme: Lexeme) -> bool
     ensures { result ≡ fresh_after fresh lexeme }
 {
@@ -116,7 +117,7 @@ impl<'a> Walk<'a> {
         }
     }
 
-    /// Takes the next piece: what it is, and its bytes.
+    /// Takes the next piece (C99 6.4): what it is, and its bytes.
     pub fn step(&mut self) -> (Lexeme, &'a [u8])
         requires some { 0 < length self.old.rest.now }
         requires small { spec.IsSmall self.old }
@@ -134,7 +135,7 @@ impl<'a> Walk<'a> {
     }
 }
 
-/// Where the byte at an offset stands, or the end of the source.
+/// Where the byte at an offset stands, or the end of the source (C99 6.10.4).
 pub fn here_at<'a>(name: &'a [u8], bytes: &'a [u8], at: u32) -> Here<'a>
     requires short { length bytes.now ≤ 8388608 }
     requires within { at ≤ length bytes.now }

@@ -24,7 +24,7 @@ pub struct Words<'a> {
     pub seen: HashMap<&'a [u8], Meant>,
 }
 
-/// An identifier's name.
+/// An identifier's name (C99 6.4.2.1).
 pub fn name(alloc: Global, text: &[u8]) -> Result<Name, LexFault>
     ensures value { IfOk result (λ name. name ≡ text.now) }
     ensures err { IsOkUnless result LexFault.Memory }
@@ -32,6 +32,7 @@ pub fn name(alloc: Global, text: &[u8]) -> Result<Name, LexFault>
     Ok(Shared::new(alloc, Items::from_slice(alloc, text)?)?)
 }
 
+/// What a word means (C99 6.4.1, 6.4.2) that didn't come before.
 fn find_meaning(alloc: Global, text: &[u8]) -> Result<Meant, LexFault>
     ensures value { IfOk result (λ meant. spec.meant_kind meant ≡ spec.word_kind text.now) }
     ensures err { IsOkUnless result LexFault.Memory }
@@ -42,6 +43,7 @@ fn find_meaning(alloc: Global, text: &[u8]) -> Result<Meant, LexFault>
     }
 }
 
+/// The token of a word (C99 6.4.1, 6.4.2), or nothing where it is dropped.
 fn kind_of(meant: &Meant) -> Result<Option<TokenKind>, LexFault>
     ensures value { IfOk result (λ kind. kind ≡ spec.meant_kind meant.now) }
     ensures err { IsOkUnless result LexFault.Memory }
@@ -66,7 +68,7 @@ impl<'a> Words<'a> {
         }
     }
 
-    /// What a word means: a token's kind, or nothing where it is dropped.
+    /// What a word means (C99 6.4.1, 6.4.2): a token's kind, or nothing where it is dropped.
     pub fn kind(&mut self, alloc: Global, text: &'a [u8]) -> Result<Option<TokenKind>, LexFault>
         requires right { IsRight self.old }
         ensures value { IfOk result (λ kind. kind ≡ spec.word_kind text.entry.now) }

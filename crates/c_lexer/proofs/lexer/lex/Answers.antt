@@ -1,5 +1,6 @@
 use Rattle.c_lexer.proofs.Unique.{answer_spelled, answer_refused, one_division}
 use Rattle.c_lexer.proofs.Faults.{answer_first, fault_lexed}
+use Rattle.c_lexer.proofs.Dropping.{answer_gives, answer_gives_none}
 use Rattle.c_lexer.proofs.FaultBytes.{answer_within}
 use Rattle.c_lexer.proofs.Standing.{answer_placed, answer_in_order}
 use Rattle.c_lexer.proofs.lexer.lex.Goals as goal
@@ -33,3 +34,13 @@ pub returns-clause-within : goal.returns-clause-within
 returns-clause-within c =
     answer_within c.args.bytes.now c.tokens_of.result
     (answer_first c.args.name.now c.args.bytes.now c.tokens_of.result c.tokens_of.ensures)
+
+pub returns-clause-given : goal.returns-clause-given
+returns-clause-given c =
+    answer_gives c.args.name.now c.args.bytes.now c.tokens_of.result
+    (answer_spelled c.args.name.now c.args.bytes.now c.tokens_of.result c.tokens_of.ensures)
+
+pub returns-clause-none_given : goal.returns-clause-none_given
+returns-clause-none_given c =
+    answer_gives_none c.args.name.now c.args.bytes.now c.tokens_of.result
+    (answer_refused c.args.name.now c.args.bytes.now c.tokens_of.result c.tokens_of.ensures)

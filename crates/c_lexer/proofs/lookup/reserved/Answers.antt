@@ -1,8 +1,8 @@
-use Rattle.std.proofs.Common.{rules, arith}
-use Rattle.std.proofs.lemmas.Grind.{common_steps}
-use Rattle.c_lexer.specs.Tables.{reserved}
+use Rattle.std.proofs.Common.{ap, ◌∙◌}
+use Rattle.c_lexer.specs.Tables.{lookup, reserved}
+use Rattle.c_lexer.proofs.Vocabulary.{reserved_table}
 use Rattle.c_lexer.proofs.lookup.reserved.Goals as goal
 
 pub returns : goal.returns
 unfolding reserved
-returns c = first_of (search rules, grind (arith, common_steps))
+returns c = c.lookup.ensures ∙ ap (λ rows. lookup rows c.args.word.now) reserved_table

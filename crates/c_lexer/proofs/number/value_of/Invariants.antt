@@ -4,4 +4,5 @@ use Rattle.c_lexer.proofs.number.value_of.Given as goal
 
 abbrev pub invariant-loop-digit : goal.invariant-loop-digit
 invariant-loop-digit l =
-    (fold (λ value digit. value * l.base + digit_of digit) l.value (drop l.digit-index l.digits) ≡ value_of l.base l.digits) × (l.value < 2 ^ 64)
+    (fold (λ value digit. value * l.base + digit_of digit) l.value (drop l.digit-index l.digits)
+    ≡ value_of l.base l.digits) × (l.value < 2 ^ 64)

@@ -6,7 +6,8 @@ use Rattle.c_lexer.proofs.walk.here_at.Given as goal
 
 abbrev pub invariant-pieces : goal.invariant-pieces
 invariant-pieces l = record {
-  rest : spot_in (spot_of l.walk.here) (divide 0 l.walk.fresh l.walk.rest.now) (l.at - l.walk.at) ≡ located l.name l.bytes l.at;
+  rest : spot_in (spot_of l.walk.here) (divide 0 l.walk.fresh l.walk.rest.now) (l.at - l.walk.at)
+      ≡ located l.name l.bytes l.at;
   small : IsSmall l.walk;
   within : l.walk.at ≤ l.at;
 }

@@ -8,7 +8,20 @@ returns-clause-small c =
     let within = c.piece_at-lexeme.ensures.within in
     let line = c.past_piece-self.ensures.line (2 * 10 ^ 9 + old.at) c.requires.small.line (omega arith) in
     record {
-      at = omega (arith, c.requires.small.at, within.1, length-drop len old.rest.now, length-take (length old.rest.now - len) (drop len old.rest.now));
+      at = omega (
+        arith,
+        c.requires.small.at,
+        within.1,
+        length-drop len old.rest.now,
+        length-take
+            (length old.rest.now - len) (drop len old.rest.now),
+      );
       line = omega (arith, line, length-take len old.rest.now, within.1);
-      column = omega (arith, c.past_piece-self.ensures.column, c.requires.small.column, length-take len old.rest.now, within.1);
+      column = omega (
+        arith,
+        c.past_piece-self.ensures.column,
+        c.requires.small.column,
+        length-take len old.rest.now,
+        within.1,
+      );
     }
