@@ -73,7 +73,7 @@ expect 'a missing source' 6 nothing fault ./program diagnose missing p.log
 expect 'a missing log' 6 nothing fault ./program diagnose p.c missing
 expect 'a missing folder' 6 nothing fault ./program diagnose missing/p.c p.log
 expect 'a file as a folder' 6 nothing fault ./program diagnose p.c p.log/p.log
-expect 'an empty source' 3 nothing not_read sh -c 'mkdir empty && : >empty/p.c && cd empty && ../program diagnose p.c p.log'
+expect 'an empty source' 3 nothing not_read ./program diagnose nothing p.log
 if [ -r /proc/self/mem ]; then
     expect 'a source whose first read fails' 6 nothing fault ./program diagnose /proc/self/mem p.log
     expect 'a log whose first read fails' 6 nothing fault ./program diagnose p.c /proc/self/mem
@@ -127,7 +127,8 @@ expect 'a source that comes slowly' 0 found_pipe nothing slowly p.c 20 pipe p.lo
 expect 'a log that comes slowly' 0 found nothing slowly p.log 1 p.c pipe
 padded nothing long.log 65536
 expect 'a log that comes slowly up to its limit' 1 none nothing slowly long.log 65535 p.c pipe
-expect 'a log that grows to its limit' 1 none nothing changed 'truncate -s 65535 long.log; printf " " >>long.log' long.log
+truncate -s 65535 long.log
+expect 'a log that grows to its limit' 1 none nothing changed 'printf " " >>long.log' long.log
 expect 'a log that grows beyond its limit' 7 nothing long_log changed 'printf " " >>long.log' long.log
 expect 'a log that is cut at its limit' 1 none nothing changed 'truncate -s 65536 long.log' long.log
 printf ' ' >>long.log

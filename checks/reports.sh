@@ -3,11 +3,15 @@
 #
 #     checks/reports.sh [PROGRAM]      without PROGRAM the proved program, or the trial program where that isn't built
 #
-# A row ends with an empty line. Its lines: `words:` the command line, as a shell reads it (`diagnose p.c p.log` where it
-# is left out); the source p.c, by `source:` (as %b of printf reads it), or by `body:`, the statements of a `main` that
-# stand in the fourth line, `times:` so often, or by `blocks:`, so many blocks in one another; `log:`, the log p.log and
-# `-` (by %b; left out: there is none); and `told:`, the status and what is told, or `status:` and behind it the
-# report without its first two lines.
+# A row ends with an empty line. Its lines:
+#
+#     words:     the command line, as a shell reads it; `diagnose p.c p.log` where it is left out
+#     source:    the source p.c, as %b of printf reads it
+#     body:      or the statements of its `main`, which stand in the fourth line, `times:` so often
+#     blocks:    or how many blocks stand in one another there
+#     log:       the log p.log, and `-`, by %b; where it is left out there is none
+#     told:      the status and what is told on standard error
+#     status:    or the status, and behind it the report without its first two lines
 set -u
 cd "$(dirname "$0")/.." || exit 2
 program=$(readlink -f "${1:-$(tools/proved.sh sherlog || tools/trial.sh)}") || exit 1
@@ -47,7 +51,8 @@ run_row() {
     (cd "$room" && exec "$program" "$@" </dev/null >found.out 2>found.err)
     found=$?
     rows=$((rows + 1))
-    if [ "$found" -ne "$status" ] || ! cmp -s "$room/out" "$room/found.out" || ! cmp -s "$room/err" "$room/found.err"; then
+    if [ "$found" -ne "$status" ] || ! cmp -s "$room/out" "$room/found.out" ||
+        ! cmp -s "$room/err" "$room/found.err"; then
         echo "reports: $first: status $found, and $status is right; what differs:"
         diff "$room/out" "$room/found.out" | head -n 5
         diff "$room/err" "$room/found.err" | head -n 5

@@ -24,7 +24,8 @@ while :; do
     [ -e "$work/mark" ] || break
     if [ "$status" -eq 12 ] && [ ! -s "$work/out" ] && cmp -s "$work/err" "$work/memory.err"; then
         refused=$((refused + 1))
-    elif [ "$status" -ne "$usual" ] || ! cmp -s "$work/out" "$work/usual.out" || ! cmp -s "$work/err" "$work/usual.err"; then
+    elif [ "$status" -ne "$usual" ] || ! cmp -s "$work/out" "$work/usual.out" ||
+        ! cmp -s "$work/err" "$work/usual.err"; then
         echo "$1 $2: allocation $number fails: status $status"
         exit 1
     fi

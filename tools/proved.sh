@@ -1,5 +1,6 @@
 #!/usr/bin/env bash
-# Prints the path of a crate's proved program, where it is built and no file that it is made of is newer. Builds nothing.
+# Prints the path of a crate's proved program, where it is built and no file that it is made of is newer, and builds
+# nothing.
 #
 #     tools/proved.sh NAME
 set -u

@@ -1,8 +1,8 @@
 #!/usr/bin/env bash
-# Prints the path of the trial program of `sherlog`: the same source, compiled by `rt try` in about half a minute, without
-# proof and with checks of its memory at run time. It is built where it is missing or older than a source.
+# Prints the path of the trial program of `sherlog`: the same source, compiled by `rt try` in about half a minute,
+# without proof and with checks of its memory at run time. It is built where it is missing or older than a source.
 #
-#     tools/trial.sh [--built]      with --built nothing is built, and the script fails where no current program is there
+#     tools/trial.sh [--built]      with --built nothing is built: the script fails where no current program is there
 set -u
 top=$(cd "$(dirname "$0")/.." && pwd) || exit 2
 program=$top/out/trial/sherlog
