@@ -1,5 +1,6 @@
 -- Rows worked out by hand that no source of the form reaches: the definitions give them, so the code does.
 use Rattle.std.specs.Prelude.{◌≡◌, ℕ, List, [], ◌∷◌, ◌++◌, codes, refl}
+use Rattle.std.specs.Fmt.{digits}
 use Rattle.bit_words.specs.Worlds.{WorldTables}
 use Rattle.bit_words.specs.declared.run.Side.TheVariants.{Yes, No}
 use Rattle.bit_words.specs.declared.run.Finish.TheVariants as finish
@@ -9,11 +10,11 @@ use Rattle.c_lexer.specs.declared.token.Place.{Place}
 use Rattle.c_tree.specs.PlaceTables.{PlaceTable}
 use Rattle.first_form.specs.Lines.{line_of}
 use Rattle.first_form.specs.Facts.{shown_at_end}
-use Rattle.first_form.specs.Reports.{Text, found_lines}
+use Rattle.first_form.specs.Reports.{Text, count_text, total_text, found_lines}
 use Rattle.first_form.specs.declared.verdict.Verdict.TheVariants.{Must, MustNot, May}
 use Rattle.first_form.specs.declared.verdict.Findings.{Findings}
 
-four_lines : Text
+abbrev four_lines : Text
 four_lines = codes "ab\nabab\n\nc"
 
 -- at the log's end and behind it, the line is one more than there are
@@ -23,26 +24,26 @@ line_at_the_end = refl
 line_behind_the_end : line_of four_lines 99 ≡ 5
 line_behind_the_end = refl
 
-exit_is_no_return : shown_at_end (finish.Exit 0) ≡ fact.Exited ∷ []
-exit_is_no_return = refl
+exit_is_no_return : (value : _) → shown_at_end (finish.Exit value) ≡ fact.Exited ∷ []
+exit_is_no_return value = refl
 
-in_line_4 : ℕ → Place
+abbrev in_line_4 : ℕ → Place
 in_line_4 column = record { file = 0; line = 4; column = column }
 
-places : PlaceTable
+abbrev places : PlaceTable
 places = record {
-  places = (63 , in_line_4 1) ∷ (67 , in_line_4 5) ∷ (74 , in_line_4 12) ∷ (97 , in_line_4 35) ∷ (110 , in_line_4 48) ∷ [];
+  places = (63, in_line_4 1) ∷ (67, in_line_4 5) ∷ (74, in_line_4 12) ∷ (97, in_line_4 35) ∷ (110, in_line_4 48) ∷ [];
   files = codes "p.c" ∷ [];
 }
 
-facts : List Fact
+abbrev facts : List Fact
 facts = fact.Branch 63 Yes ∷ fact.Branch 63 No ∷ fact.Call 67 ∷ fact.Call 74 ∷ fact.Print 74 1
     ∷ fact.Call 97 ∷ fact.Call 110 ∷ fact.Print 110 1 ∷ fact.Returned ∷ []
 
 -- a world with a word and a byte, and one with nothing
-findings : Findings
+abbrev findings : Findings
 findings = record {
-  worlds = record { words = (7 , 1) ∷ []; bytes = (5 , 77) ∷ [] } ∷ record { words = []; bytes = [] } ∷ [];
+  worlds = record { words = (7, 1) ∷ []; bytes = (5, 77) ∷ [] } ∷ record { words = []; bytes = [] } ∷ [];
   verdicts = May 1 2 ∷ May 2 1 ∷ Must ∷ MustNot ∷ MustNot ∷ Must ∷ Must ∷ Must ∷ Must ∷ [];
 }
 
@@ -52,4 +53,5 @@ report_of_a_choice : found_lines places facts findings ≡ codes "execution foun
     ++ (codes "fact 8 must print p.c:4:48 line 1\nfact 9 must return\n"
     ++ (codes "total must 5 mustnot 2 may 2 unknown 0 values must 0 may 0 unknown 0\n"
     ++ codes "world 1\nw 7 1\nb 5 77\nworld 2\nend\n"))))
+unfolding digits total_text count_text
 report_of_a_choice = refl
