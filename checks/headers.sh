@@ -7,8 +7,8 @@ if ! command -v cc > /dev/null; then
     echo "headers: skipped, there is no cc"
     exit 0
 fi
-if [ ! -x ./sherlog ]; then
-    echo "headers: skipped, ./sherlog is not built"
+if ! program=$(tools/proved.sh sherlog || tools/trial.sh --built); then
+    echo "headers: skipped, the program is not built"
     exit 0
 fi
 folder=$(mktemp -d)
@@ -24,7 +24,7 @@ derived=0
 # Whether a source is derived: it is diagnosed, or refused only for a form that is not read so far.
 derives() {
     local said status
-    said=$(./sherlog diagnose "$1" "$folder/log" 2>&1 > /dev/null)
+    said=$("$program" diagnose "$1" "$folder/log" 2>&1 > /dev/null)
     status=$?
     if [ "$status" -gt 1 ] && [ "$said" != "sherlog: 3 NotYetRead" ]; then
         echo "headers: $2: status $status: $said"

@@ -10,3 +10,4 @@ pub mod Listings
 pub mod Weighs
 mod ReportParts
 mod Names
+mod Rows

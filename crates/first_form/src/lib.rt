@@ -11,8 +11,6 @@ pub mod listing;
 pub mod meaning;
 pub mod paths;
 pub mod report;
-#[cfg(test)]
-mod report_tests;
 pub mod shown;
 pub mod text;
 pub mod tree;
