@@ -1,4 +1,3 @@
-pub mod Programs
 pub mod CauseLemmas
-pub mod Offsets
-pub mod TokenPlaces
+pub mod Programs
+pub mod Standing

@@ -12,7 +12,7 @@ ghost use Rattle.sherlog.specs.declared.refusal.Refusal.{Refusal as RefusalType}
 use crate::refusal::{
     Refusal, tell_bad_source, tell_fault, tell_memory, tell_not_yet_read, tell_too_long, tell_usage,
 };
-use crate::report::serve_diagnose;
+use crate::serving::serve_diagnose;
 use crate::words::read_words;
 use sl_io::{Shelf, Sink};
 use std::alloc::Global;

@@ -5,7 +5,7 @@
 pub mod call;
 pub mod files;
 pub mod refusal;
-pub mod report;
+pub mod serving;
 pub mod source;
 pub mod streams;
 pub mod words;

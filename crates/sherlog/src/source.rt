@@ -1,7 +1,8 @@
 //! Reading a source: from its bytes to its unit, or to why there is none.
-ghost use Rattle.std.specs.Prelude.{◌≡◌, ◌≢◌, ◌≤◌, length, Ok, Err};
+ghost use Rattle.std.specs.Prelude.{◌≡◌, ◌≤◌, ◌<◌, length, Ok, Err, IfSome};
 ghost use Rattle.c_lexer.specs.Fault.{Refused as IsFaultOf};
-ghost use Rattle.c_lexer.specs.Reading.{lexed, IsFirstFault, Spells};
+ghost use Rattle.c_lexer.specs.Reading.{lexed};
+ghost use Rattle.c_lexer.specs.Standing.{StandInOrder, fault_byte};
 ghost use Rattle.c_parser.specs.Parsing.{Refuses};
 ghost use Rattle.sherlog.specs.Sources.{HasFault, start_at};
 ghost use Rattle.sherlog.specs.Answers.{Reads, IsToldAt, Tells};
@@ -32,7 +33,7 @@ fn bad_source(alloc: Global, name: &str, bytes: &[u8], fault: SourceFault, at: u
 fn refusal_of(alloc: Global, name: &str, bytes: &[u8], fault: LexFault) -> Refusal
     requires short { length bytes.now ≤ MAX_SOURCE }
     requires has { IsFaultOf (lexed name.now bytes.now) fault }
-    requires first { fault ≢ LexFault.Memory → IsFirstFault bytes.now fault }
+    requires within { IfSome (fault_byte fault) (λ at. at < length bytes.now) }
     ensures { Reads name.now bytes.now (Err result) }
 {
     match fault {
@@ -48,7 +49,9 @@ fn refusal_of(alloc: Global, name: &str, bytes: &[u8], fault: LexFault) -> Refus
 /// The byte at which a token begins, by its number, or the end of the source.
 fn start_of(bytes: &[u8], tokens: &[Token], number: usize) -> u32
     requires short { length bytes.now ≤ MAX_SOURCE }
-    ensures { result ≡ start_at bytes.now tokens.now number }
+    requires stands { StandInOrder 0 (length bytes.now) tokens.now }
+    ensures exact { result ≡ start_at bytes.now tokens.now number }
+    ensures within { result ≤ length bytes.now }
 {
     match tokens.get(number) {
         Some(token) => token.start,
@@ -60,7 +63,7 @@ fn start_of(bytes: &[u8], tokens: &[Token], number: usize) -> u32
 fn unparsed(alloc: Global, name: &str, bytes: &[u8], tokens: &Tokens, fault: ParseFault) -> Refusal
     requires short { length bytes.now ≤ MAX_SOURCE }
     requires lexed { lexed name.now bytes.now ≡ Ok tokens.now }
-    requires spelled { Spells name.now bytes.now tokens.now }
+    requires stands { StandInOrder 0 (length bytes.now) tokens.now.tokens }
     requires refused { Refuses tokens.now.tokens fault }
     ensures read { Reads name.now bytes.now (Err result) }
     ensures told { Tells name.now bytes.now tokens.now.tokens fault result }

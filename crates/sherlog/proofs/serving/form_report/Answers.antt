@@ -1,6 +1,6 @@
 use Rattle.std.proofs.lemmas.Result.{err_from_is_err_and}
 use Rattle.sherlog.proofs.CauseLemmas.{Forms-without_log}
-use Rattle.sherlog.proofs.report.form_report.Goals as goal
+use Rattle.sherlog.proofs.serving.form_report.Goals as goal
 
 pub returns-in_err-log : goal.returns-in_err-log
 returns-in_err-log g c =
