@@ -60,7 +60,9 @@ def edit_in(crate, folder):
         with open(path) as it:
             for line in it.read().split("\n"):
                 word, _, text = line.partition(": ")
-                file, old, new = (text if word == "file" else file), (text if word == "old" else old), (text if word == "new" else new)
+                file = text if word == "file" else file
+                old = text if word == "old" else old
+                new = text if word == "new" else new
         try:
             with open(f"{folder}/{file}") as it:
                 edited = it.read()
@@ -112,8 +114,10 @@ def table(runs, total):
         print(f"| `{crate}` | {' | '.join(minutes(row[it]) for it in KINDS)} | {slow} |")
     sums = [sum(row[it] for row in crates.values()) for it in KINDS]
     print(f"| All, in minutes of processor | {' | '.join(map(minutes, sums))} | |")
-    print(f"\nSum: {minutes(total)} minutes, {minutes(total - sum(sums))} of them for the rest (`rt` itself, building, running).")
-    print("\nEdits past 30 s:", ", ".join(f"{c}/{e} {s:.0f} s" for (c, e), s in sorted(edits.items(), key=lambda it: -it[1]) if s > 30 and e != "(unchanged)") or "none")
+    rest = minutes(total - sum(sums))
+    print(f"\nSum: {minutes(total)} minutes, {rest} of them for the rest (`rt` itself, linking, running).")
+    slow = sorted(((s, c, e) for (c, e), s in edits.items() if s > 30 and e != "(unchanged)"), reverse=True)
+    print("\nEdits past 30 s:", ", ".join(f"{c}/{e} {s:.0f} s" for s, c, e in slow) or "none")
 
 
 began = resource.getrusage(resource.RUSAGE_CHILDREN)
