@@ -1,4 +1,4 @@
-"""Compares the syntax trees that tree_rows prints with those of pycparser.
+"""Compares the syntax trees that `rows tree` prints with those of pycparser.
 
     trees.py PROGRAM FILE..
 
@@ -17,7 +17,7 @@ STORAGE = {"typedef", "extern", "static", "auto", "register"}
 QUALIFIERS = {"const", "restrict", "volatile"}
 
 
-# ---- the text of tree_rows
+# ---- the text of trees
 
 def nested(text):
     """The nodes that a text writes, as nested lists of words."""

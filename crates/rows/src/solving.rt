@@ -69,7 +69,7 @@ struct Question {
 }
 
 /// The question of a line: `LITERAL .. 0`, with the usual number of conflicts, or `ask CONFLICTS LITERAL .. 0`.
-fn question(alloc: Global, line: &str, usual: u32) -> Result<Question> {
+fn read_question(alloc: Global, line: &str, usual: u32) -> Result<Question> {
     let (conflicts, assume) = match line.strip_prefix("ask ") {
         Some(rest) => {
             let (count, assume) = rest.split_once(' ').ok_or(anyhow!("no question"))?;
@@ -88,10 +88,10 @@ fn read_questions(alloc: Global, text: &str, usual: u32) -> Result<(Formula, Vec
     let mut questions = Vec::new(alloc);
     let (formula, rest) = formulas::read_formula(alloc, text)?;
     for line in rest {
-        questions.push(question(alloc, line, usual)?)?;
+        questions.push(read_question(alloc, line, usual)?)?;
     }
     if questions.is_empty() {
-        questions.push(question(alloc, "0", usual)?)?;
+        questions.push(read_question(alloc, "0", usual)?)?;
     }
     Ok((formula, questions))
 }

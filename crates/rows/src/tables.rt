@@ -32,6 +32,8 @@ impl Row {
     pub fn named(name: &str) -> Option<Row> {
         match name {
             "words" => Some(Row::Words),
+            "texts" => Some(Row::Texts),
+            "splits" => Some(Row::Splits),
             "text" => Some(Row::Text),
             "split" => Some(Row::Split),
             "check" => Some(Row::Check),

@@ -7,28 +7,28 @@ use std::alloc::{AllocError, Global};
 
 /// What a format and arguments come to.
 #[derive(Drop)]
-enum Written {
+enum Outcome {
     Text(Bytes),
     Fault(&'static str, usize),
     Kinds(Kinds),
 }
 
-fn printed(alloc: Global, pieces: &Pieces, args: &Args) -> Result<Written> {
+fn printed(alloc: Global, pieces: &Pieces, args: &Args) -> Result<Outcome> {
     let kinds = kinds(alloc, pieces)?;
     if !have_kinds(&kinds, args) {
-        return Ok(Written::Kinds(kinds));
+        return Ok(Outcome::Kinds(kinds));
     }
     match text(alloc, pieces, args) {
-        Ok(bytes) => Ok(Written::Text(bytes)),
+        Ok(bytes) => Ok(Outcome::Text(bytes)),
         Err(_) => Err(anyhow!(AllocError)),
     }
 }
 
-fn written(alloc: Global, format: &[u8], args: &Args) -> Result<Written> {
+fn written(alloc: Global, format: &[u8], args: &Args) -> Result<Outcome> {
     match parse_format(alloc, format) {
         Ok(pieces) => printed(alloc, &pieces, args),
-        Err(FormatFault::Unsupported(at)) => Ok(Written::Fault("unsupported", at)),
-        Err(FormatFault::Truncated(at)) => Ok(Written::Fault("truncated", at)),
+        Err(FormatFault::Unsupported(at)) => Ok(Outcome::Fault("unsupported", at)),
+        Err(FormatFault::Truncated(at)) => Ok(Outcome::Fault("truncated", at)),
         Err(FormatFault::Memory) => Err(anyhow!(AllocError)),
     }
 }
@@ -39,12 +39,12 @@ pub fn answer(alloc: Global, row: &str) -> Result<String> {
     let format = reading::bytes_of(alloc, words.next().unwrap_or(""))?;
     let args = reading::args_of(alloc, words)?;
     match written(alloc, format.as_slice(), &args)? {
-        Written::Text(bytes) => {
+        Outcome::Text(bytes) => {
             let digits = hex::encode(alloc, bytes.as_slice())?;
             Ok(format!(in alloc; "text {digits}\n")?)
         }
-        Written::Fault(name, at) => Ok(format!(in alloc; "{name} {at}\n")?),
-        Written::Kinds(_) => Ok(format!(in alloc; "kinds\n")?),
+        Outcome::Fault(name, at) => Ok(format!(in alloc; "{name} {at}\n")?),
+        Outcome::Kinds(_) => Ok(format!(in alloc; "kinds\n")?),
     }
 }
 
@@ -55,12 +55,12 @@ pub fn answer_plain(alloc: Global, row: &str) -> Result<String> {
     let format = reading::unescaped(alloc, format)?;
     let args = reading::args_of(alloc, words.split_whitespace())?;
     match written(alloc, format.as_slice(), &args)? {
-        Written::Text(bytes) => {
+        Outcome::Text(bytes) => {
             let text = reading::escaped(alloc, bytes.as_slice())?;
             Ok(format!(in alloc; "|{text}|\n")?)
         }
-        Written::Fault(name, at) => Ok(format!(in alloc; "{name} {at}\n")?),
-        Written::Kinds(kinds) => named(alloc, &kinds),
+        Outcome::Fault(name, at) => Ok(format!(in alloc; "{name} {at}\n")?),
+        Outcome::Kinds(kinds) => named(alloc, &kinds),
     }
 }
 
