@@ -32,7 +32,6 @@ static const char *flags_of(int set)
 
 static void begin(const char *format)
 {
-    fputs("text ", rows);
     hex(rows, format, strlen(format));
 }
 

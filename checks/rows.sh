@@ -6,13 +6,15 @@ if ! command -v cc >/dev/null; then
     echo "rows: skipped, there is no cc"
     exit 0
 fi
-program=$(tools/program.sh text_rows) || exit 1
+program=$(tools/program.sh rows) || exit 1
 folder=$(mktemp -d)
 trap 'rm -rf "$folder"' EXIT
 for table in words printf; do
+    word=$table
+    [ "$table" = words ] || word=texts
     cc -std=gnu99 -O1 -w -fwrapv -o "$folder/$table" "checks/${table}_rows.c"
     "$folder/$table" "$folder/rows" "$folder/expected"
-    "$program" <"$folder/rows" >"$folder/answers"
+    "$program" "$word" <"$folder/rows" >"$folder/answers"
     if ! cmp -s "$folder/expected" "$folder/answers"; then
         echo "rows: $table: the first rows that differ (row, expected, answered):"
         paste -d '|' "$folder/rows" "$folder/expected" "$folder/answers" | awk -F '|' '$2 != $3' | head -n 5

@@ -8,7 +8,7 @@ if ! command -v cc >/dev/null; then
     echo "solver: skipped, there is no cc"
     exit 0
 fi
-program=$(tools/program.sh sat_bench) || exit 1
+program=$(tools/program.sh rows) || exit 1
 others=()
 for tool in minisat cadical; do
     if command -v "$tool" >/dev/null; then

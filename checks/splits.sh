@@ -6,12 +6,12 @@ if ! command -v cc >/dev/null; then
     echo "splits: skipped, there is no cc"
     exit 0
 fi
-program=$(tools/program.sh split_rows) || exit 1
+program=$(tools/program.sh rows) || exit 1
 folder=$(mktemp -d)
 trap 'rm -rf "$folder"' EXIT
 cc -std=gnu99 -O1 -w -o "$folder/rows_of_c" checks/split_rows.c
 "$folder/rows_of_c" "$folder/rows" "$folder/expected"
-"$program" <"$folder/rows" >"$folder/answers"
+"$program" splits <"$folder/rows" >"$folder/answers"
 if ! cmp -s "$folder/expected" "$folder/answers"; then
     echo "splits: the first rows that differ (row, expected, answered):"
     paste -d '|' "$folder/rows" "$folder/expected" "$folder/answers" | awk -F '|' '$2 != $3' | head -n 5

@@ -1,4 +1,4 @@
-"""Compares the syntax trees that tree_rows prints with those of pycparser.
+"""Compares the syntax trees that `rows tree` prints with those of pycparser.
 
     trees.py PROGRAM FILE..
 
@@ -17,7 +17,7 @@ STORAGE = {"typedef", "extern", "static", "auto", "register"}
 QUALIFIERS = {"const", "restrict", "volatile"}
 
 
-# ---- the text of tree_rows
+# ---- the text of trees
 
 def nested(text):
     """The nodes that a text writes, as nested lists of words."""
@@ -454,7 +454,7 @@ def first_difference(ours, theirs):
 def is_same(program, path):
     with open(path, encoding="latin-1") as file:
         source = file.read()
-    answer = subprocess.run([program], input=source.encode("latin-1"), capture_output=True, check=False)
+    answer = subprocess.run([program, "tree"], input=source.encode("latin-1"), capture_output=True, check=False)
     ours = tree_of_text(answer.stdout.decode("latin-1"))
     theirs = tree_of_pycparser(source)
     if ours == theirs and answer.returncode == 0:

@@ -6,7 +6,7 @@ if ! python3 -c 'import pycparser' 2>/dev/null; then
     echo "trees: skipped, there is no pycparser"
     exit 0
 fi
-program=$(tools/program.sh tree_rows) || exit 1
+program=$(tools/program.sh rows) || exit 1
 folder=$(mktemp -d)
 trap 'rm -rf "$folder"' EXIT
 python3 checks/tree_sources.py "$folder" 300
@@ -32,7 +32,7 @@ parentheses() {
 expect() {
     local word=$1
     shift
-    if ! "$@" | "$program" | grep -qF "$word"; then
+    if ! "$@" | "$program" tree | grep -qF "$word"; then
         echo "trees: $* isn't answered by $word"
         exit 1
     fi

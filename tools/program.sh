@@ -6,7 +6,9 @@ set -u
 cd "$(dirname "$0")/.." || exit 2
 program=$PWD/crates/$1/out/$1
 if [ ! -x "$program" ] || [ -n "$(find crates/*/src -newer "$program" -name '*.rt' -print -quit)" ]; then
-    if ! (cd "crates/$1" && rt run <stdin >/dev/null 2>&1); then
+    words=()
+    [ ! -f "crates/$1/args" ] || mapfile -t words <"crates/$1/args"
+    if ! (cd "crates/$1" && rt run -- "${words[@]}" <stdin >/dev/null 2>&1); then
         echo "$1: the program can't be built or run" >&2
         exit 1
     fi

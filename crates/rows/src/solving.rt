@@ -1,0 +1,160 @@
+//! Questions about a formula, answered by the solver. An answer whose evidence doesn't hold ends the program with an
+//! error.
+use crate::formulas;
+use anyhow::{Result, anyhow, bail, ensure};
+use cdcl::{Answer, Solver};
+use cnf_core::{Clause, Formula, Lit, satisfies};
+use proof_check::{Checker, Refutation, StepFault, Steps, Trail};
+use std::alloc::Global;
+
+/// What a question comes to, with the number of steps.
+#[derive(Drop)]
+enum Verdict {
+    Sat,
+    Unsat(usize),
+    Spent(Refutation),
+}
+
+/// The formula with these literals as unit clauses last.
+fn with_units(alloc: Global, formula: &Formula, units: &[Lit]) -> Result<Formula> {
+    let mut whole = Formula::new(alloc);
+    for index in 0..formula.len() {
+        whole.push(formula.clause(index))?;
+    }
+    for unit in units {
+        whole.push(&[*unit])?;
+    }
+    Ok(whole)
+}
+
+/// How many steps a refutation of the formula has.
+fn refutation_steps(alloc: Global, formula: &Formula, refutation: &Refutation) -> Result<usize> {
+    let mut checker = Checker::with_room(alloc, formula, refutation)?;
+    checker.check(formula, refutation)?;
+    Ok(refutation.steps().len())
+}
+
+/// The steps of a trail over the formula.
+fn trail_steps(alloc: Global, formula: &Formula, trail: Trail) -> Result<Refutation> {
+    ensure!(trail.kept.is_empty(), "clauses are kept");
+    let trail = Refutation::from_steps(trail.steps);
+    let mut checker = Checker::with_room(alloc, formula, &trail)?;
+    if checker.check(formula, &trail) != Err(StepFault::NoEmptyClause) {
+        bail!("no trail");
+    }
+    Ok(trail)
+}
+
+/// The verdict of an answer whose evidence holds; `whole` is the formula with the assumptions as unit clauses last.
+fn examined(alloc: Global, formula: &Formula, whole: &Formula, answer: Answer) -> Result<Verdict> {
+    match answer {
+        Answer::Sat(values) => {
+            ensure!(satisfies(whole, &values), "no model");
+            Ok(Verdict::Sat)
+        }
+        Answer::Unsat(refutation) => Ok(Verdict::Unsat(refutation_steps(
+            alloc,
+            whole,
+            &refutation,
+        )?)),
+        Answer::Spent(trail) => Ok(Verdict::Spent(trail_steps(alloc, formula, trail)?)),
+    }
+}
+
+/// How many conflicts a question may have, and what it assumes.
+#[derive(Drop)]
+struct Question {
+    conflicts: u32,
+    assume: Vec<Lit>,
+}
+
+/// The question of a line: `LITERAL .. 0`, with the usual number of conflicts, or `ask CONFLICTS LITERAL .. 0`.
+fn read_question(alloc: Global, line: &str, usual: u32) -> Result<Question> {
+    let (conflicts, assume) = match line.strip_prefix("ask ") {
+        Some(rest) => {
+            let (count, assume) = rest.split_once(' ').ok_or(anyhow!("no question"))?;
+            (count.parse::<u32>()?, assume)
+        }
+        None => (usual, line),
+    };
+    Ok(Question {
+        conflicts,
+        assume: formulas::literals(alloc, assume)?,
+    })
+}
+
+/// The formula, and the questions on the lines after it, or one that assumes nothing where there are none.
+fn read_questions(alloc: Global, text: &str, usual: u32) -> Result<(Formula, Vec<Question>)> {
+    let mut questions = Vec::new(alloc);
+    let (formula, rest) = formulas::read_formula(alloc, text)?;
+    for line in rest {
+        questions.push(read_question(alloc, line, usual)?)?;
+    }
+    if questions.is_empty() {
+        questions.push(read_question(alloc, "0", usual)?)?;
+    }
+    Ok((formula, questions))
+}
+
+fn solver_of(alloc: Global, formula: &Formula) -> Result<Solver> {
+    let mut solver = Solver::new(alloc);
+    for index in 0..formula.len() {
+        solver.add(Clause::from_vec(formula.clause(index).to_vec(alloc)?))?;
+    }
+    Ok(solver)
+}
+
+fn asked(
+    alloc: Global,
+    solver: &mut Solver,
+    formula: &Formula,
+    question: &Question,
+) -> Result<Verdict> {
+    let answer = solver.solve(alloc, &question.assume, question.conflicts)?;
+    let whole = with_units(alloc, formula, &question.assume)?;
+    examined(alloc, formula, &whole, answer)
+}
+
+/// Prints the answers of one solver to all questions, in order: `sat`, or `unsat` or `spent` with the number of steps.
+pub fn solve(rt: &impl Print, alloc: Global, text: &str, conflicts: u32) -> Result<()> {
+    let (formula, questions) = read_questions(alloc, text, conflicts)?;
+    let mut solver = solver_of(alloc, &formula)?;
+    for question in &questions {
+        match asked(alloc, &mut solver, &formula, question)? {
+            Verdict::Sat => println!(rt; "sat")?,
+            Verdict::Unsat(steps) => println!(rt; "unsat {steps}")?,
+            Verdict::Spent(trail) => println!(rt; "spent {}", trail.steps().len())?,
+        }
+    }
+    Ok(())
+}
+
+/// Whether no two steps have the same clause.
+fn are_different(steps: &Steps) -> bool {
+    for index in 0..steps.len() {
+        for earlier in 0..index {
+            if steps.step(earlier).clause == steps.step(index).clause {
+                return false;
+            }
+        }
+    }
+    true
+}
+
+/// The answers to a table's row: `sat`, `unsat`, or `spent` with the number of steps, of which no two are the same.
+pub fn answer(alloc: Global, row: &str) -> Result<String> {
+    let (formula, questions) = read_questions(alloc, row, 0)?;
+    let mut solver = solver_of(alloc, &formula)?;
+    let mut out = String::new(alloc);
+    for question in &questions {
+        match asked(alloc, &mut solver, &formula, question)? {
+            Verdict::Sat => writeln!(&mut out, "sat")?,
+            Verdict::Unsat(_) => writeln!(&mut out, "unsat")?,
+            Verdict::Spent(trail) => {
+                ensure!(are_different(trail.steps()), "a clause is learnt twice");
+                writeln!(&mut out, "spent {}", trail.steps().len())?;
+            }
+        }
+    }
+    Ok(out)
+}

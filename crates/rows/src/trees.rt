@@ -1,0 +1,83 @@
+//! Sources, answered by the text of their syntax tree, which is that of `tree_text`. A source that no tree derives is
+//! answered by `fault NAME K`, where K is the number of a token, counted from 0, and one that isn't tokens by
+//! `lexical NAME AT`, where AT is an offset in bytes.
+use anyhow::{Result, anyhow};
+use bit_words::Bytes;
+use c_lexer::{LexFault, Tokens, lex};
+use c_parser::ParseFault;
+use c_parser::unit::parse;
+use std::alloc::{AllocError, Global};
+use tree_text::{placed_text, unit_text};
+
+/// The most bytes that a source may have.
+const LONGEST: usize = 8_388_608;
+
+fn bytes_of(text: String) -> Bytes {
+    Bytes::from_vec(text.into_bytes())
+}
+
+fn lexical(alloc: Global, fault: LexFault) -> Result<Bytes> {
+    let (name, at) = match fault {
+        LexFault::BadByte(at) => ("BadByte", at),
+        LexFault::OpenText(at) => ("OpenText", at),
+        LexFault::WideNumber(at) => ("WideNumber", at),
+        LexFault::BadConstant(at) => ("BadConstant", at),
+        LexFault::BadDirective(at) => ("BadDirective", at),
+        LexFault::Memory => return Err(anyhow!(AllocError)),
+    };
+    Ok(bytes_of(format!(in alloc; "lexical {name} {at}\n")?))
+}
+
+fn syntactic(alloc: Global, fault: ParseFault) -> Result<Bytes> {
+    let (name, token) = match fault {
+        ParseFault::Syntax(token) => ("Syntax", token),
+        ParseFault::TooDeep(token) => ("TooDeep", token),
+        ParseFault::Memory => return Err(anyhow!(AllocError)),
+    };
+    Ok(bytes_of(format!(in alloc; "fault {name} {token}\n")?))
+}
+
+fn tree_of(alloc: Global, tokens: &Tokens) -> Result<Bytes> {
+    match parse(alloc, tokens) {
+        Ok(unit) => Ok(unit_text(alloc, unit.externals.as_slice())?),
+        Err(fault) => syntactic(alloc, fault),
+    }
+}
+
+/// The text of a source's tree, or of the fault for which it has none.
+pub fn text_of(alloc: Global, source: &[u8]) -> Result<Bytes> {
+    if LONGEST < source.len() {
+        return Err(anyhow!("the source is too long"));
+    }
+    match lex(alloc, "source", source) {
+        Ok(tokens) => tree_of(alloc, &tokens),
+        Err(fault) => lexical(alloc, fault),
+    }
+}
+
+/// The text of a row's tree, or its fault.
+pub fn answer(alloc: Global, row: &str) -> Result<String> {
+    let text = text_of(alloc, row.as_bytes())?;
+    Ok(String::from_utf8_lossy(alloc, text.as_slice())?)
+}
+
+/// The name of a row's fault.
+pub fn answer_fault(alloc: Global, row: &str) -> Result<String> {
+    let answer = answer(alloc, row)?;
+    let mut words = answer.split(' ');
+    let word = words.next().unwrap_or("");
+    let name = words.next().unwrap_or("");
+    Ok(format!(in alloc; "{word} {name}\n")?)
+}
+
+/// The text of a row's tree, with the places of its nodes.
+pub fn answer_placed(alloc: Global, row: &str) -> Result<String> {
+    let source = row.as_bytes();
+    if LONGEST < source.len() {
+        return Err(anyhow!("the source is too long"));
+    }
+    let tokens = lex(alloc, "source", source)?;
+    let unit = parse(alloc, &tokens)?;
+    let text = placed_text(alloc, unit.externals.as_slice())?;
+    Ok(String::from_utf8_lossy(alloc, text.as_slice())?)
+}
