@@ -106,6 +106,14 @@ expect 'a log one byte beyond' 7 nothing long_log ./program diagnose p.c long.lo
 # Pipes that are fed slowly, and files that change once the program runs: it waits at the pipe until the source comes.
 mkfifo pipe
 report pipe >found_pipe
+# Lets go of a feeder whose pipe nobody read.
+let_go() {
+    while kill -0 "$1" 2>/dev/null; do
+        exec 5<>pipe
+        exec 5<&-
+        sleep 0.1
+    done
+}
 slowly() {
     (
         exec >pipe
@@ -113,15 +121,23 @@ slowly() {
         sleep 0.3
         tail -c "+$(($2 + 1))" "$1"
     ) 2>/dev/null &
+    local feeder=$! status
     ./program diagnose "${@:3}"
+    status=$?
+    let_go "$feeder"
+    return "$status"
 }
 changed() {
     (
         exec 3>pipe
         eval "$1"
         cat p.c >&3
-    ) &
+    ) 2>/dev/null &
+    local feeder=$! status
     ./program diagnose pipe "$2"
+    status=$?
+    let_go "$feeder"
+    return "$status"
 }
 expect 'a source that comes slowly' 0 found_pipe nothing slowly p.c 20 pipe p.log
 expect 'a log that comes slowly' 0 found nothing slowly p.log 1 p.c pipe
