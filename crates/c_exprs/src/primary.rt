@@ -1,9 +1,9 @@
 //! Primary expressions (C99 6.5.1), and operators before an operand (C99 6.5.3, 6.5.4).
-ghost use Rattle.std.specs.Prelude.{◌≡◌, ◌≤◌, ◌<◌, ◌+◌, IfOk, suc};
+ghost use Rattle.std.specs.Prelude.{◌<◌, ◌+◌};
 ghost use Rattle.c_grammar.specs.Reading as spec;
 ghost use Rattle.c_grammar.specs.Reading.{rules};
 ghost use Rattle.c_exprs.specs.Below.{ReachesExpr};
-ghost use Rattle.c_exprs.specs.Cursor.{here, Gives};
+ghost use Rattle.c_exprs.specs.Reads.{ReadsExpr};
 
 use crate::below::Below;
 use crate::cursor::Cursor;
@@ -32,10 +32,10 @@ impl<
     /// An expression in parentheses, after `(`.
     #[tactic(auto, unfolding(c_grammar::specs::Reading::parenthesized_at))]
     pub fn parenthesized(&self, c: &mut Cursor, at: u32) -> Result<FoundExpr, ParseFault>
-        requires exprs { ReachesExpr self.now.source self.now.height (E.pre self.now.expr) (E.post self.now.expr) }
+        requires exprs { ReachesExpr E.Fn self.now.source self.now.height self.now.expr }
         requires small { self.now.height < 500 }
-        ensures reads { Gives (λ f. (f.tree, here self.now.source c.new)) result (spec.parenthesized_at (rules self.now.height) at (here self.now.source c.old)) }
-        ensures low { IfOk result (λ f. f.height ≤ self.now.height + 1) }
+        ensures { ReadsExpr self.now.source c.old c.new result
+            (spec.parenthesized_at (rules self.now.height) at) (self.now.height + 1) }
     {
         let inner = self.expr(c, 16)?;
         self.source.expect(c, Punctuator::RightParen)?;
@@ -49,8 +49,7 @@ impl<
         at: u32,
         first: Shared<Bytes>,
     ) -> Result<FoundExpr, ParseFault>
-        ensures reads { Gives (λ f. (f.tree, here self.now.source c.new)) result (spec.literal_at at first (here self.now.source c.old)) }
-        ensures low { IfOk result (λ f. f.height ≤ 1) }
+        ensures { ReadsExpr self.now.source c.old c.new result (spec.literal_at at first) 1 }
     {
         let pieces = self.source.literals(self.alloc, c, first)?;
         Ok(expr::string_literal(at, pieces))
@@ -59,8 +58,7 @@ impl<
     /// A name that is no typedef name; it was taken.
     fn identifier(&self, c: &Cursor, at: u32, name: &Name) -> Result<FoundExpr, ParseFault>
         requires taken { 0 < c.now.position }
-        ensures reads { Gives (λ f. (f.tree, here self.now.source c.now)) result (spec.identifier_at at name.now (here self.now.source c.now)) }
-        ensures low { IfOk result (λ f. f.height ≤ 1) }
+        ensures { ReadsExpr self.now.source c.now c.now result (spec.identifier_at at name.now) 1 }
     {
         if c.names.is_typedef(self.source.file, name.get().as_slice()) {
             return Err(ParseFault::Syntax(c.position - 1));
@@ -70,11 +68,11 @@ impl<
 
     /// A primary expression, of which this first token was taken.
     fn primary_by(&self, c: &mut Cursor, at: u32, kind: &TokenKind) -> Result<FoundExpr, ParseFault>
-        requires exprs { ReachesExpr self.now.source self.now.height (E.pre self.now.expr) (E.post self.now.expr) }
+        requires exprs { ReachesExpr E.Fn self.now.source self.now.height self.now.expr }
         requires small { self.now.height < 500 }
         requires taken { 0 < c.old.position }
-        ensures reads { Gives (λ f. (f.tree, here self.now.source c.new)) result (spec.primary_by (rules self.now.height) kind.now at (here self.now.source c.old)) }
-        ensures low { IfOk result (λ f. f.height ≤ self.now.height + 1) }
+        ensures { ReadsExpr self.now.source c.old c.new result
+            (spec.primary_by (rules self.now.height) kind.now at) (self.now.height + 1) }
     {
         match kind {
             TokenKind::Integer(constant) => Ok(expr::integer(at, *constant)),
@@ -93,10 +91,10 @@ impl<
 
     /// A primary expression.
     pub fn primary(&self, c: &mut Cursor) -> Result<FoundExpr, ParseFault>
-        requires exprs { ReachesExpr self.now.source self.now.height (E.pre self.now.expr) (E.post self.now.expr) }
+        requires exprs { ReachesExpr E.Fn self.now.source self.now.height self.now.expr }
         requires small { self.now.height < 500 }
-        ensures reads { Gives (λ f. (f.tree, here self.now.source c.new)) result (spec.primary_in (rules self.now.height) (here self.now.source c.old).0 (here self.now.source c.old).1) }
-        ensures low { IfOk result (λ f. f.height ≤ self.now.height + 1) }
+        ensures { ReadsExpr self.now.source c.old c.new result
+            (λ s. spec.primary_in (rules self.now.height) s.0 s.1) (self.now.height + 1) }
     {
         match self.source.tokens.get(c.position) {
             Some(token) => {
@@ -110,10 +108,10 @@ impl<
     /// A unary operator and its operand.
     #[tactic(auto, unfolding(c_grammar::specs::Reading::unary_at))]
     pub fn unary(&self, c: &mut Cursor) -> Result<FoundExpr, ParseFault>
-        requires exprs { ReachesExpr self.now.source self.now.height (E.pre self.now.expr) (E.post self.now.expr) }
+        requires exprs { ReachesExpr E.Fn self.now.source self.now.height self.now.expr }
         requires small { self.now.height < 500 }
-        ensures reads { Gives (λ f. (f.tree, here self.now.source c.new)) result (spec.unary_at (rules self.now.height) (here self.now.source c.old)) }
-        ensures low { IfOk result (λ f. f.height ≤ self.now.height + 1) }
+        ensures { ReadsExpr self.now.source c.old c.new result
+            (spec.unary_at (rules self.now.height)) (self.now.height + 1) }
     {
         let (operator, at) = self.source.unary(c)?;
         let operand = self.expr(c, operand_rank(operator))?;

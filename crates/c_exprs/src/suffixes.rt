@@ -1,9 +1,9 @@
 //! Direct declarators, and what stands behind them (C99 6.7.5, 6.7.6).
-ghost use Rattle.std.specs.Prelude.{◌≡◌, ◌≤◌, ◌<◌, ◌+◌, IfOk, length, suc};
+ghost use Rattle.std.specs.Prelude.{◌≤◌, ◌<◌, ◌+◌, length, suc};
 ghost use Rattle.c_grammar.specs.Reading as spec;
 ghost use Rattle.c_grammar.specs.Reading.{rules};
-ghost use Rattle.c_exprs.specs.Below.{ReachesExpr, ReachesSpecifier, ReachesDeclarator};
-ghost use Rattle.c_exprs.specs.Cursor.{here, Gives};
+ghost use Rattle.c_exprs.specs.Below.{Reaches, ReachesDeclarator};
+ghost use Rattle.c_exprs.specs.Reads.{ReadsDeclarator};
 
 use crate::below::Below;
 use crate::cursor::Cursor;
@@ -30,8 +30,7 @@ impl<
 > Below<'a, E, S, D> {
     /// No name, where there may be none.
     pub fn omitted(&self, c: &Cursor, place: DeclaratorPlace) -> Result<FoundDeclarator, ParseFault>
-        ensures reads { Gives (λ f. (f.tree, here self.now.source c.now)) result (spec.omitted_at place (here self.now.source c.now)) }
-        ensures low { IfOk result (λ f. f.height ≤ self.now.height + 1) }
+        ensures { ReadsDeclarator self.now.source c.now c.now result (spec.omitted_at place) (self.now.height + 1) }
     {
         if may_omit(place) {
             Ok(declarator::omitted())
@@ -46,10 +45,10 @@ impl<
         c: &mut Cursor,
         place: DeclaratorPlace,
     ) -> Result<FoundDeclarator, ParseFault>
-        requires declarators { ReachesDeclarator self.now.source self.now.height (D.pre self.now.declarator) (D.post self.now.declarator) }
+        requires declarators { ReachesDeclarator D.Fn self.now.source self.now.height self.now.declarator }
         requires small { self.now.height < 500 }
-        ensures reads { Gives (λ f. (f.tree, here self.now.source c.new)) result (spec.direct_in (rules self.now.height) place (here self.now.source c.old).0 (here self.now.source c.old).1) }
-        ensures low { IfOk result (λ f. f.height ≤ self.now.height + 1) }
+        ensures { ReadsDeclarator self.now.source c.old c.new result
+            (λ s. spec.direct_in (rules self.now.height) place s.0 s.1) (self.now.height + 1) }
     {
         match self.source.tokens.get(c.position) {
             Some(token) => match &token.kind {
@@ -82,13 +81,11 @@ impl<
         place: DeclaratorPlace,
         before: FoundDeclarator,
     ) -> Result<FoundDeclarator, ParseFault>
-        requires exprs { ReachesExpr self.now.source self.now.height (E.pre self.now.expr) (E.post self.now.expr) }
-        requires specifiers { ReachesSpecifier self.now.source self.now.height (S.pre self.now.specifier) (S.post self.now.specifier) }
-        requires declarators { ReachesDeclarator self.now.source self.now.height (D.pre self.now.declarator) (D.post self.now.declarator) }
+        requires reaches { Reaches E.Fn S.Fn D.Fn self.now }
         requires small { self.now.height < 500 }
         requires low_before { before.height ≤ self.now.height + 1 }
-        ensures reads { Gives (λ f. (f.tree, here self.now.source c.new)) result (spec.suffix_in (rules self.now.height) place before.tree (here self.now.source c.old).0 (here self.now.source c.old).1) }
-        ensures low { IfOk result (λ f. f.height ≤ self.now.height + 2) }
+        ensures { ReadsDeclarator self.now.source c.old c.new result
+            (λ s. spec.suffix_in (rules self.now.height) place before.tree s.0 s.1) (self.now.height + 2) }
     {
         match self.source.tokens.get(c.position) {
             Some(token) => match &token.kind {
@@ -113,13 +110,12 @@ impl<
         place: DeclaratorPlace,
         before: FoundDeclarator,
     ) -> Result<FoundDeclarator, ParseFault>
-        requires exprs { ReachesExpr self.now.source self.now.height (E.pre self.now.expr) (E.post self.now.expr) }
-        requires specifiers { ReachesSpecifier self.now.source self.now.height (S.pre self.now.specifier) (S.post self.now.specifier) }
-        requires declarators { ReachesDeclarator self.now.source self.now.height (D.pre self.now.declarator) (D.post self.now.declarator) }
+        requires reaches { Reaches E.Fn S.Fn D.Fn self.now }
         requires small { self.now.height < 500 }
         requires low_before { before.height ≤ self.now.height + 1 }
-        ensures reads { Gives (λ f. (f.tree, here self.now.source c.new)) result (spec.suffixes_at (rules self.now.height) (suc self.now.height) place (suc (length (here self.now.source c.old).0)) before.tree (here self.now.source c.old)) }
-        ensures low { IfOk result (λ f. f.height ≤ self.now.height + 1) }
+        ensures { ReadsDeclarator self.now.source c.old c.new result
+            (λ s. spec.suffixes_at (rules self.now.height) (suc self.now.height) place (suc (length s.0)) before.tree s)
+            (self.now.height + 1) }
     {
         let mut all = before;
         let mut left = self.source.turns(c);
@@ -143,12 +139,10 @@ impl<
         c: &mut Cursor,
         place: DeclaratorPlace,
     ) -> Result<FoundDeclarator, ParseFault>
-        requires exprs { ReachesExpr self.now.source self.now.height (E.pre self.now.expr) (E.post self.now.expr) }
-        requires specifiers { ReachesSpecifier self.now.source self.now.height (S.pre self.now.specifier) (S.post self.now.specifier) }
-        requires declarators { ReachesDeclarator self.now.source self.now.height (D.pre self.now.declarator) (D.post self.now.declarator) }
+        requires reaches { Reaches E.Fn S.Fn D.Fn self.now }
         requires small { self.now.height < 500 }
-        ensures reads { Gives (λ f. (f.tree, here self.now.source c.new)) result (spec.suffixed_at (rules self.now.height) (suc self.now.height) place (here self.now.source c.old)) }
-        ensures low { IfOk result (λ f. f.height ≤ self.now.height + 1) }
+        ensures { ReadsDeclarator self.now.source c.old c.new result
+            (spec.suffixed_at (rules self.now.height) (suc self.now.height) place) (self.now.height + 1) }
     {
         let direct = self.direct(c, place)?;
         self.suffixes(c, place, direct)
@@ -161,12 +155,10 @@ impl<
         c: &mut Cursor,
         place: DeclaratorPlace,
     ) -> Result<FoundDeclarator, ParseFault>
-        requires exprs { ReachesExpr self.now.source self.now.height (E.pre self.now.expr) (E.post self.now.expr) }
-        requires specifiers { ReachesSpecifier self.now.source self.now.height (S.pre self.now.specifier) (S.post self.now.specifier) }
-        requires declarators { ReachesDeclarator self.now.source self.now.height (D.pre self.now.declarator) (D.post self.now.declarator) }
+        requires reaches { Reaches E.Fn S.Fn D.Fn self.now }
         requires small { self.now.height < 500 }
-        ensures reads { Gives (λ f. (f.tree, here self.now.source c.new)) result (spec.declarator_by (rules self.now.height) (suc self.now.height) place (here self.now.source c.old)) }
-        ensures low { IfOk result (λ f. f.height ≤ self.now.height + 1) }
+        ensures { ReadsDeclarator self.now.source c.old c.new result
+            (spec.declarator_by (rules self.now.height) (suc self.now.height) place) (self.now.height + 1) }
     {
         if self.source.begins(c, Punctuator::Star) {
             self.pointer(c, place)

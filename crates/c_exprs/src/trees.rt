@@ -1,7 +1,7 @@
 //! Trees of at most a height, in which expressions, specifiers and declarators stand in one another.
-ghost use Rattle.std.specs.Prelude.{◌≡◌, ◌≤◌};
+ghost use Rattle.std.specs.Prelude.{◌≤◌};
 ghost use Rattle.c_grammar.specs.Reading.{rules, specification_at};
-ghost use Rattle.c_exprs.specs.Cursor.{here, Gives};
+ghost use Rattle.c_exprs.specs.Reads.{Reads};
 
 use crate::below::Below;
 use crate::cursor::{Cursor, Source};
@@ -24,7 +24,7 @@ impl<'a> Trees<'a> {
     pub fn expr(&self, c: &mut Cursor, rank: u32) -> Result<FoundExpr, ParseFault>
         requires small { self.now.height ≤ 256 }
         requires known { rank ≤ 16 }
-        ensures { Gives (λ f. (f.tree, here self.now.source c.new)) result ((rules self.now.height).expr rank (here self.now.source c.old)) }
+        ensures { Reads (λ f. f.tree) self.now.source c.old c.new result ((rules self.now.height).expr rank) }
     {
         expr_of(
             self.alloc,
@@ -39,7 +39,7 @@ impl<'a> Trees<'a> {
     /// Specifiers that name one type (C99 6.7.2).
     pub fn specification(&self, c: &mut Cursor) -> Result<FoundSpecifiers, ParseFault>
         requires small { self.now.height ≤ 256 }
-        ensures { Gives (λ f. (f.trees, here self.now.source c.new)) result (specification_at (rules self.now.height) (here self.now.source c.old)) }
+        ensures { Reads (λ f. f.trees) self.now.source c.old c.new result (specification_at (rules self.now.height)) }
     {
         let level = Below {
             alloc: self.alloc,
@@ -59,7 +59,7 @@ impl<'a> Trees<'a> {
         place: DeclaratorPlace,
     ) -> Result<FoundDeclarator, ParseFault>
         requires small { self.now.height ≤ 256 }
-        ensures { Gives (λ f. (f.tree, here self.now.source c.new)) result ((rules self.now.height).declarator place (here self.now.source c.old)) }
+        ensures { Reads (λ f. f.tree) self.now.source c.old c.new result ((rules self.now.height).declarator place) }
     {
         declarator_of(
             self.alloc,
