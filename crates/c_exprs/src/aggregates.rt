@@ -28,7 +28,7 @@ impl<
         DeclaratorPlace,
     ) -> Result<FoundDeclarator, ParseFault>,
 > Below<'a, E, S, D> {
-    /// Declarations of members up to `}`.
+    /// `struct-declaration-list: { struct-declaration }` (C99 6.7.2.1), up to `}`.
     pub fn members(&self, c: &mut Cursor) -> Result<FoundMembers, ParseFault>
         requires reaches { Reaches E.Fn S.Fn D.Fn self.now }
         ensures { ReadsLow (λ f. f.trees) (λ f. f.height) self.now.source c.old c.new result
@@ -47,7 +47,8 @@ impl<
         Err(ParseFault::Syntax(c.position))
     }
 
-    /// A structure or union with its members, from `{` on.
+    /// `struct-or-union-specifier: struct-or-union [ identifier ] { struct-declaration-list }` (C99 6.7.2.1), from
+    /// `{` on.
     #[tactic(auto, unfolding(c_grammar::specs::Reading::aggregate_at))]
     pub fn aggregate(
         &self,
@@ -67,7 +68,8 @@ impl<
         Ok(specifier::aggregate(at, kind, tag, members.trees, members.height))
     }
 
-    /// After the word `struct` or `union`.
+    /// `struct-or-union-specifier: struct-or-union ( [ identifier ] { struct-declaration-list } | identifier )`
+    /// (C99 6.7.2.1), after the word `struct` or `union`.
     #[tactic(auto, unfolding(c_grammar::specs::Reading::tagged_at))]
     pub fn tagged(
         &self,

@@ -66,7 +66,8 @@ impl<
         DeclaratorPlace,
     ) -> Result<FoundDeclarator, ParseFault>,
 > Below<'a, E, S, D> {
-    /// These arguments, and those behind a comma.
+    /// `argument-expression-list: assignment-expression { , assignment-expression }` (C99 6.5.2), behind the first:
+    /// these arguments, and those behind a comma.
     fn more_arguments(
         &self,
         c: &mut Cursor,
@@ -92,7 +93,7 @@ impl<
         Err(ParseFault::Syntax(c.position))
     }
 
-    /// Arguments, or none before `)`.
+    /// `[ argument-expression-list ]` (C99 6.5.2): arguments, or none before `)`.
     #[tactic(auto, unfolding(c_grammar::specs::Reading::arguments_at))]
     fn arguments(&self, c: &mut Cursor) -> Result<FoundArguments, ParseFault>
         requires exprs { ReachesExpr E.Fn self.now.source self.now.height self.now.expr }
@@ -108,7 +109,7 @@ impl<
         self.more_arguments(c, first)
     }
 
-    /// A call, after `(`.
+    /// `postfix-expression: postfix-expression ( [ argument-expression-list ] )` (C99 6.5.2.2), after `(`.
     #[tactic(auto, unfolding(c_grammar::specs::Reading::call_at))]
     pub fn call(&self, c: &mut Cursor, at: u32, left: FoundExpr) -> Result<FoundExpr, ParseFault>
         requires exprs { ReachesExpr E.Fn self.now.source self.now.height self.now.expr }

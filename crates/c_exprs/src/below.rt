@@ -38,7 +38,7 @@ impl<
         DeclaratorPlace,
     ) -> Result<FoundDeclarator, ParseFault>,
 > Below<'a, E, S, D> {
-    /// An expression that binds at most so loosely.
+    /// An expression at a rank of the grammar (C99 6.5), by the function that is handed in.
     pub fn expr(&self, c: &mut Cursor, rank: u32) -> Result<FoundExpr, ParseFault>
         requires exprs { ReachesExpr E.Fn self.now.source self.now.height self.now.expr }
         requires known { rank ≤ 16 }
@@ -54,7 +54,8 @@ impl<
         )
     }
 
-    /// A declaration specifier.
+    /// `declaration-specifier: storage-class-specifier | type-specifier | type-qualifier | function-specifier`
+    /// (C99 6.7), by the function that is handed in.
     pub fn specifier(&self, c: &mut Cursor) -> Result<FoundSpecifier, ParseFault>
         requires specifiers { ReachesSpecifier S.Fn self.now.source self.now.height self.now.specifier }
         ensures { ReadsSpecifier self.now.source c.old c.new result
@@ -69,7 +70,8 @@ impl<
         )
     }
 
-    /// A declarator at such a place.
+    /// `declarator: [ pointer ] direct-declarator` (C99 6.7.5), or an abstract one at its places, by the function
+    /// that is handed in.
     pub fn declarator(
         &self,
         c: &mut Cursor,

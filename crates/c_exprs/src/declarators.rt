@@ -28,7 +28,7 @@ impl<
         DeclaratorPlace,
     ) -> Result<FoundDeclarator, ParseFault>,
 > Below<'a, E, S, D> {
-    /// A pointer (C99 6.7.5.1).
+    /// `pointer: * [ type-qualifier-list ] [ pointer ]`, and the declarator behind it (C99 6.7.5.1).
     #[tactic(auto, unfolding(c_grammar::specs::Reading::pointer_at))]
     pub fn pointer(
         &self,
@@ -46,7 +46,7 @@ impl<
         Ok(declarator::pointer(self.alloc, at, qualifiers, target)?)
     }
 
-    /// The length of an array, where something else than `]` comes next.
+    /// `[ assignment-expression ]` before `]` (C99 6.7.5.2): the length of an array.
     #[tactic(auto, unfolding(c_grammar::specs::Reading::length_at))]
     pub fn length(&self, c: &mut Cursor) -> Result<FoundOptional, ParseFault>
         requires exprs { ReachesExpr E.Fn self.now.source self.now.height self.now.expr }
@@ -66,7 +66,8 @@ impl<
         })
     }
 
-    /// After `[` (C99 6.7.5.2).
+    /// `direct-declarator: direct-declarator [ [ static ] [ type-qualifier-list ] [ assignment-expression ] ]`
+    /// (C99 6.7.5.2), after the `[`.
     #[tactic(auto, unfolding(c_grammar::specs::Reading::array_at))]
     pub fn array(
         &self,
@@ -86,7 +87,7 @@ impl<
         Ok(declarator::array(self.alloc, at, element, words, length)?)
     }
 
-    /// A declarator in parentheses, after `(`.
+    /// `direct-declarator: ( declarator )` (C99 6.7.5), after `(`.
     #[tactic(auto, unfolding(c_grammar::specs::Reading::grouped_declarator_at))]
     pub fn grouped_declarator(
         &self,

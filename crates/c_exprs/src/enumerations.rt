@@ -89,7 +89,8 @@ impl<
         DeclaratorPlace,
     ) -> Result<FoundDeclarator, ParseFault>,
 > Below<'a, E, S, D> {
-    /// These enumerators, and those behind a comma, up to `}`.
+    /// `enumerator-list: enumerator { , enumerator } [ , ]` (C99 6.7.2.2), behind the first: these enumerators, and
+    /// those behind a comma, up to `}`.
     pub fn more_enumerators(
         &self,
         c: &mut Cursor,
@@ -119,7 +120,7 @@ impl<
         Err(ParseFault::Syntax(c.position))
     }
 
-    /// An enumeration with its enumerators, from `{` on.
+    /// `enum-specifier: enum [ identifier ] { enumerator-list [ , ] }` (C99 6.7.2.2), from `{` on.
     #[tactic(auto, unfolding(c_grammar::specs::Reading::enumeration_at))]
     pub fn enumeration(
         &self,
@@ -140,7 +141,8 @@ impl<
         Ok(specifier::enumeration(at, tag, all.trees, all.trailing, all.height))
     }
 
-    /// After the word `enum`.
+    /// `enum-specifier: enum ( [ identifier ] { enumerator-list [ , ] } | identifier )` (C99 6.7.2.2), after the
+    /// word `enum`.
     #[tactic(auto, unfolding(c_grammar::specs::Reading::enum_at))]
     pub fn enumerated(&self, c: &mut Cursor, at: u32) -> Result<FoundSpecifier, ParseFault>
         requires exprs { ReachesExpr E.Fn self.now.source self.now.height self.now.expr }

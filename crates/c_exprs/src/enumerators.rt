@@ -40,7 +40,7 @@ impl<
         DeclaratorPlace,
     ) -> Result<FoundDeclarator, ParseFault>,
 > Below<'a, E, S, D> {
-    /// The value behind `=`, if there is one.
+    /// `[ = constant-expression ]` (C99 6.7.2.2): the value of an enumerator, if there is one.
     #[tactic(auto, unfolding(c_grammar::specs::Reading::value_at))]
     pub fn value(&self, c: &mut Cursor) -> Result<FoundOptional, ParseFault>
         requires exprs { ReachesExpr E.Fn self.now.source self.now.height self.now.expr }
@@ -61,7 +61,7 @@ impl<
         })
     }
 
-    /// An enumerator, whose name is then in scope.
+    /// `enumerator: enumeration-constant [ = constant-expression ]` (C99 6.7.2.2); its name is in scope behind it.
     #[tactic(auto, unfolding(c_grammar::specs::Reading::enumerator_at))]
     pub fn enumerator(&self, c: &mut Cursor) -> Result<FoundEnumerator, ParseFault>
         requires exprs { ReachesExpr E.Fn self.now.source self.now.height self.now.expr }

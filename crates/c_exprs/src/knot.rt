@@ -13,7 +13,7 @@ use c_nodes::{FoundDeclarator, FoundExpr, FoundSpecifier};
 use c_scope::FileNames;
 use std::alloc::Global;
 
-/// An expression of at most this height that binds at most so loosely (C99 6.5).
+/// An expression at a rank of the grammar, of at most this height (C99 6.5).
 #[cycle(trees)]
 pub fn expr_of(
     alloc: Global,
@@ -41,7 +41,8 @@ pub fn expr_of(
     below.read_expr(c, rank)
 }
 
-/// A declaration specifier of at most this height (C99 6.7).
+/// `declaration-specifier: storage-class-specifier | type-specifier | type-qualifier | function-specifier`
+/// (C99 6.7), of at most this height.
 #[cycle(trees)]
 pub fn specifier_of(
     alloc: Global,
@@ -67,7 +68,7 @@ pub fn specifier_of(
     below.read_specifier(c)
 }
 
-/// A declarator of at most this height at such a place (C99 6.7.5).
+/// `declarator: [ pointer ] direct-declarator` (C99 6.7.5), or an abstract one at its places, of at most this height.
 #[cycle(trees)]
 pub fn declarator_of(
     alloc: Global,

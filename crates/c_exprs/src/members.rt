@@ -31,7 +31,7 @@ impl<
         DeclaratorPlace,
     ) -> Result<FoundDeclarator, ParseFault>,
 > Below<'a, E, S, D> {
-    /// A bit-field, from `:` on.
+    /// `struct-declarator: [ declarator ] : constant-expression` (C99 6.7.2.1), from `:` on: a bit-field.
     #[tactic(auto, unfolding(c_grammar::specs::Reading::bits_at))]
     pub fn bits(&self, c: &mut Cursor, name: FoundFieldName) -> Result<FoundField, ParseFault>
         requires exprs { ReachesExpr E.Fn self.now.source self.now.height self.now.expr }
@@ -44,7 +44,7 @@ impl<
         Ok(pieces::bits(self.alloc, at, name, width)?)
     }
 
-    /// One member.
+    /// `struct-declarator: declarator | [ declarator ] : constant-expression` (C99 6.7.2.1): one member.
     #[tactic(auto, unfolding(c_grammar::specs::Reading::field_at))]
     pub fn field(&self, c: &mut Cursor) -> Result<FoundField, ParseFault>
         requires reaches { Reaches E.Fn S.Fn D.Fn self.now }
@@ -62,7 +62,8 @@ impl<
         Ok(pieces::plain(self.alloc, found)?)
     }
 
-    /// These members, and those behind a comma.
+    /// `struct-declarator-list: struct-declarator { , struct-declarator }` (C99 6.7.2.1), behind the first: these
+    /// members, and those behind a comma.
     pub fn more_fields(&self, c: &mut Cursor, first: FoundFields) -> Result<FoundFields, ParseFault>
         requires reaches { Reaches E.Fn S.Fn D.Fn self.now }
         requires low_first { first.height ≤ self.now.height }
@@ -84,7 +85,7 @@ impl<
         Err(ParseFault::Syntax(c.position))
     }
 
-    /// The members that a declaration declares, or none.
+    /// `[ struct-declarator-list ]` (C99 6.7.2.1): the members that a declaration declares, or none.
     #[tactic(auto, unfolding(c_grammar::specs::Reading::fields_at))]
     pub fn fields(&self, c: &mut Cursor) -> Result<FoundFields, ParseFault>
         requires reaches { Reaches E.Fn S.Fn D.Fn self.now }
@@ -100,7 +101,7 @@ impl<
         self.more_fields(c, first)
     }
 
-    /// A declaration of members.
+    /// `struct-declaration: specifier-qualifier-list [ struct-declarator-list ] ;` (C99 6.7.2.1).
     #[tactic(auto, unfolding(c_grammar::specs::Reading::member_at))]
     pub fn member_declaration(&self, c: &mut Cursor) -> Result<FoundMember, ParseFault>
         requires reaches { Reaches E.Fn S.Fn D.Fn self.now }

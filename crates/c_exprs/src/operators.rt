@@ -28,7 +28,9 @@ impl<
         DeclaratorPlace,
     ) -> Result<FoundDeclarator, ParseFault>,
 > Below<'a, E, S, D> {
-    /// An operand with the operator that this punctuator is, which was taken, and what follows that.
+    /// `postfix-expression: postfix-expression ( [ .. ] | ( .. ) | . .. | -> .. | ++ | -- )` (C99 6.5.2), or the
+    /// operator and the right operand of a looser expression (C99 6.5.5 to 6.5.17), after the first punctuator of
+    /// it.
     fn extend_by(
         &self,
         c: &mut Cursor,
@@ -59,7 +61,9 @@ impl<
         }
     }
 
-    /// An operand with the operator that comes next, and what follows that.
+    /// `postfix-expression: postfix-expression ( [ .. ] | ( .. ) | . .. | -> .. | ++ | -- )` (C99 6.5.2), or the
+    /// operator and the right operand of a looser expression (C99 6.5.5 to 6.5.17): what follows the operand on its
+    /// left.
     fn extend(&self, c: &mut Cursor, left: FoundExpr) -> Result<FoundExpr, ParseFault>
         requires exprs { ReachesExpr E.Fn self.now.source self.now.height self.now.expr }
         requires small { self.now.height < 500 }
@@ -79,7 +83,8 @@ impl<
         }
     }
 
-    /// Operators of this rank, one after the other, each with all before it as its left operand.
+    /// `additive-expression: multiplicative-expression { ( + | - ) multiplicative-expression }`, and so at each rank
+    /// (C99 6.5.2, 6.5.5 to 6.5.17): the operators of a rank, each with all before it as its left operand.
     pub fn more(&self, c: &mut Cursor, rank: u32, left: FoundExpr) -> Result<FoundExpr, ParseFault>
         requires exprs { ReachesExpr E.Fn self.now.source self.now.height self.now.expr }
         requires small { self.now.height < 500 }

@@ -30,7 +30,8 @@ impl<
         DeclaratorPlace,
     ) -> Result<FoundDeclarator, ParseFault>,
 > Below<'a, E, S, D> {
-    /// A parameter, whose name is then in scope.
+    /// `parameter-declaration: declaration-specifiers ( declarator | [ abstract-declarator ] )` (C99 6.7.5); its
+    /// name is in scope behind it.
     #[tactic(auto, unfolding(c_grammar::specs::Reading::parameter_at))]
     pub fn parameter(&self, c: &mut Cursor) -> Result<FoundParameter, ParseFault>
         requires reaches { Reaches E.Fn S.Fn D.Fn self.now }
@@ -43,7 +44,8 @@ impl<
         Ok(declarator::parameter(self.alloc, specifiers, found)?)
     }
 
-    /// These parameters, and those behind a comma, up to `)` or `...`.
+    /// `parameter-type-list: parameter-declaration { , parameter-declaration } [ , ... ]` (C99 6.7.5), behind the
+    /// first: these parameters, and those behind a comma, up to `)` or `...`.
     pub fn more_parameters(
         &self,
         c: &mut Cursor,
@@ -74,7 +76,7 @@ impl<
         Err(ParseFault::Syntax(c.position))
     }
 
-    /// Parameters, or none before `)`.
+    /// `[ parameter-type-list ]` (C99 6.7.5): parameters, or none before `)`.
     #[tactic(auto, unfolding(c_grammar::specs::Reading::parameters_at))]
     pub fn parameters(&self, c: &mut Cursor) -> Result<FoundParameters, ParseFault>
         requires reaches { Reaches E.Fn S.Fn D.Fn self.now }
@@ -90,7 +92,7 @@ impl<
         self.more_parameters(c, first)
     }
 
-    /// A function, after `(`.
+    /// `direct-declarator: direct-declarator ( [ parameter-type-list ] )` (C99 6.7.5.3), after `(`.
     #[tactic(auto, unfolding(c_grammar::specs::Reading::function_at))]
     pub fn function(
         &self,

@@ -30,7 +30,7 @@ impl<
         DeclaratorPlace,
     ) -> Result<FoundDeclarator, ParseFault>,
 > Below<'a, E, S, D> {
-    /// After `[`.
+    /// `postfix-expression: postfix-expression [ expression ]` (C99 6.5.2.1), after the `[`.
     #[tactic(auto, unfolding(c_grammar::specs::Reading::subscript_at))]
     pub fn subscript(
         &self,
@@ -49,7 +49,8 @@ impl<
         Ok(expr::subscript(self.alloc, at, left, index)?)
     }
 
-    /// After a binary operator.
+    /// `multiplicative-expression: multiplicative-expression ( * | / | % ) cast-expression`, and so at each rank up to
+    /// `logical-OR-expression` (C99 6.5.5 to 6.5.14), after the operator.
     #[tactic(auto, unfolding(c_grammar::specs::Reading::binary_at))]
     pub fn binary(
         &self,
@@ -69,7 +70,7 @@ impl<
         Ok(expr::binary(self.alloc, at, operator, left, right)?)
     }
 
-    /// The two arms of a conditional expression, with `:` between them.
+    /// `expression : conditional-expression` (C99 6.5.15): both arms, with the `:` between them.
     #[tactic(auto, unfolding(crate::specs::Conditional::arms_at))]
     fn arms(&self, c: &mut Cursor) -> Result<(FoundExpr, FoundExpr), ParseFault>
         requires exprs { ReachesExpr E.Fn self.now.source self.now.height self.now.expr }
@@ -83,7 +84,7 @@ impl<
         Ok((positive, negative))
     }
 
-    /// After `?` behind a condition that may stand there.
+    /// `? expression : conditional-expression` (C99 6.5.15), after the `?`, where the condition may stand there.
     #[tactic(auto, unfolding(crate::specs::Conditional::chosen_at))]
     fn choose(&self, c: &mut Cursor, at: u32, left: FoundExpr) -> Result<FoundExpr, ParseFault>
         requires exprs { ReachesExpr E.Fn self.now.source self.now.height self.now.expr }
@@ -96,7 +97,8 @@ impl<
         Ok(expr::conditional(self.alloc, at, left, positive, negative)?)
     }
 
-    /// After `?`.
+    /// `conditional-expression: logical-OR-expression [ ? expression : conditional-expression ]` (C99 6.5.15),
+    /// after `?`.
     #[tactic(auto, using(crate::proofs::Choosing::conditional_none, crate::proofs::Choosing::conditional_goes))]
     pub fn conditional(
         &self,
@@ -116,7 +118,7 @@ impl<
         self.choose(c, at, left)
     }
 
-    /// After `.`.
+    /// `postfix-expression: postfix-expression . identifier` (C99 6.5.2.3), after `.`.
     #[tactic(auto, unfolding(c_grammar::specs::Reading::member_of_at))]
     pub fn member(&self, c: &mut Cursor, at: u32, left: FoundExpr) -> Result<FoundExpr, ParseFault>
         requires small { self.now.height < 500 }
@@ -128,7 +130,7 @@ impl<
         Ok(expr::member(self.alloc, at, member, left)?)
     }
 
-    /// After `->`.
+    /// `postfix-expression: postfix-expression -> identifier` (C99 6.5.2.3), after `->`.
     #[tactic(auto, unfolding(c_grammar::specs::Reading::arrow_at))]
     pub fn arrow(&self, c: &mut Cursor, at: u32, left: FoundExpr) -> Result<FoundExpr, ParseFault>
         requires small { self.now.height < 500 }
@@ -139,7 +141,8 @@ impl<
         Ok(expr::arrow(self.alloc, at, member, left)?)
     }
 
-    /// After `=` or a compound assignment's operator.
+    /// `assignment-expression: unary-expression assignment-operator assignment-expression` (C99 6.5.16), after the
+    /// operator.
     #[tactic(auto, unfolding(c_grammar::specs::Reading::assign_at))]
     pub fn assign(
         &self,
@@ -161,7 +164,7 @@ impl<
         Ok(expr::assign(self.alloc, at, operator, left, value)?)
     }
 
-    /// After `,`.
+    /// `expression: expression , assignment-expression` (C99 6.5.17), after `,`.
     #[tactic(auto, unfolding(c_grammar::specs::Reading::comma_at))]
     pub fn comma(&self, c: &mut Cursor, at: u32, left: FoundExpr) -> Result<FoundExpr, ParseFault>
         requires exprs { ReachesExpr E.Fn self.now.source self.now.height self.now.expr }

@@ -49,7 +49,7 @@ impl<
         DeclaratorPlace,
     ) -> Result<FoundDeclarator, ParseFault>,
 > Below<'a, E, S, D> {
-    /// A type name in parentheses, and the offset of `(`.
+    /// `( type-name )` (C99 6.5.3, 6.5.4): the offset of `(`, and the type name.
     #[tactic(auto, unfolding(c_grammar::specs::Reading::parenthesized_type_at))]
     fn parenthesized_type(&self, c: &mut Cursor) -> Result<(u32, FoundType), ParseFault>
         requires reaches { Reaches E.Fn S.Fn D.Fn self.now }
@@ -62,7 +62,7 @@ impl<
         Ok((at, named))
     }
 
-    /// After the word `sizeof`.
+    /// `unary-expression: sizeof ( unary-expression | ( type-name ) )` (C99 6.5.3.4), after the word `sizeof`.
     #[tactic(auto, unfolding(c_grammar::specs::Reading::sizeof_at))]
     fn size(&self, c: &mut Cursor, at: u32) -> Result<FoundExpr, ParseFault>
         requires reaches { Reaches E.Fn S.Fn D.Fn self.now }
@@ -78,7 +78,7 @@ impl<
         Ok(expr::sizeof_expr(self.alloc, at, operand)?)
     }
 
-    /// `sizeof`, and an operand or a type name in parentheses.
+    /// `unary-expression: sizeof unary-expression | sizeof ( type-name )` (C99 6.5.3.4).
     pub fn sized(&self, c: &mut Cursor) -> Result<FoundExpr, ParseFault>
         requires reaches { Reaches E.Fn S.Fn D.Fn self.now }
         requires small { self.now.height < 500 }
@@ -89,7 +89,7 @@ impl<
         self.size(c, at)
     }
 
-    /// A type name in parentheses, and its operand.
+    /// `cast-expression: ( type-name ) cast-expression` (C99 6.5.4).
     #[tactic(auto, unfolding(c_grammar::specs::Reading::cast_at))]
     pub fn cast(&self, c: &mut Cursor) -> Result<FoundExpr, ParseFault>
         requires reaches { Reaches E.Fn S.Fn D.Fn self.now }

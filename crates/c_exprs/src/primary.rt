@@ -29,7 +29,7 @@ impl<
         DeclaratorPlace,
     ) -> Result<FoundDeclarator, ParseFault>,
 > Below<'a, E, S, D> {
-    /// An expression in parentheses, after `(`.
+    /// `primary-expression: ( expression )` (C99 6.5.1), after `(`.
     #[tactic(auto, unfolding(c_grammar::specs::Reading::parenthesized_at))]
     pub fn parenthesized(&self, c: &mut Cursor, at: u32) -> Result<FoundExpr, ParseFault>
         requires exprs { ReachesExpr E.Fn self.now.source self.now.height self.now.expr }
@@ -42,7 +42,7 @@ impl<
         Ok(expr::parenthesized(self.alloc, at, inner)?)
     }
 
-    /// Adjacent string literals, of which this first one was taken.
+    /// `primary-expression: string-literal { string-literal }` (C99 6.5.1, 5.1.1.2), after the first literal.
     fn strings(
         &self,
         c: &mut Cursor,
@@ -55,7 +55,7 @@ impl<
         Ok(expr::string_literal(at, pieces))
     }
 
-    /// A name that is no typedef name; it was taken.
+    /// `primary-expression: identifier` (C99 6.5.1), which was taken and is no typedef name.
     fn identifier(&self, c: &Cursor, at: u32, name: &Name) -> Result<FoundExpr, ParseFault>
         requires taken { 0 < c.now.position }
         ensures { ReadsExpr self.now.source c.now c.now result (spec.identifier_at at name.now) 1 }
@@ -66,7 +66,8 @@ impl<
         Ok(expr::identifier(at, name.clone()?))
     }
 
-    /// A primary expression, of which this first token was taken.
+    /// `primary-expression: identifier | constant | string-literal | ( expression )` (C99 6.5.1), after its first
+    /// token.
     fn primary_by(&self, c: &mut Cursor, at: u32, kind: &TokenKind) -> Result<FoundExpr, ParseFault>
         requires exprs { ReachesExpr E.Fn self.now.source self.now.height self.now.expr }
         requires small { self.now.height < 500 }
@@ -89,7 +90,7 @@ impl<
         }
     }
 
-    /// A primary expression.
+    /// `primary-expression: identifier | constant | string-literal | ( expression )` (C99 6.5.1).
     pub fn primary(&self, c: &mut Cursor) -> Result<FoundExpr, ParseFault>
         requires exprs { ReachesExpr E.Fn self.now.source self.now.height self.now.expr }
         requires small { self.now.height < 500 }
@@ -105,7 +106,7 @@ impl<
         }
     }
 
-    /// A unary operator and its operand.
+    /// `unary-expression: ( ++ | -- ) unary-expression | unary-operator cast-expression` (C99 6.5.3).
     #[tactic(auto, unfolding(c_grammar::specs::Reading::unary_at))]
     pub fn unary(&self, c: &mut Cursor) -> Result<FoundExpr, ParseFault>
         requires exprs { ReachesExpr E.Fn self.now.source self.now.height self.now.expr }

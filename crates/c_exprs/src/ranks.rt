@@ -27,7 +27,7 @@ impl<
         DeclaratorPlace,
     ) -> Result<FoundDeclarator, ParseFault>,
 > Below<'a, E, S, D> {
-    /// A primary expression and the postfix operators behind it (C99 6.5.2).
+    /// `postfix-expression: primary-expression { [ .. ] | ( .. ) | . .. | -> .. | ++ | -- }` (C99 6.5.2).
     #[tactic(auto, unfolding(c_grammar::specs::Reading::expr_by))]
     fn postfix(&self, c: &mut Cursor) -> Result<FoundExpr, ParseFault>
         requires exprs { ReachesExpr E.Fn self.now.source self.now.height self.now.expr }
@@ -39,7 +39,7 @@ impl<
         self.more(c, 1, first)
     }
 
-    /// A unary expression (C99 6.5.3).
+    /// `unary-expression: postfix-expression | unary-operator cast-expression | sizeof ..` (C99 6.5.3).
     #[tactic(auto, unfolding(c_grammar::specs::Reading::expr_by))]
     fn prefixed(&self, c: &mut Cursor) -> Result<FoundExpr, ParseFault>
         requires reaches { Reaches E.Fn S.Fn D.Fn self.now }
@@ -56,7 +56,7 @@ impl<
         self.postfix(c)
     }
 
-    /// A cast expression (C99 6.5.4).
+    /// `cast-expression: unary-expression | ( type-name ) cast-expression` (C99 6.5.4).
     #[tactic(auto, unfolding(c_grammar::specs::Reading::expr_by))]
     fn converted(&self, c: &mut Cursor) -> Result<FoundExpr, ParseFault>
         requires reaches { Reaches E.Fn S.Fn D.Fn self.now }
@@ -70,7 +70,8 @@ impl<
         self.prefixed(c)
     }
 
-    /// An expression that binds at most so loosely as a cast.
+    /// `primary-expression`, `postfix-expression`, `unary-expression` or `cast-expression`, by its rank (C99 6.5.1
+    /// to 6.5.4).
     #[tactic(auto, unfolding(c_grammar::specs::Reading::expr_by))]
     fn operand(&self, c: &mut Cursor, rank: u32) -> Result<FoundExpr, ParseFault>
         requires reaches { Reaches E.Fn S.Fn D.Fn self.now }
@@ -87,7 +88,9 @@ impl<
         }
     }
 
-    /// An expression that binds at most so loosely, of at most the height above that of its parts.
+    /// `expression: assignment-expression { , assignment-expression }`, and so at each rank from the cast up: the
+    /// operand, and the operators of each looser rank in turn (C99 6.5), of at most the height above that of its
+    /// parts.
     pub fn read_expr(&self, c: &mut Cursor, rank: u32) -> Result<FoundExpr, ParseFault>
         requires reaches { Reaches E.Fn S.Fn D.Fn self.now }
         requires small { self.now.height < 500 }

@@ -48,7 +48,8 @@ impl<
         DeclaratorPlace,
     ) -> Result<FoundDeclarator, ParseFault>,
 > Below<'a, E, S, D> {
-    /// The specifier that a keyword begins, after that keyword.
+    /// `declaration-specifier: struct-or-union-specifier | enum-specifier | type-word | qualifier | class | inline`
+    /// (C99 6.7), after the keyword that begins it.
     fn keyword_specifier(
         &self,
         c: &mut Cursor,
@@ -73,7 +74,8 @@ impl<
         }
     }
 
-    /// The declaration specifier that comes next, of at most the height above that of its parts.
+    /// `declaration-specifier: storage-class-specifier | type-specifier | type-qualifier | function-specifier`
+    /// (C99 6.7), of at most the height above that of its parts.
     pub fn read_specifier(&self, c: &mut Cursor) -> Result<FoundSpecifier, ParseFault>
         requires reaches { Reaches E.Fn S.Fn D.Fn self.now }
         requires small { self.now.height < 500 }

@@ -38,7 +38,7 @@ impl<
         DeclaratorPlace,
     ) -> Result<FoundDeclarator, ParseFault>,
 > Below<'a, E, S, D> {
-    /// As many specifiers as there are.
+    /// `{ declaration-specifier }` (C99 6.7): as many as there are.
     pub fn specifiers(&self, c: &mut Cursor) -> Result<FoundSpecifiers, ParseFault>
         requires specifiers { ReachesSpecifier S.Fn self.now.source self.now.height self.now.specifier }
         ensures { ReadsLow (λ f. f.trees) (λ f. f.height) self.now.source c.old c.new result
@@ -59,7 +59,8 @@ impl<
         Err(ParseFault::Syntax(c.position))
     }
 
-    /// Specifiers that name one type (C99 6.7.2).
+    /// `declaration-specifiers: declaration-specifier { declaration-specifier }` (C99 6.7) that name one type (C99
+    /// 6.7.2).
     #[tactic(auto, unfolding(c_grammar::specs::Reading::specification_at))]
     pub fn specification(&self, c: &mut Cursor) -> Result<FoundSpecifiers, ParseFault>
         requires specifiers { ReachesSpecifier S.Fn self.now.source self.now.height self.now.specifier }
@@ -74,7 +75,7 @@ impl<
         }
     }
 
-    /// A type name (C99 6.7.6).
+    /// `type-name: specifier-qualifier-list [ abstract-declarator ]` (C99 6.7.6).
     #[tactic(auto, unfolding(c_grammar::specs::Reading::type_name_at))]
     pub fn type_name(&self, c: &mut Cursor) -> Result<FoundType, ParseFault>
         requires reaches { Reaches E.Fn S.Fn D.Fn self.now }

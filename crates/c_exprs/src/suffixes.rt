@@ -28,7 +28,7 @@ impl<
         DeclaratorPlace,
     ) -> Result<FoundDeclarator, ParseFault>,
 > Below<'a, E, S, D> {
-    /// No name, where there may be none.
+    /// `[ abstract-declarator ]` that is left out (C99 6.7.5, 6.7.6): no name, where there may be none.
     pub fn omitted(&self, c: &Cursor, place: DeclaratorPlace) -> Result<FoundDeclarator, ParseFault>
         ensures { ReadsDeclarator self.now.source c.now c.now result (spec.omitted_at place) (self.now.height + 1) }
     {
@@ -39,7 +39,7 @@ impl<
         }
     }
 
-    /// A name, a group, or nothing.
+    /// `direct-declarator: identifier | ( declarator )` (C99 6.7.5), or nothing where the name may be left out.
     pub fn direct(
         &self,
         c: &mut Cursor,
@@ -74,7 +74,7 @@ impl<
         }
     }
 
-    /// A declarator and the suffix behind it.
+    /// `direct-declarator: direct-declarator ( [ .. ] | ( .. ) )` (C99 6.7.5): a declarator and the suffix behind it.
     pub fn suffix(
         &self,
         c: &mut Cursor,
@@ -103,7 +103,7 @@ impl<
         }
     }
 
-    /// A declarator and the suffixes behind it.
+    /// `direct-declarator: direct-declarator { [ .. ] | ( .. ) }` (C99 6.7.5): a declarator and the suffixes behind it.
     pub fn suffixes(
         &self,
         c: &mut Cursor,
@@ -132,7 +132,7 @@ impl<
         Err(ParseFault::Syntax(c.position))
     }
 
-    /// A direct declarator and the suffixes behind it.
+    /// `direct-declarator: ( identifier | ( declarator ) ) { [ .. ] | ( .. ) }` (C99 6.7.5).
     #[tactic(auto, unfolding(c_grammar::specs::Reading::suffixed_at))]
     pub fn suffixed(
         &self,
@@ -148,7 +148,7 @@ impl<
         self.suffixes(c, place, direct)
     }
 
-    /// A declarator, of at most the height above that of its parts.
+    /// `declarator: [ pointer ] direct-declarator` (C99 6.7.5), of at most the height above that of its parts.
     #[tactic(auto, unfolding(c_grammar::specs::Reading::declarator_by))]
     pub fn read_declarator(
         &self,

@@ -20,7 +20,7 @@ pub struct Trees<'a> {
 }
 
 impl<'a> Trees<'a> {
-    /// An expression that binds at most so loosely.
+    /// An expression at a rank of the grammar (C99 6.5).
     pub fn expr(&self, c: &mut Cursor, rank: u32) -> Result<FoundExpr, ParseFault>
         requires small { self.now.height ≤ 256 }
         requires known { rank ≤ 16 }
@@ -36,7 +36,8 @@ impl<'a> Trees<'a> {
         )
     }
 
-    /// Specifiers that name one type (C99 6.7.2).
+    /// `declaration-specifiers: declaration-specifier { declaration-specifier }` (C99 6.7) that name one type (C99
+    /// 6.7.2).
     pub fn specification(&self, c: &mut Cursor) -> Result<FoundSpecifiers, ParseFault>
         requires small { self.now.height ≤ 256 }
         ensures { Reads (λ f. f.trees) self.now.source c.old c.new result (specification_at (rules self.now.height)) }
@@ -52,7 +53,7 @@ impl<'a> Trees<'a> {
         level.specification(c)
     }
 
-    /// A declarator at such a place.
+    /// `declarator: [ pointer ] direct-declarator` (C99 6.7.5), or an abstract one at its places.
     pub fn declarator(
         &self,
         c: &mut Cursor,

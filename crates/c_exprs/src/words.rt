@@ -59,7 +59,7 @@ impl<'a> Source<'a> {
         }
     }
 
-    /// Type qualifiers (C99 6.7.3).
+    /// `[ type-qualifier-list ]` (C99 6.7.3, 6.7.5.1).
     pub fn qualifiers(&self, alloc: Global, c: &mut Cursor) -> Result<Items<Qualifier>, ParseFault>
         ensures { Reads (λ xs. xs) self.now c.old c.new result
             (λ s. spec.run_at spec.a_qualifier (suc (length s.0)) s) }
@@ -76,7 +76,7 @@ impl<'a> Source<'a> {
         Err(ParseFault::Syntax(c.position))
     }
 
-    /// The words between the brackets of an array (C99 6.7.5.2).
+    /// `[ static ] [ type-qualifier-list ]` in any order (C99 6.7.5.2): the words between the brackets of an array.
     pub fn array_words(&self, alloc: Global, c: &mut Cursor) -> Result<Items<ArrayWord>, ParseFault>
         ensures { Reads (λ xs. xs) self.now c.old c.new result
             (λ s. spec.run_at spec.an_array_word (suc (length s.0)) s) }
@@ -128,7 +128,7 @@ impl<'a> Source<'a> {
         }
     }
 
-    /// This string literal, and those that stand behind it.
+    /// `string-literal { string-literal }` (C99 6.5.1), behind the first: this one, and those that stand behind it.
     pub fn literals(
         &self,
         alloc: Global,
