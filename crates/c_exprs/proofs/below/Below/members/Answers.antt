@@ -29,7 +29,7 @@ returns-in_err-found g c =
     record {
       reads = rw (p.1, p.2) (members_fail r (l.left - 1) l.left l.all.trees s _ _ (omega arith) goes
           c.in_err-found.ensures.reads l.invariant.reads);
-      low = rw (p.1, p.2) tt;
+      low = rw p.1 tt;
     }
 
 pub members-preserved : goal.members-preserved

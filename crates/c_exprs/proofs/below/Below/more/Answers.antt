@@ -32,7 +32,7 @@ returns-in_err-all g c =
     record {
       reads = rw (p.1, p.2) (more_fail r (l.turns - 1) l.turns (suc c.args.self.now.height) c.args.rank
           l.all.tree s _ _ (omega arith) goes c.in_err-all.ensures.reads l.invariant.reads);
-      low = rw (p.1, p.2) tt;
+      low = rw p.1 tt;
     }
 
 pub returns-then-all-self : goal.returns-then-all-self

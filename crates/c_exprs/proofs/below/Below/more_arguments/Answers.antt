@@ -30,7 +30,7 @@ returns-in_err-found g c =
     record {
       reads = rw (p.1, p.2) (arguments_fail r (l.left - 1) l.left c.in_ok-expect.field-0 l.all.trees s z _ _
           (omega arith) goes c.in_ok-expect.ensures c.in_err-found.ensures.reads l.invariant.reads);
-      low = rw (p.1, p.2) tt;
+      low = rw p.1 tt;
     }
 
 pub arguments-preserved : goal.arguments-preserved

@@ -14,7 +14,7 @@ returns-in_err-all g c =
     record {
       reads = rw (p.1, p.2) (begins_not r (suc c.args.self.now.height) c.args.rank s _
           (omega (arith, c.if-rank-le3.false)) c.in_err-all.ensures.reads);
-      low = rw (p.1, p.2) tt;
+      low = rw p.1 tt;
     }
 
 pub returns-then-next-reached : goal.returns-then-next-reached
@@ -45,7 +45,7 @@ returns-in_err-all-2 g c =
     record {
       reads = rw (p.1, p.2) (climbs_not r (suc c.args.self.now.height) l.reached c.binds-next.result c.args.rank
           s z l.all.tree _ i.least above within c.binds-next.ensures i.reads c.in_err-all-2.ensures.reads);
-      low = rw (p.1, p.2) tt;
+      low = rw p.1 tt;
     }
 
 pub ranks-preserved : goal.ranks-preserved

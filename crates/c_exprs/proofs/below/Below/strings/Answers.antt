@@ -10,7 +10,7 @@ returns-in_err-pieces g c =
     record {
       reads = rw (p.1, p.2) (literal_fails c.args.at c.args.first (here source c.args.c.now) _
           c.in_err-pieces.ensures);
-      low = rw (p.1, p.2) tt;
+      low = rw p.1 tt;
     }
 
 pub returns : goal.returns

@@ -29,7 +29,7 @@ returns-in_err-all g c =
     record {
       reads = rw (p.1, p.2) (suffixes_fail r (l.left - 1) l.left (suc c.args.self.now.height) c.args.place
           l.all.tree s _ _ (omega arith) goes c.in_err-all.ensures.reads l.invariant.reads);
-      low = rw (p.1, p.2) tt;
+      low = rw p.1 tt;
     }
 
 pub returns-then-all-self : goal.returns-then-all-self
