@@ -1,15 +1,16 @@
 //! The tokens that are left, and the names in scope.
-ghost use Rattle.std.specs.Prelude.{◌≡◌, ◌<◌, ◌+◌, length, drop, IfOk, OnOk, OnErr, IfErr};
+ghost use Rattle.std.specs.Prelude.{◌≡◌};
 ghost use Rattle.c_grammar.specs.Reading as spec;
 ghost use Rattle.c_grammar.specs.Parts.{specifies_in, specifies_by, begins_type};
 ghost use Rattle.c_grammar.specs.Parts as parts;
 ghost use Rattle.c_exprs.specs.Cursor.{here, Gives};
+ghost use Rattle.c_exprs.specs.Reads.{Reads};
 
 use crate::fault::ParseFault;
 use c_grammar::{binding_of, unary_of};
 use c_lexer::{Keyword, Name, Punctuator, Token, TokenKind};
 use c_scope::{FileNames, Names};
-use c_tree::UnaryOperator;
+use c_tree::{TagName, UnaryOperator};
 use std::alloc::Global;
 
 /// How far the tokens are read, and the names that are in scope there.
@@ -88,7 +89,8 @@ impl<'a> Source<'a> {
 
     /// Takes this keyword; its offset.
     pub fn expect_keyword(&self, c: &mut Cursor, wanted: Keyword) -> Result<u32, ParseFault>
-        ensures { Gives (λ at. (tt, at, here self.now c.new)) result (spec.expect_keyword wanted (here self.now c.old)) }
+        ensures { Gives (λ at. (tt, at, here self.now c.new)) result
+            (spec.expect_keyword wanted (here self.now c.old)) }
     {
         match self.tokens.get(c.position) {
             Some(token) => {
@@ -120,6 +122,14 @@ impl<'a> Source<'a> {
         }
     }
 
+    /// Takes the next token where it is an identifier, as the tag of a structure, union or enumeration.
+    pub fn tag(&self, c: &mut Cursor) -> Result<TagName, ParseFault>
+        ensures { Reads (λ tag. tag) self.now c.old c.new result spec.tag_at }
+    {
+        let (name, at) = self.name(c)?;
+        Ok(TagName { at, name })
+    }
+
     /// How loosely the operator binds that comes next, behind an operand; 17 where none does.
     pub fn binds(&self, c: &Cursor) -> u32
         ensures { result ≡ spec.binds (here self.now c.now) }
@@ -149,7 +159,8 @@ impl<'a> Source<'a> {
 
     /// Takes the unary operator that comes next; it and its offset.
     pub fn unary(&self, c: &mut Cursor) -> Result<(UnaryOperator, u32), ParseFault>
-        ensures { Gives (λ x. (x.0, x.1, here self.now c.new)) result (spec.take_by spec.a_unary (here self.now c.old).0 (here self.now c.old).1) }
+        ensures { Gives (λ x. (x.0, x.1, here self.now c.new)) result
+            (spec.take_by spec.a_unary (here self.now c.old).0 (here self.now c.old).1) }
     {
         match self.tokens.get(c.position) {
             Some(token) => match &token.kind {
