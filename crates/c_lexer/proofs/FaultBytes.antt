@@ -1,5 +1,5 @@
 -- A fault stands at a byte of its source.
-use Rattle.std.proofs.Common.{◌≡◌, ◌≢◌, ◌≤◌, ◌<◌, ◌+◌, ◌-◌, ℕ, zero, suc, Bool, true, List, [], ◌∷◌, length, drop}
+use Rattle.std.proofs.Common.{◌≢◌, ◌≤◌, ◌<◌, ◌+◌, ◌-◌, ℕ, zero, suc, Bool, true, List, [], ◌∷◌, length, drop}
 use Rattle.std.proofs.Common.{Option, Some, None, Result, Ok, Err, arith, ap, length-append, length-take, length-drop}
 use Rattle.std.proofs.Common.{refl, inl, inr, subst}
 use Rattle.std.specs.Option.{IfSome}

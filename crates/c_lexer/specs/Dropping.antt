@@ -1,5 +1,5 @@
 -- Attributes of GNU C are no tokens: the attribute's word goes, with the group of matched round brackets behind it.
-use Rattle.std.specs.Prelude.{◌≡◌, ◌≢◌, ℕ, true, List, [], ◌∷◌, ◌++◌, Ok}
+use Rattle.std.specs.Prelude.{◌≡◌, ◌≢◌, true, List, [], ◌∷◌, ◌++◌, Ok}
 use Rattle.c_lexer.specs.Class.{Text}
 use Rattle.c_lexer.specs.Division.{Element}
 use Rattle.c_lexer.specs.Spelling.{Divides}
