@@ -1,5 +1,5 @@
 #!/usr/bin/env bash
-# Runs the program over the rows of checks/rows, and compares its output, its line on standard error and its status.
+# Runs the program over the rows of checks/reports, and compares its output, its line on standard error and its status.
 #
 #     checks/reports.sh [PROGRAM]      without PROGRAM the proved program, or the trial program where that isn't built
 #
@@ -79,7 +79,7 @@ read_rows() {
         *) [ -n "$status" ] || { echo "reports: $1:$number: no row has this line"; failed=1; }
             report+=$line$'\n' ;;
         esac
-    done <"checks/rows/$1"
+    done <"checks/reports/$1"
     run_row
 }
 
