@@ -138,8 +138,13 @@ height_parameters xs x h0 h1 h e0 e1 g =
 
 -- what is said of each declarator that is made
 pub ruleset of_name = (height_name, name_name, derived_name)
+
 pub ruleset of_omitted = (height_omitted, name_omitted, derived_omitted)
+
 pub ruleset of_grouped = (height_grouped, name_grouped, derived_grouped)
+
 pub ruleset of_pointer = (height_pointer, name_pointer, derived_pointer)
+
 pub ruleset of_array = (height_array, name_array, derived_array)
+
 pub ruleset of_function = (height_function, name_function, derived_function)
