@@ -7,6 +7,7 @@ pub mod Directive
 pub mod Piece
 pub mod Division
 pub mod Places
+pub mod Standing
 pub mod Meaning
 pub mod Words
 pub mod Attributes

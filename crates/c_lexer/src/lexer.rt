@@ -1,12 +1,15 @@
 //! Cutting a source into tokens.
 
-ghost use Rattle.std.specs.Prelude.{◌≡◌, ◌≢◌, true, ◌<◌, ◌≤◌, ◌+◌, ◌-◌, ◌^◌, List, ◌++◌, length, OnOk, IfOk, IfErr, IsOkUnless};
+ghost use Rattle.std.specs.Prelude.{◌≡◌, ◌≢◌, true, ◌<◌, ◌≤◌, ◌+◌, ◌-◌, ◌^◌, List, ◌++◌, length};
+ghost use Rattle.std.specs.Prelude.{OnOk, IfOk, IfErr, IfSome, IsOkUnless};
+ghost use Rattle.std.specs.List.{All};
 ghost use Rattle.c_lexer.specs.Piece.{IsNamedWithin};
 ghost use Rattle.c_lexer.specs.Attributes.{keep};
 ghost use Rattle.c_lexer.specs.Collected.{collected, IsNested};
 ghost use Rattle.c_lexer.specs.Fault.{Answers, Refused};
 ghost use Rattle.c_lexer.specs.Places.{located};
 ghost use Rattle.c_lexer.specs.Reading as spec;
+ghost use Rattle.c_lexer.specs.Standing.{IsPlaced, StandInOrder, fault_byte};
 ghost use Rattle.c_lexer.specs.Division.{Element};
 ghost use Rattle.c_lexer.specs.Spelling.{Divides};
 ghost use Rattle.c_lexer.specs.declared.fault.LexFault.{LexFault as Fault};
@@ -41,7 +44,10 @@ fn collect(
     kind: Option<TokenKind>,
 ) -> Result<(), LexFault>
     requires nested { IsNested tokens.old }
-    ensures ok { OnOk result ((rest : List Token) → collected tokens.new (keep rest) ≡ collected tokens.old (keep (spec.token_at place start end kind ++ rest))) }
+    ensures ok { OnOk result (
+        (rest : List Token)
+        → collected tokens.new (keep rest) ≡ collected tokens.old (keep (spec.token_at place start end kind ++ rest))
+        ) }
     ensures nested { OnOk result (IsNested tokens.new) }
     ensures err { IsOkUnless result LexFault.Memory }
 {
@@ -158,10 +164,15 @@ pub fn lex(alloc: Global, name: &str, bytes: &[u8]) -> Result<Tokens, LexFault>
     requires { length bytes.now ≤ 8388608 }
     ensures value { Answers (λ tokens. tokens) (spec.lexed name.now bytes.now) result }
     ensures spelled { IfOk result (λ tokens. spec.Spells name.now bytes.now tokens) }
-    ensures refused { IfErr result (λ fault. fault ≢ LexFault.Memory → (tokens : TokenList) → spec.Spells name.now bytes.now tokens → ⊥) }
+    ensures refused { IfErr result (λ fault. fault ≢ LexFault.Memory →
+        (tokens : TokenList) → spec.Spells name.now bytes.now tokens → ⊥) }
     ensures first { IfErr result (λ fault. fault ≢ LexFault.Memory → spec.IsFirstFault bytes.now fault) }
     ensures faulty { (fault : Fault) → spec.IsFirstFault bytes.now fault → spec.lexed name.now bytes.now ≡ Err fault }
-    ensures only { (one other : List Element) → Divides true bytes.now one → Divides true bytes.now other → one ≡ other }
+    ensures placed { IfOk result (λ tokens. All (IsPlaced name.now bytes.now tokens.files) tokens.tokens) }
+    ensures stands { IfOk result (λ tokens. StandInOrder 0 (length bytes.now) tokens.tokens) }
+    ensures within { IfErr result (λ fault. IfSome (fault_byte fault) (λ at. at < length bytes.now)) }
+    ensures only { (one other : List Element) →
+        Divides true bytes.now one → Divides true bytes.now other → one ≡ other }
 {
     tokens_of(alloc, name, bytes)
 }

@@ -1,3 +1,4 @@
 pub mod Folds
 pub mod Induction
+pub mod PlaceLemmas
 pub mod TreeFolds

@@ -1,5 +1,6 @@
 -- The places of a source's tokens.
-use Rattle.std.specs.Prelude.{ℕ, List, [], unwrap_or, slice_get, fold}
+use Rattle.std.specs.Prelude.{◌≡◌, ℕ, List, [], unwrap_or, slice_get, fold}
+use Rattle.std.specs.List.{All}
 use Rattle.std.specs.Map.{lookup}
 use Rattle.std.specs.Ordering.{nat_cmp}
 use Rattle.std.specs.BTreeMap.{is_at, insert_entry}
@@ -25,3 +26,7 @@ place_at places at = unwrap_or (lookup (is_at (nat_cmp at)) places) nowhere
 -- the name of the file with a number
 abbrev pub file_at : List (List ℕ) → ℕ → List ℕ
 file_at files file = unwrap_or (slice_get files file) []
+
+-- each of these tokens is found at its start, with its place
+abbrev pub AreFound : List (ℕ × Place) → List Token → Type 0
+AreFound places tokens = All (λ token. place_at places token.start ≡ token.place) tokens

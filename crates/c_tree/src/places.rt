@@ -1,5 +1,6 @@
 ghost use Rattle.std.specs.Prelude.{◌≡◌, IfOk};
-ghost use Rattle.c_tree.specs.PlaceTables.{places_of, place_at, file_at};
+ghost use Rattle.c_lexer.specs.Standing.{StandInOrder};
+ghost use Rattle.c_tree.specs.PlaceTables.{places_of, place_at, file_at, AreFound};
 
 use c_lexer::{Name, Place, Token, Tokens};
 use plain_data::Items;
@@ -49,10 +50,14 @@ fn owners_of(alloc: Global, files: &[Name]) -> Result<Items<Name>, AllocError>
 }
 
 impl Places {
-    /// The places of these tokens. It fails for want of memory alone.
+    /// The places of these tokens; where they stand one behind another, as `lex` answers them, each is found at its start.
+    /// It fails for want of memory alone.
     pub fn of_tokens(alloc: Global, tokens: &Tokens) -> Result<Places, AllocError>
         ensures places { IfOk result (λ p. p.places ≡ places_of tokens.now.tokens) }
         ensures files { IfOk result (λ p. p.files ≡ tokens.now.files) }
+        ensures found { IfOk result (λ p.
+            (end : _) → StandInOrder 0 end tokens.now.tokens → AreFound p.places tokens.now.tokens
+            ) }
     {
         let table = table_of(alloc, tokens.as_slice())?;
         let files = owners_of(alloc, tokens.files.as_slice())?;

@@ -242,14 +242,14 @@ fn statement(alloc: Global, functions: &[Declaration], stmt: &Source) -> Result<
         Source::Value {
             at: _,
             value: Some(value),
-        } => print_of(value),
+        } => print_of(value.get()),
         Source::If {
             at,
             condition,
             positive,
             negative: None,
         } => {
-            let callee = test_of(functions, condition)?;
+            let callee = test_of(functions, condition.get())?;
             let positive = statement(alloc, functions, positive.get())?;
             let positive = Shared::new(alloc, positive)?;
             Ok(choice(*at, callee, positive, None))
@@ -260,7 +260,7 @@ fn statement(alloc: Global, functions: &[Declaration], stmt: &Source) -> Result<
             positive,
             negative: Some(negative),
         } => {
-            let callee = test_of(functions, condition)?;
+            let callee = test_of(functions, condition.get())?;
             let positive = statement(alloc, functions, positive.get())?;
             let positive = Shared::new(alloc, positive)?;
             let negative = statement(alloc, functions, negative.get())?;
@@ -271,7 +271,7 @@ fn statement(alloc: Global, functions: &[Declaration], stmt: &Source) -> Result<
             at: _,
             value: Some(value),
         } => {
-            let value = number_of(value)?;
+            let value = number_of(value.get())?;
             Ok(Stmt::Return { value })
         }
         _ => Err(FormFault::NotYetRead),
@@ -429,9 +429,9 @@ fn is_pointer(declarator: &Declarator) -> bool
         Declarator::Pointer {
             at: _,
             qualifiers,
-            target,
+            inner,
         } => match qualifiers.as_slice() {
-            [] => is_omitted(target.get()),
+            [] => is_omitted(inner.get()),
             _ => false,
         },
         _ => false,
@@ -519,11 +519,11 @@ fn function_by(declarator: &Declarator) -> Result<Declaration, FormFault>
     match declarator {
         Declarator::Function {
             at: _,
-            result,
+            inner,
             parameters,
             variadic,
         } => {
-            let name = declared_name(result.get())?;
+            let name = declared_name(inner.get())?;
             fitting(parameters.as_slice(), *variadic, name)
         }
         _ => Err(FormFault::NotYetRead),
@@ -595,11 +595,11 @@ fn declaration_of(external: &External) -> Result<Declaration, FormFault>
     }
 }
 
-fn split(externals: &[External]) -> Option<(&External, &[External])>
+fn split(externals: &[Shared<External>]) -> Option<(&External, &[Shared<External>])>
     ensures { MatchOption result (externals.now ≡ []) (λ p. externals.now ≡ p.0.now ∷ p.1.now) }
 {
     match externals {
-        [external, more @ ..] => Some((external, more)),
+        [external, more @ ..] => Some((external.get(), more)),
         [] => None,
     }
 }
@@ -607,7 +607,7 @@ fn split(externals: &[External]) -> Option<(&External, &[External])>
 /// Declarations, and what stands last.
 fn parts_of(
     alloc: Global,
-    externals: &[External],
+    externals: &[Shared<External>],
 ) -> Result<(Items<Declaration>, &External), FormFault>
     ensures { Gives (λ x. (x.0, x.1.now)) result (spec.parts_of externals.now) }
 {
@@ -673,7 +673,7 @@ fn body_of(
     ensures { Gives (λ x. x) result (spec.body_of functions.now body.now) }
 {
     match body {
-        Body::Read { block } => items_of(alloc, functions, block),
+        Body::Read { block } => items_of(alloc, functions, block.get()),
         Body::Unread { at: _ } => Err(FormFault::NotYetRead),
     }
 }
@@ -740,7 +740,7 @@ fn with_main(
 #[tactic(auto, unfolding(crate::specs::Form::program_of))]
 fn program_of(
     alloc: Global,
-    externals: &[External],
+    externals: &[Shared<External>],
 ) -> Result<(Items<Declaration>, Items<Shared<Stmt>>), FormFault>
     ensures { Gives (λ x. record { functions = x.0; body = x.1 }) result (spec.program_of externals.now) }
 {

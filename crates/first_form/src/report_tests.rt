@@ -166,7 +166,7 @@ fn unit(alloc: Global) -> Result<Unit, Fail> {
     Ok(Unit {
         functions: functions(alloc)?,
         body: body(alloc)?,
-        places: Places::of_tokens(alloc, &tokens)?,
+        places: Shared::new(alloc, Places::of_tokens(alloc, &tokens)?)?,
     })
 }
 

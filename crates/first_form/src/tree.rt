@@ -49,7 +49,7 @@ pub struct Declaration {
 pub struct Unit {
     pub functions: Items<Declaration>,
     pub body: Items<Shared<Stmt>>,
-    pub places: Places,
+    pub places: Shared<Places>,
 }
 
 impl Unit {
@@ -57,13 +57,13 @@ impl Unit {
     pub fn place(&self, at: u32) -> Place
         ensures { result ≡ place_at self.now.places.places at }
     {
-        self.places.place(at)
+        self.places.get().place(at)
     }
 
     /// The name of the file that a place names by its number.
     pub fn file(&self, file: u32) -> &[u8]
         ensures { result.now ≡ file_at self.now.places.files file }
     {
-        self.places.file(file)
+        self.places.get().file(file)
     }
 }

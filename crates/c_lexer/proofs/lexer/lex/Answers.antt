@@ -1,5 +1,7 @@
 use Rattle.c_lexer.proofs.Unique.{answer_spelled, answer_refused, one_division}
 use Rattle.c_lexer.proofs.Faults.{answer_first, fault_lexed}
+use Rattle.c_lexer.proofs.FaultBytes.{answer_within}
+use Rattle.c_lexer.proofs.Standing.{answer_placed, answer_in_order}
 use Rattle.c_lexer.proofs.lexer.lex.Goals as goal
 
 pub returns-clause-spelled : goal.returns-clause-spelled
@@ -16,3 +18,18 @@ returns-clause-first c = answer_first c.args.name.now c.args.bytes.now c.tokens_
 
 pub returns-clause-faulty : goal.returns-clause-faulty
 returns-clause-faulty c = fault_lexed c.args.name.now c.args.bytes.now
+
+pub returns-clause-placed : goal.returns-clause-placed
+returns-clause-placed c =
+    answer_placed c.args.name.now c.args.bytes.now c.tokens_of.result
+    (answer_spelled c.args.name.now c.args.bytes.now c.tokens_of.result c.tokens_of.ensures)
+
+pub returns-clause-stands : goal.returns-clause-stands
+returns-clause-stands c =
+    answer_in_order c.args.name.now c.args.bytes.now c.tokens_of.result
+    (answer_spelled c.args.name.now c.args.bytes.now c.tokens_of.result c.tokens_of.ensures)
+
+pub returns-clause-within : goal.returns-clause-within
+returns-clause-within c =
+    answer_within c.args.bytes.now c.tokens_of.result
+    (answer_first c.args.name.now c.args.bytes.now c.tokens_of.result c.tokens_of.ensures)
