@@ -1,8 +1,8 @@
 -- What is known of the functions that read the parts which stand inside.
 use Rattle.std.specs.Prelude.{◌≤◌, ℕ, List, Result, IfOk}
 use Rattle.std.specs.declared.alloc.Global.{Global}
-use denote.Ref.{MutBor}
-use denote.Bor.{Bor}
+use denote.Ref.{Bor, MutBor}
+use denote.Param.Members.{Shared}
 use Rattle.c_lexer.specs.declared.token.Token.{Token}
 use Rattle.c_grammar.specs.declared.declarator_place.DeclaratorPlace.{DeclaratorPlace}
 use Rattle.c_grammar.specs.Parts.{Frame}
@@ -10,34 +10,57 @@ use Rattle.c_grammar.specs.Reading.{rules}
 use Rattle.c_nodes.specs.declared.found.FoundExpr.{FoundExpr}
 use Rattle.c_nodes.specs.declared.found.FoundSpecifier.{FoundSpecifier}
 use Rattle.c_nodes.specs.declared.found.FoundDeclarator.{FoundDeclarator}
+use Rattle.c_exprs.specs.declared.below.Below.{Below}
 use Rattle.c_exprs.specs.declared.cursor.Cursor.{Cursor}
 use Rattle.c_exprs.specs.declared.cursor.Source.{Source}
 use Rattle.c_exprs.specs.declared.fault.ParseFault.{ParseFault}
-use Rattle.c_exprs.specs.Cursor.{here, Gives}
+use Rattle.c_exprs.specs.Reads.{ReadsExpr, ReadsSpecifier, ReadsDeclarator}
 
--- a function value reads expressions of at most this height
-pub record ReachesExpr (source : Source) (height : ℕ)
-    (pre : Global → Bor (List Token) → Bor Frame → MutBor Cursor → ℕ → ℕ → Type 0)
-    (post : Global → Bor (List Token) → Bor Frame → MutBor Cursor → ℕ → ℕ → Result FoundExpr ParseFault → MutBor Cursor → Type 0) : Type 0 where
-  pub callable : (alloc : Global) (old : MutBor Cursor) (rank : ℕ) → rank ≤ 16 → pre alloc source.tokens source.file old height rank
-  pub reads : (alloc : Global) (old new : MutBor Cursor) (rank : ℕ) (r : Result FoundExpr ParseFault) → post alloc source.tokens source.file old height rank r new
-      → Gives (λ f. (f.tree, here source new.now)) r ((rules height).expr rank (here source old.now))
-  pub low : (alloc : Global) (old new : MutBor Cursor) (rank : ℕ) (r : Result FoundExpr ParseFault) → post alloc source.tokens source.file old height rank r new → IfOk r (λ f. f.height ≤ height)
+-- what a function value of F requires and ensures that is handed what A says, and answers an X and the cursor
+abbrev pub Reader : Type 0 → Type 0 → Type 0 → Type 1
+Reader A X F = Shared F A (Result X ParseFault × (MutBor Cursor × Unit {0}))
+
+abbrev pub ExprArguments : Type 0
+ExprArguments = Global × (Bor (List Token) × (Bor Frame × (MutBor Cursor × (ℕ × (ℕ × Unit {0})))))
+
+abbrev pub SpecifierArguments : Type 0
+SpecifierArguments = Global × (Bor (List Token) × (Bor Frame × (MutBor Cursor × (ℕ × Unit {0}))))
+
+abbrev pub DeclaratorArguments : Type 0
+DeclaratorArguments = Global × (Bor (List Token) × (Bor Frame × (MutBor Cursor × (ℕ × (DeclaratorPlace × Unit {0})))))
+
+-- it reads expressions of at most this height
+pub record ReachesExpr {E : Type 0} (e : Reader ExprArguments FoundExpr E) (source : Source) (height : ℕ) (f : E)
+    : Type 0 where
+  pub callable : (alloc : Global) (old : MutBor Cursor) (rank : ℕ) → rank ≤ 16
+      → e.pre f (alloc, (source.tokens, (source.file, (old, (height, (rank, tt))))))
+  pub ends : (alloc : Global) (old new : MutBor Cursor) (rank : ℕ) (r : Result FoundExpr ParseFault)
+      → e.post f (alloc, (source.tokens, (source.file, (old, (height, (rank, tt)))))) (r, (new, tt))
+      → ReadsExpr source old.now new.now r ((rules height).expr rank) height
 
 -- it reads specifiers
-pub record ReachesSpecifier (source : Source) (height : ℕ)
-    (pre : Global → Bor (List Token) → Bor Frame → MutBor Cursor → ℕ → Type 0)
-    (post : Global → Bor (List Token) → Bor Frame → MutBor Cursor → ℕ → Result FoundSpecifier ParseFault → MutBor Cursor → Type 0) : Type 0 where
-  pub callable : (alloc : Global) (old : MutBor Cursor) → pre alloc source.tokens source.file old height
-  pub reads : (alloc : Global) (old new : MutBor Cursor) (r : Result FoundSpecifier ParseFault) → post alloc source.tokens source.file old height r new
-      → Gives (λ f. (f.tree, here source new.now)) r ((rules height).specifier (here source old.now))
-  pub low : (alloc : Global) (old new : MutBor Cursor) (r : Result FoundSpecifier ParseFault) → post alloc source.tokens source.file old height r new → IfOk r (λ f. f.height ≤ height)
+pub record ReachesSpecifier {S : Type 0} (s : Reader SpecifierArguments FoundSpecifier S) (source : Source) (height : ℕ)
+    (f : S) : Type 0 where
+  pub callable : (alloc : Global) (old : MutBor Cursor)
+      → s.pre f (alloc, (source.tokens, (source.file, (old, (height, tt)))))
+  pub ends : (alloc : Global) (old new : MutBor Cursor) (r : Result FoundSpecifier ParseFault)
+      → s.post f (alloc, (source.tokens, (source.file, (old, (height, tt))))) (r, (new, tt))
+      → ReadsSpecifier source old.now new.now r (rules height).specifier height
 
 -- it reads declarators
-pub record ReachesDeclarator (source : Source) (height : ℕ)
-    (pre : Global → Bor (List Token) → Bor Frame → MutBor Cursor → ℕ → DeclaratorPlace → Type 0)
-    (post : Global → Bor (List Token) → Bor Frame → MutBor Cursor → ℕ → DeclaratorPlace → Result FoundDeclarator ParseFault → MutBor Cursor → Type 0) : Type 0 where
-  pub callable : (alloc : Global) (old : MutBor Cursor) (where_ : DeclaratorPlace) → pre alloc source.tokens source.file old height where_
-  pub reads : (alloc : Global) (old new : MutBor Cursor) (where_ : DeclaratorPlace) (r : Result FoundDeclarator ParseFault) → post alloc source.tokens source.file old height where_ r new
-      → Gives (λ f. (f.tree, here source new.now)) r ((rules height).declarator where_ (here source old.now))
-  pub low : (alloc : Global) (old new : MutBor Cursor) (where_ : DeclaratorPlace) (r : Result FoundDeclarator ParseFault) → post alloc source.tokens source.file old height where_ r new → IfOk r (λ f. f.height ≤ height)
+pub record ReachesDeclarator {D : Type 0} (d : Reader DeclaratorArguments FoundDeclarator D) (source : Source)
+    (height : ℕ) (f : D) : Type 0 where
+  pub callable : (alloc : Global) (old : MutBor Cursor) (place : DeclaratorPlace)
+      → d.pre f (alloc, (source.tokens, (source.file, (old, (height, (place, tt))))))
+  pub ends : (alloc : Global) (old new : MutBor Cursor) (place : DeclaratorPlace)
+      (r : Result FoundDeclarator ParseFault)
+      → d.post f (alloc, (source.tokens, (source.file, (old, (height, (place, tt)))))) (r, (new, tt))
+      → ReadsDeclarator source old.now new.now r ((rules height).declarator place) height
+
+-- the three functions of a level
+pub record Reaches {E S D : Type 0} (e : Reader ExprArguments FoundExpr E)
+    (s : Reader SpecifierArguments FoundSpecifier S) (d : Reader DeclaratorArguments FoundDeclarator D)
+    (below : Below E S D) : Type 0 where
+  pub exprs : ReachesExpr e below.source below.height below.expr
+  pub specifiers : ReachesSpecifier s below.source below.height below.specifier
+  pub declarators : ReachesDeclarator d below.source below.height below.declarator

@@ -1,5 +1,6 @@
 -- What the functions of the parser say of their cursor.
 use Rattle.std.specs.Prelude.{◌≡◌, List, [], ◌∷◌, ◌++◌, drop, false, Option, Some, None, Result, Ok, Err}
+use denote.Ref.{Bor}
 use Rattle.c_lexer.specs.declared.token.Token.{Token}
 use Rattle.c_lexer.specs.declared.token.TokenKind.{TokenKind}
 use Rattle.c_grammar.specs.Parts.{Frame, Scope, State}
@@ -13,6 +14,9 @@ use Rattle.c_exprs.specs.declared.fault.ParseFault.TheVariants as fault
 -- the tokens that are left, and the names in scope
 abbrev pub state_of : List Token → Frame → Cursor → State
 state_of tokens file c = (drop c.position tokens, scope_of file c.names)
+
+abbrev pub source_of : Bor (List Token) → Bor Frame → Source
+source_of tokens file = record { tokens = tokens; file = file }
 
 abbrev pub here : Source → Cursor → State
 here source c = state_of source.tokens.now source.file.now c

@@ -1,3 +1,4 @@
 pub mod Below
 pub mod Conditional
 pub mod Cursor
+pub mod Reads

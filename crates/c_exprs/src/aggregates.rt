@@ -1,9 +1,9 @@
 //! Structures and unions (C99 6.7.2.1).
-ghost use Rattle.std.specs.Prelude.{◌≡◌, ◌≤◌, ◌<◌, ◌+◌, IfOk, None, Some, length, suc};
+ghost use Rattle.std.specs.Prelude.{◌<◌, ◌+◌, length, suc};
 ghost use Rattle.c_grammar.specs.Reading as spec;
 ghost use Rattle.c_grammar.specs.Reading.{rules};
-ghost use Rattle.c_exprs.specs.Below.{ReachesExpr, ReachesSpecifier, ReachesDeclarator};
-ghost use Rattle.c_exprs.specs.Cursor.{here, Gives};
+ghost use Rattle.c_exprs.specs.Below.{Reaches};
+ghost use Rattle.c_exprs.specs.Reads.{ReadsLow, ReadsSpecifier};
 
 use crate::below::Below;
 use crate::cursor::Cursor;
@@ -28,13 +28,11 @@ impl<
         DeclaratorPlace,
     ) -> Result<FoundDeclarator, ParseFault>,
 > Below<'a, E, S, D> {
-    /// Declarations of members up to `}`.
+    /// `struct-declaration-list: { struct-declaration }` (C99 6.7.2.1), up to `}`.
     pub fn members(&self, c: &mut Cursor) -> Result<FoundMembers, ParseFault>
-        requires exprs { ReachesExpr self.now.source self.now.height (E.pre self.now.expr) (E.post self.now.expr) }
-        requires specifiers { ReachesSpecifier self.now.source self.now.height (S.pre self.now.specifier) (S.post self.now.specifier) }
-        requires declarators { ReachesDeclarator self.now.source self.now.height (D.pre self.now.declarator) (D.post self.now.declarator) }
-        ensures reads { Gives (λ f. (f.trees, here self.now.source c.new)) result (spec.members_at (rules self.now.height) (suc (length (here self.now.source c.old).0)) (here self.now.source c.old)) }
-        ensures low { IfOk result (λ f. f.height ≤ self.now.height) }
+        requires reaches { Reaches E.Fn S.Fn D.Fn self.now }
+        ensures { ReadsLow (λ f. f.trees) (λ f. f.height) self.now.source c.old c.new result
+            (λ s. spec.members_at (rules self.now.height) (suc (length s.0)) s) self.now.height }
     {
         let mut all = pieces::no_members(self.alloc);
         let mut left = self.source.turns(c);
@@ -49,7 +47,8 @@ impl<
         Err(ParseFault::Syntax(c.position))
     }
 
-    /// A structure or union with its members, from `{` on.
+    /// `struct-or-union-specifier: struct-or-union [ identifier ] { struct-declaration-list }` (C99 6.7.2.1), from
+    /// `{` on.
     #[tactic(auto, unfolding(c_grammar::specs::Reading::aggregate_at))]
     pub fn aggregate(
         &self,
@@ -58,12 +57,10 @@ impl<
         kind: AggregateKind,
         tag: Option<Name>,
     ) -> Result<FoundSpecifier, ParseFault>
-        requires exprs { ReachesExpr self.now.source self.now.height (E.pre self.now.expr) (E.post self.now.expr) }
-        requires specifiers { ReachesSpecifier self.now.source self.now.height (S.pre self.now.specifier) (S.post self.now.specifier) }
-        requires declarators { ReachesDeclarator self.now.source self.now.height (D.pre self.now.declarator) (D.post self.now.declarator) }
+        requires reaches { Reaches E.Fn S.Fn D.Fn self.now }
         requires small { self.now.height < 500 }
-        ensures reads { Gives (λ f. (f.tree, here self.now.source c.new)) result (spec.aggregate_at (rules self.now.height) at kind tag (here self.now.source c.old)) }
-        ensures low { IfOk result (λ f. f.height ≤ self.now.height + 1) }
+        ensures { ReadsSpecifier self.now.source c.old c.new result
+            (spec.aggregate_at (rules self.now.height) at kind tag) (self.now.height + 1) }
     {
         self.source.expect(c, Punctuator::LeftBrace)?;
         let members = self.members(c)?;
@@ -71,7 +68,8 @@ impl<
         Ok(specifier::aggregate(at, kind, tag, members.trees, members.height))
     }
 
-    /// After the word `struct` or `union`.
+    /// `struct-or-union-specifier: struct-or-union ( [ identifier ] { struct-declaration-list } | identifier )`
+    /// (C99 6.7.2.1), after the word `struct` or `union`.
     #[tactic(auto, unfolding(c_grammar::specs::Reading::tagged_at))]
     pub fn tagged(
         &self,
@@ -79,12 +77,10 @@ impl<
         at: u32,
         kind: AggregateKind,
     ) -> Result<FoundSpecifier, ParseFault>
-        requires exprs { ReachesExpr self.now.source self.now.height (E.pre self.now.expr) (E.post self.now.expr) }
-        requires specifiers { ReachesSpecifier self.now.source self.now.height (S.pre self.now.specifier) (S.post self.now.specifier) }
-        requires declarators { ReachesDeclarator self.now.source self.now.height (D.pre self.now.declarator) (D.post self.now.declarator) }
+        requires reaches { Reaches E.Fn S.Fn D.Fn self.now }
         requires small { self.now.height < 500 }
-        ensures reads { Gives (λ f. (f.tree, here self.now.source c.new)) result (spec.tagged_at (rules self.now.height) at kind (here self.now.source c.old)) }
-        ensures low { IfOk result (λ f. f.height ≤ self.now.height + 1) }
+        ensures { ReadsSpecifier self.now.source c.old c.new result
+            (spec.tagged_at (rules self.now.height) at kind) (self.now.height + 1) }
     {
         if self.source.begins(c, Punctuator::LeftBrace) {
             return self.aggregate(c, at, kind, None);

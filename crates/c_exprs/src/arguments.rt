@@ -4,7 +4,8 @@ ghost use Rattle.c_grammar.specs.Grammar.{highest_shape, shape};
 ghost use Rattle.c_grammar.specs.Reading as spec;
 ghost use Rattle.c_grammar.specs.Reading.{rules};
 ghost use Rattle.c_exprs.specs.Below.{ReachesExpr};
-ghost use Rattle.c_exprs.specs.Cursor.{here, after, Gives};
+ghost use Rattle.c_exprs.specs.Cursor.{after};
+ghost use Rattle.c_exprs.specs.Reads.{ReadsExpr, ReadsLow};
 
 use crate::below::Below;
 use crate::cursor::Cursor;
@@ -65,16 +66,18 @@ impl<
         DeclaratorPlace,
     ) -> Result<FoundDeclarator, ParseFault>,
 > Below<'a, E, S, D> {
-    /// These arguments, and those behind a comma.
+    /// `argument-expression-list: assignment-expression { , assignment-expression }` (C99 6.5.2), behind the first:
+    /// these arguments, and those behind a comma.
     fn more_arguments(
         &self,
         c: &mut Cursor,
         first: FoundArguments,
     ) -> Result<FoundArguments, ParseFault>
-        requires exprs { ReachesExpr self.now.source self.now.height (E.pre self.now.expr) (E.post self.now.expr) }
+        requires exprs { ReachesExpr E.Fn self.now.source self.now.height self.now.expr }
         requires low_first { first.height ≤ self.now.height }
-        ensures reads { Gives (λ f. (f.trees, here self.now.source c.new)) result (after first.trees (spec.more_arguments_at (rules self.now.height) (suc (length (here self.now.source c.old).0)) (here self.now.source c.old))) }
-        ensures low { IfOk result (λ f. f.height ≤ self.now.height) }
+        ensures { ReadsLow (λ f. f.trees) (λ f. f.height) self.now.source c.old c.new result
+            (λ s. after first.trees (spec.more_arguments_at (rules self.now.height) (suc (length s.0)) s))
+            self.now.height }
     {
         let mut all = first;
         let mut left = self.source.turns(c);
@@ -90,12 +93,12 @@ impl<
         Err(ParseFault::Syntax(c.position))
     }
 
-    /// Arguments, or none before `)`.
+    /// `[ argument-expression-list ]` (C99 6.5.2): arguments, or none before `)`.
     #[tactic(auto, unfolding(c_grammar::specs::Reading::arguments_at))]
     fn arguments(&self, c: &mut Cursor) -> Result<FoundArguments, ParseFault>
-        requires exprs { ReachesExpr self.now.source self.now.height (E.pre self.now.expr) (E.post self.now.expr) }
-        ensures reads { Gives (λ f. (f.trees, here self.now.source c.new)) result (spec.arguments_at (rules self.now.height) (here self.now.source c.old)) }
-        ensures low { IfOk result (λ f. f.height ≤ self.now.height) }
+        requires exprs { ReachesExpr E.Fn self.now.source self.now.height self.now.expr }
+        ensures { ReadsLow (λ f. f.trees) (λ f. f.height) self.now.source c.old c.new result
+            (spec.arguments_at (rules self.now.height)) self.now.height }
     {
         let none = no_arguments(self.alloc);
         if self.source.begins(c, Punctuator::RightParen) {
@@ -106,14 +109,14 @@ impl<
         self.more_arguments(c, first)
     }
 
-    /// A call, after `(`.
+    /// `postfix-expression: postfix-expression ( [ argument-expression-list ] )` (C99 6.5.2.2), after `(`.
     #[tactic(auto, unfolding(c_grammar::specs::Reading::call_at))]
     pub fn call(&self, c: &mut Cursor, at: u32, left: FoundExpr) -> Result<FoundExpr, ParseFault>
-        requires exprs { ReachesExpr self.now.source self.now.height (E.pre self.now.expr) (E.post self.now.expr) }
+        requires exprs { ReachesExpr E.Fn self.now.source self.now.height self.now.expr }
         requires small { self.now.height < 500 }
         requires low_left { left.height ≤ self.now.height + 1 }
-        ensures reads { Gives (λ f. (f.tree, here self.now.source c.new)) result (spec.call_at (rules self.now.height) at left.tree (here self.now.source c.old)) }
-        ensures low { IfOk result (λ f. f.height ≤ self.now.height + 2) }
+        ensures { ReadsExpr self.now.source c.old c.new result
+            (spec.call_at (rules self.now.height) at left.tree) (self.now.height + 2) }
     {
         let arguments = self.arguments(c)?;
         self.source.expect(c, Punctuator::RightParen)?;

@@ -1,9 +1,9 @@
 //! Reading one level of a tree, whose parts are read by functions that are handed in. So the recursion stands in one
 //! place, and each rule is a function by itself.
-ghost use Rattle.std.specs.Prelude.{◌≡◌, ◌≤◌, ◌<◌, IfOk};
+ghost use Rattle.std.specs.Prelude.{◌≤◌};
 ghost use Rattle.c_grammar.specs.Reading.{rules};
 ghost use Rattle.c_exprs.specs.Below.{ReachesExpr, ReachesSpecifier, ReachesDeclarator};
-ghost use Rattle.c_exprs.specs.Cursor.{here, Gives};
+ghost use Rattle.c_exprs.specs.Reads.{ReadsExpr, ReadsSpecifier, ReadsDeclarator};
 
 use crate::cursor::{Cursor, Source};
 use crate::fault::ParseFault;
@@ -38,12 +38,11 @@ impl<
         DeclaratorPlace,
     ) -> Result<FoundDeclarator, ParseFault>,
 > Below<'a, E, S, D> {
-    /// An expression that binds at most so loosely.
+    /// An expression at a rank of the grammar (C99 6.5), by the function that is handed in.
     pub fn expr(&self, c: &mut Cursor, rank: u32) -> Result<FoundExpr, ParseFault>
-        requires exprs { ReachesExpr self.now.source self.now.height (E.pre self.now.expr) (E.post self.now.expr) }
+        requires exprs { ReachesExpr E.Fn self.now.source self.now.height self.now.expr }
         requires known { rank ≤ 16 }
-        ensures reads { Gives (λ f. (f.tree, here self.now.source c.new)) result ((rules self.now.height).expr rank (here self.now.source c.old)) }
-        ensures low { IfOk result (λ f. f.height ≤ self.now.height) }
+        ensures { ReadsExpr self.now.source c.old c.new result ((rules self.now.height).expr rank) self.now.height }
     {
         (self.expr)(
             self.alloc,
@@ -55,11 +54,12 @@ impl<
         )
     }
 
-    /// A declaration specifier.
+    /// `declaration-specifier: storage-class-specifier | type-specifier | type-qualifier | function-specifier`
+    /// (C99 6.7), by the function that is handed in.
     pub fn specifier(&self, c: &mut Cursor) -> Result<FoundSpecifier, ParseFault>
-        requires specifiers { ReachesSpecifier self.now.source self.now.height (S.pre self.now.specifier) (S.post self.now.specifier) }
-        ensures reads { Gives (λ f. (f.tree, here self.now.source c.new)) result ((rules self.now.height).specifier (here self.now.source c.old)) }
-        ensures low { IfOk result (λ f. f.height ≤ self.now.height) }
+        requires specifiers { ReachesSpecifier S.Fn self.now.source self.now.height self.now.specifier }
+        ensures { ReadsSpecifier self.now.source c.old c.new result
+            (rules self.now.height).specifier self.now.height }
     {
         (self.specifier)(
             self.alloc,
@@ -70,15 +70,16 @@ impl<
         )
     }
 
-    /// A declarator at such a place.
+    /// `declarator: [ pointer ] direct-declarator` (C99 6.7.5), or an abstract one at its places, by the function
+    /// that is handed in.
     pub fn declarator(
         &self,
         c: &mut Cursor,
         place: DeclaratorPlace,
     ) -> Result<FoundDeclarator, ParseFault>
-        requires declarators { ReachesDeclarator self.now.source self.now.height (D.pre self.now.declarator) (D.post self.now.declarator) }
-        ensures reads { Gives (λ f. (f.tree, here self.now.source c.new)) result ((rules self.now.height).declarator place (here self.now.source c.old)) }
-        ensures low { IfOk result (λ f. f.height ≤ self.now.height) }
+        requires declarators { ReachesDeclarator D.Fn self.now.source self.now.height self.now.declarator }
+        ensures { ReadsDeclarator self.now.source c.old c.new result
+            ((rules self.now.height).declarator place) self.now.height }
     {
         (self.declarator)(
             self.alloc,

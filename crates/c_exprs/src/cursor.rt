@@ -1,5 +1,5 @@
 //! The tokens that are left, and the names in scope.
-ghost use Rattle.std.specs.Prelude.{◌≡◌, ◌<◌, ◌+◌, length, drop, IfOk, OnOk, OnErr, IfErr};
+ghost use Rattle.std.specs.Prelude.{◌≡◌};
 ghost use Rattle.c_grammar.specs.Reading as spec;
 ghost use Rattle.c_grammar.specs.Parts.{specifies_in, specifies_by, begins_type};
 ghost use Rattle.c_grammar.specs.Parts as parts;
@@ -88,7 +88,8 @@ impl<'a> Source<'a> {
 
     /// Takes this keyword; its offset.
     pub fn expect_keyword(&self, c: &mut Cursor, wanted: Keyword) -> Result<u32, ParseFault>
-        ensures { Gives (λ at. (tt, at, here self.now c.new)) result (spec.expect_keyword wanted (here self.now c.old)) }
+        ensures { Gives (λ at. (tt, at, here self.now c.new)) result
+            (spec.expect_keyword wanted (here self.now c.old)) }
     {
         match self.tokens.get(c.position) {
             Some(token) => {
@@ -149,7 +150,8 @@ impl<'a> Source<'a> {
 
     /// Takes the unary operator that comes next; it and its offset.
     pub fn unary(&self, c: &mut Cursor) -> Result<(UnaryOperator, u32), ParseFault>
-        ensures { Gives (λ x. (x.0, x.1, here self.now c.new)) result (spec.take_by spec.a_unary (here self.now c.old).0 (here self.now c.old).1) }
+        ensures { Gives (λ x. (x.0, x.1, here self.now c.new)) result
+            (spec.take_by spec.a_unary (here self.now c.old).0 (here self.now c.old).1) }
     {
         match self.tokens.get(c.position) {
             Some(token) => match &token.kind {

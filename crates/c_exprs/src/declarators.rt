@@ -1,9 +1,9 @@
 //! Declarators (C99 6.7.5, 6.7.6).
-ghost use Rattle.std.specs.Prelude.{◌≡◌, ◌≤◌, ◌<◌, ◌+◌, IfOk};
+ghost use Rattle.std.specs.Prelude.{◌≤◌, ◌<◌, ◌+◌};
 ghost use Rattle.c_grammar.specs.Reading as spec;
 ghost use Rattle.c_grammar.specs.Reading.{rules};
-ghost use Rattle.c_exprs.specs.Below.{ReachesExpr, ReachesSpecifier, ReachesDeclarator};
-ghost use Rattle.c_exprs.specs.Cursor.{here, Gives};
+ghost use Rattle.c_exprs.specs.Below.{ReachesDeclarator, ReachesExpr};
+ghost use Rattle.c_exprs.specs.Reads.{ReadsDeclarator, ReadsLow};
 
 use crate::below::Below;
 use crate::cursor::Cursor;
@@ -28,17 +28,17 @@ impl<
         DeclaratorPlace,
     ) -> Result<FoundDeclarator, ParseFault>,
 > Below<'a, E, S, D> {
-    /// A pointer (C99 6.7.5.1).
+    /// `pointer: * [ type-qualifier-list ] [ pointer ]`, and the declarator behind it (C99 6.7.5.1).
     #[tactic(auto, unfolding(c_grammar::specs::Reading::pointer_at))]
     pub fn pointer(
         &self,
         c: &mut Cursor,
         place: DeclaratorPlace,
     ) -> Result<FoundDeclarator, ParseFault>
-        requires declarators { ReachesDeclarator self.now.source self.now.height (D.pre self.now.declarator) (D.post self.now.declarator) }
+        requires declarators { ReachesDeclarator D.Fn self.now.source self.now.height self.now.declarator }
         requires small { self.now.height < 500 }
-        ensures reads { Gives (λ f. (f.tree, here self.now.source c.new)) result (spec.pointer_at (rules self.now.height) place (here self.now.source c.old)) }
-        ensures low { IfOk result (λ f. f.height ≤ self.now.height + 1) }
+        ensures { ReadsDeclarator self.now.source c.old c.new result
+            (spec.pointer_at (rules self.now.height) place) (self.now.height + 1) }
     {
         let at = self.source.expect(c, Punctuator::Star)?;
         let qualifiers = self.source.qualifiers(self.alloc, c)?;
@@ -46,12 +46,12 @@ impl<
         Ok(declarator::pointer(self.alloc, at, qualifiers, target)?)
     }
 
-    /// The length of an array, where something else than `]` comes next.
+    /// `[ assignment-expression ]` before `]` (C99 6.7.5.2): the length of an array.
     #[tactic(auto, unfolding(c_grammar::specs::Reading::length_at))]
     pub fn length(&self, c: &mut Cursor) -> Result<FoundOptional, ParseFault>
-        requires exprs { ReachesExpr self.now.source self.now.height (E.pre self.now.expr) (E.post self.now.expr) }
-        ensures reads { Gives (λ f. (f.tree, here self.now.source c.new)) result (spec.length_at (rules self.now.height) (here self.now.source c.old)) }
-        ensures low { IfOk result (λ f. f.height ≤ self.now.height) }
+        requires exprs { ReachesExpr E.Fn self.now.source self.now.height self.now.expr }
+        ensures { ReadsLow (λ f. f.tree) (λ f. f.height) self.now.source c.old c.new result
+            (spec.length_at (rules self.now.height)) self.now.height }
     {
         if self.source.begins(c, Punctuator::RightBracket) {
             return Ok(FoundOptional {
@@ -66,7 +66,8 @@ impl<
         })
     }
 
-    /// After `[` (C99 6.7.5.2).
+    /// `direct-declarator: direct-declarator [ [ static ] [ type-qualifier-list ] [ assignment-expression ] ]`
+    /// (C99 6.7.5.2), after the `[`.
     #[tactic(auto, unfolding(c_grammar::specs::Reading::array_at))]
     pub fn array(
         &self,
@@ -74,11 +75,11 @@ impl<
         at: u32,
         element: FoundDeclarator,
     ) -> Result<FoundDeclarator, ParseFault>
-        requires exprs { ReachesExpr self.now.source self.now.height (E.pre self.now.expr) (E.post self.now.expr) }
+        requires exprs { ReachesExpr E.Fn self.now.source self.now.height self.now.expr }
         requires small { self.now.height < 500 }
         requires low_element { element.height ≤ self.now.height + 1 }
-        ensures reads { Gives (λ f. (f.tree, here self.now.source c.new)) result (spec.array_at (rules self.now.height) at element.tree (here self.now.source c.old)) }
-        ensures low { IfOk result (λ f. f.height ≤ self.now.height + 2) }
+        ensures { ReadsDeclarator self.now.source c.old c.new result
+            (spec.array_at (rules self.now.height) at element.tree) (self.now.height + 2) }
     {
         let words = self.source.array_words(self.alloc, c)?;
         let length = self.length(c)?;
@@ -86,7 +87,7 @@ impl<
         Ok(declarator::array(self.alloc, at, element, words, length)?)
     }
 
-    /// A declarator in parentheses, after `(`.
+    /// `direct-declarator: ( declarator )` (C99 6.7.5), after `(`.
     #[tactic(auto, unfolding(c_grammar::specs::Reading::grouped_declarator_at))]
     pub fn grouped_declarator(
         &self,
@@ -94,10 +95,10 @@ impl<
         place: DeclaratorPlace,
         at: u32,
     ) -> Result<FoundDeclarator, ParseFault>
-        requires declarators { ReachesDeclarator self.now.source self.now.height (D.pre self.now.declarator) (D.post self.now.declarator) }
+        requires declarators { ReachesDeclarator D.Fn self.now.source self.now.height self.now.declarator }
         requires small { self.now.height < 500 }
-        ensures reads { Gives (λ f. (f.tree, here self.now.source c.new)) result (spec.grouped_declarator_at (rules self.now.height) place at (here self.now.source c.old)) }
-        ensures low { IfOk result (λ f. f.height ≤ self.now.height + 1) }
+        ensures { ReadsDeclarator self.now.source c.old c.new result
+            (spec.grouped_declarator_at (rules self.now.height) place at) (self.now.height + 1) }
     {
         let inner = self.declarator(c, place)?;
         self.source.expect(c, Punctuator::RightParen)?;

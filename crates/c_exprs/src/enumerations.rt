@@ -1,10 +1,11 @@
 //! Enumerations (C99 6.7.2.2).
-ghost use Rattle.std.specs.Prelude.{◌≡◌, ◌≤◌, ◌<◌, ◌+◌, ◌++◌, ◌∷◌, [], IfOk, None, Some, true, false, map, max, length, suc};
+ghost use Rattle.std.specs.Prelude.{◌≡◌, ◌≤◌, ◌<◌, ◌+◌, ◌++◌, ◌∷◌, [], IfOk, true, false, map, max, length, suc};
 ghost use Rattle.c_grammar.specs.Grammar.{enumerator_of, highest};
 ghost use Rattle.c_grammar.specs.Reading as spec;
 ghost use Rattle.c_grammar.specs.Reading.{rules};
 ghost use Rattle.c_exprs.specs.Below.{ReachesExpr};
-ghost use Rattle.c_exprs.specs.Cursor.{here, behind, Gives};
+ghost use Rattle.c_exprs.specs.Cursor.{behind};
+ghost use Rattle.c_exprs.specs.Reads.{ReadsLow, ReadsSpecifier};
 
 use crate::below::Below;
 use crate::cursor::Cursor;
@@ -88,17 +89,19 @@ impl<
         DeclaratorPlace,
     ) -> Result<FoundDeclarator, ParseFault>,
 > Below<'a, E, S, D> {
-    /// These enumerators, and those behind a comma, up to `}`.
+    /// `enumerator-list: enumerator { , enumerator } [ , ]` (C99 6.7.2.2), behind the first: these enumerators, and
+    /// those behind a comma, up to `}`.
     pub fn more_enumerators(
         &self,
         c: &mut Cursor,
         first: FoundEnumerators,
     ) -> Result<FoundEnumerators, ParseFault>
-        requires exprs { ReachesExpr self.now.source self.now.height (E.pre self.now.expr) (E.post self.now.expr) }
+        requires exprs { ReachesExpr E.Fn self.now.source self.now.height self.now.expr }
         requires low_first { first.height ≤ self.now.height }
         requires untrailed { first.trailing ≡ false }
-        ensures reads { Gives (λ f. ((f.trees, f.trailing), here self.now.source c.new)) result (behind first.trees (spec.more_enumerators_at (rules self.now.height) (suc (length (here self.now.source c.old).0)) (here self.now.source c.old))) }
-        ensures low { IfOk result (λ f. f.height ≤ self.now.height) }
+        ensures { ReadsLow (λ f. (f.trees, f.trailing)) (λ f. f.height) self.now.source c.old c.new result
+            (λ s. behind first.trees (spec.more_enumerators_at (rules self.now.height) (suc (length s.0)) s))
+            self.now.height }
     {
         let mut all = first;
         let mut left = self.source.turns(c);
@@ -117,7 +120,7 @@ impl<
         Err(ParseFault::Syntax(c.position))
     }
 
-    /// An enumeration with its enumerators, from `{` on.
+    /// `enum-specifier: enum [ identifier ] { enumerator-list [ , ] }` (C99 6.7.2.2), from `{` on.
     #[tactic(auto, unfolding(c_grammar::specs::Reading::enumeration_at))]
     pub fn enumeration(
         &self,
@@ -125,10 +128,10 @@ impl<
         at: u32,
         tag: Option<Name>,
     ) -> Result<FoundSpecifier, ParseFault>
-        requires exprs { ReachesExpr self.now.source self.now.height (E.pre self.now.expr) (E.post self.now.expr) }
+        requires exprs { ReachesExpr E.Fn self.now.source self.now.height self.now.expr }
         requires small { self.now.height < 500 }
-        ensures reads { Gives (λ f. (f.tree, here self.now.source c.new)) result (spec.enumeration_at (rules self.now.height) at tag (here self.now.source c.old)) }
-        ensures low { IfOk result (λ f. f.height ≤ self.now.height + 1) }
+        ensures { ReadsSpecifier self.now.source c.old c.new result
+            (spec.enumeration_at (rules self.now.height) at tag) (self.now.height + 1) }
     {
         self.source.expect(c, Punctuator::LeftBrace)?;
         let first = self.enumerator(c)?;
@@ -138,13 +141,14 @@ impl<
         Ok(specifier::enumeration(at, tag, all.trees, all.trailing, all.height))
     }
 
-    /// After the word `enum`.
+    /// `enum-specifier: enum ( [ identifier ] { enumerator-list [ , ] } | identifier )` (C99 6.7.2.2), after the
+    /// word `enum`.
     #[tactic(auto, unfolding(c_grammar::specs::Reading::enum_at))]
     pub fn enumerated(&self, c: &mut Cursor, at: u32) -> Result<FoundSpecifier, ParseFault>
-        requires exprs { ReachesExpr self.now.source self.now.height (E.pre self.now.expr) (E.post self.now.expr) }
+        requires exprs { ReachesExpr E.Fn self.now.source self.now.height self.now.expr }
         requires small { self.now.height < 500 }
-        ensures reads { Gives (λ f. (f.tree, here self.now.source c.new)) result (spec.enum_at (rules self.now.height) at (here self.now.source c.old)) }
-        ensures low { IfOk result (λ f. f.height ≤ self.now.height + 1) }
+        ensures { ReadsSpecifier self.now.source c.old c.new result
+            (spec.enum_at (rules self.now.height) at) (self.now.height + 1) }
     {
         if self.source.begins(c, Punctuator::LeftBrace) {
             return self.enumeration(c, at, None);

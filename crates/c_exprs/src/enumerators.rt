@@ -1,10 +1,11 @@
 //! Enumerators and their values (C99 6.7.2.2).
-ghost use Rattle.std.specs.Prelude.{◌≡◌, ◌≤◌, IfOk, OnOk, false};
+ghost use Rattle.std.specs.Prelude.{◌≡◌, OnOk, false};
 ghost use Rattle.c_grammar.specs.Parts.{declared};
 ghost use Rattle.c_grammar.specs.Reading as spec;
 ghost use Rattle.c_grammar.specs.Reading.{rules};
 ghost use Rattle.c_exprs.specs.Below.{ReachesExpr};
-ghost use Rattle.c_exprs.specs.Cursor.{here, Gives};
+ghost use Rattle.c_exprs.specs.Cursor.{here};
+ghost use Rattle.c_exprs.specs.Reads.{ReadsLow};
 
 use crate::below::Below;
 use crate::cursor::{Cursor, Source};
@@ -19,7 +20,8 @@ use std::alloc::{AllocError, Global};
 impl<'a> Source<'a> {
     /// Declares a name as another than a typedef name. It fails for want of memory alone.
     pub fn declare_name(&self, c: &mut Cursor, name: &Name) -> Result<(), AllocError>
-        ensures { OnOk result (here self.now c.new ≡ ((here self.now c.old).0, declared name.now false (here self.now c.old).1)) }
+        ensures { OnOk result
+            (here self.now c.new ≡ ((here self.now c.old).0, declared name.now false (here self.now c.old).1)) }
     {
         c.names.declare(name, false)
     }
@@ -38,12 +40,12 @@ impl<
         DeclaratorPlace,
     ) -> Result<FoundDeclarator, ParseFault>,
 > Below<'a, E, S, D> {
-    /// The value behind `=`, if there is one.
+    /// `[ = constant-expression ]` (C99 6.7.2.2): the value of an enumerator, if there is one.
     #[tactic(auto, unfolding(c_grammar::specs::Reading::value_at))]
     pub fn value(&self, c: &mut Cursor) -> Result<FoundOptional, ParseFault>
-        requires exprs { ReachesExpr self.now.source self.now.height (E.pre self.now.expr) (E.post self.now.expr) }
-        ensures reads { Gives (λ f. (f.tree, here self.now.source c.new)) result (spec.value_at (rules self.now.height) (here self.now.source c.old)) }
-        ensures low { IfOk result (λ f. f.height ≤ self.now.height) }
+        requires exprs { ReachesExpr E.Fn self.now.source self.now.height self.now.expr }
+        ensures { ReadsLow (λ f. f.tree) (λ f. f.height) self.now.source c.old c.new result
+            (spec.value_at (rules self.now.height)) self.now.height }
     {
         if !self.source.begins(c, Punctuator::Equal) {
             return Ok(FoundOptional {
@@ -59,12 +61,12 @@ impl<
         })
     }
 
-    /// An enumerator, whose name is then in scope.
+    /// `enumerator: enumeration-constant [ = constant-expression ]` (C99 6.7.2.2); its name is in scope behind it.
     #[tactic(auto, unfolding(c_grammar::specs::Reading::enumerator_at))]
     pub fn enumerator(&self, c: &mut Cursor) -> Result<FoundEnumerator, ParseFault>
-        requires exprs { ReachesExpr self.now.source self.now.height (E.pre self.now.expr) (E.post self.now.expr) }
-        ensures reads { Gives (λ f. (f.tree, here self.now.source c.new)) result (spec.enumerator_at (rules self.now.height) (here self.now.source c.old)) }
-        ensures low { IfOk result (λ f. f.height ≤ self.now.height) }
+        requires exprs { ReachesExpr E.Fn self.now.source self.now.height self.now.expr }
+        ensures { ReadsLow (λ f. f.tree) (λ f. f.height) self.now.source c.old c.new result
+            (spec.enumerator_at (rules self.now.height)) self.now.height }
     {
         let (name, at) = self.source.name(c)?;
         let value = self.value(c)?;

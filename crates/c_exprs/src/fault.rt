@@ -7,8 +7,8 @@ pub enum ParseFault {
     /// No unit is derived from the tokens; the number is that of the token where reading stopped, counted from 0.
     #[error("no rule of the grammar takes token {0}")]
     Syntax(usize),
-    /// No unit of the greatest height or less is derived; the number is that of the token at which trees stood too deep in
-    /// one another.
+    /// No unit of the greatest height or less is derived; the number is that of the token at which trees stood too deep
+    /// in one another.
     #[error("trees stand too deep in one another at token {0}")]
     TooDeep(usize),
     /// Memory ran out.

@@ -1,7 +1,8 @@
 //! Trees of at most a height: each function reads with itself and the two others at one height less.
-ghost use Rattle.std.specs.Prelude.{◌≡◌, ◌≤◌, IfOk};
+ghost use Rattle.std.specs.Prelude.{◌≤◌};
 ghost use Rattle.c_grammar.specs.Reading.{rules};
-ghost use Rattle.c_exprs.specs.Cursor.{state_of, Gives};
+ghost use Rattle.c_exprs.specs.Cursor.{source_of};
+ghost use Rattle.c_exprs.specs.Reads.{ReadsExpr, ReadsSpecifier, ReadsDeclarator};
 
 use crate::below::Below;
 use crate::cursor::{Cursor, Source};
@@ -12,7 +13,7 @@ use c_nodes::{FoundDeclarator, FoundExpr, FoundSpecifier};
 use c_scope::FileNames;
 use std::alloc::Global;
 
-/// An expression of at most this height that binds at most so loosely (C99 6.5).
+/// An expression at a rank of the grammar, of at most this height (C99 6.5).
 #[cycle(trees)]
 pub fn expr_of(
     alloc: Global,
@@ -24,8 +25,7 @@ pub fn expr_of(
 ) -> Result<FoundExpr, ParseFault>
     requires small { height ≤ 256 }
     requires known { rank ≤ 16 }
-    ensures reads { Gives (λ f. (f.tree, state_of tokens.now file.now c.new)) result ((rules height).expr rank (state_of tokens.now file.now c.old)) }
-    ensures low { IfOk result (λ f. f.height ≤ height) }
+    ensures { ReadsExpr (source_of tokens file) c.old c.new result ((rules height).expr rank) height }
 {
     if height == 0 {
         return Err(ParseFault::TooDeep(c.position));
@@ -41,7 +41,8 @@ pub fn expr_of(
     below.read_expr(c, rank)
 }
 
-/// A declaration specifier of at most this height (C99 6.7).
+/// `declaration-specifier: storage-class-specifier | type-specifier | type-qualifier | function-specifier`
+/// (C99 6.7), of at most this height.
 #[cycle(trees)]
 pub fn specifier_of(
     alloc: Global,
@@ -51,8 +52,7 @@ pub fn specifier_of(
     height: u32,
 ) -> Result<FoundSpecifier, ParseFault>
     requires small { height ≤ 256 }
-    ensures reads { Gives (λ f. (f.tree, state_of tokens.now file.now c.new)) result ((rules height).specifier (state_of tokens.now file.now c.old)) }
-    ensures low { IfOk result (λ f. f.height ≤ height) }
+    ensures { ReadsSpecifier (source_of tokens file) c.old c.new result (rules height).specifier height }
 {
     if height == 0 {
         return Err(ParseFault::TooDeep(c.position));
@@ -68,7 +68,7 @@ pub fn specifier_of(
     below.read_specifier(c)
 }
 
-/// A declarator of at most this height at such a place (C99 6.7.5).
+/// `declarator: [ pointer ] direct-declarator` (C99 6.7.5), or an abstract one at its places, of at most this height.
 #[cycle(trees)]
 pub fn declarator_of(
     alloc: Global,
@@ -79,8 +79,7 @@ pub fn declarator_of(
     place: DeclaratorPlace,
 ) -> Result<FoundDeclarator, ParseFault>
     requires small { height ≤ 256 }
-    ensures reads { Gives (λ f. (f.tree, state_of tokens.now file.now c.new)) result ((rules height).declarator place (state_of tokens.now file.now c.old)) }
-    ensures low { IfOk result (λ f. f.height ≤ height) }
+    ensures { ReadsDeclarator (source_of tokens file) c.old c.new result ((rules height).declarator place) height }
 {
     if height == 0 {
         return Err(ParseFault::TooDeep(c.position));

@@ -1,9 +1,10 @@
 //! Members of structures and unions (C99 6.7.2.1).
-ghost use Rattle.std.specs.Prelude.{◌≡◌, ◌≤◌, IfOk, length, suc};
+ghost use Rattle.std.specs.Prelude.{◌≤◌, length, suc};
 ghost use Rattle.c_grammar.specs.Reading as spec;
 ghost use Rattle.c_grammar.specs.Reading.{rules};
-ghost use Rattle.c_exprs.specs.Below.{ReachesExpr, ReachesSpecifier, ReachesDeclarator};
-ghost use Rattle.c_exprs.specs.Cursor.{here, after, Gives};
+ghost use Rattle.c_exprs.specs.Below.{Reaches, ReachesExpr};
+ghost use Rattle.c_exprs.specs.Cursor.{after};
+ghost use Rattle.c_exprs.specs.Reads.{ReadsLow};
 
 use crate::below::Below;
 use crate::cursor::Cursor;
@@ -30,26 +31,25 @@ impl<
         DeclaratorPlace,
     ) -> Result<FoundDeclarator, ParseFault>,
 > Below<'a, E, S, D> {
-    /// A bit-field, from `:` on.
+    /// `struct-declarator: [ declarator ] : constant-expression` (C99 6.7.2.1), from `:` on: a bit-field.
     #[tactic(auto, unfolding(c_grammar::specs::Reading::bits_at))]
     pub fn bits(&self, c: &mut Cursor, name: FoundFieldName) -> Result<FoundField, ParseFault>
-        requires exprs { ReachesExpr self.now.source self.now.height (E.pre self.now.expr) (E.post self.now.expr) }
+        requires exprs { ReachesExpr E.Fn self.now.source self.now.height self.now.expr }
         requires low_name { name.height ≤ self.now.height }
-        ensures reads { Gives (λ f. (f.tree, here self.now.source c.new)) result (spec.bits_at (rules self.now.height) name.tree (here self.now.source c.old)) }
-        ensures low { IfOk result (λ f. f.height ≤ self.now.height) }
+        ensures { ReadsLow (λ f. f.tree) (λ f. f.height) self.now.source c.old c.new result
+            (spec.bits_at (rules self.now.height) name.tree) self.now.height }
     {
         let at = self.source.expect(c, Punctuator::Colon)?;
         let width = self.expr(c, 14)?;
         Ok(pieces::bits(self.alloc, at, name, width)?)
     }
 
-    /// One member.
+    /// `struct-declarator: declarator | [ declarator ] : constant-expression` (C99 6.7.2.1): one member.
     #[tactic(auto, unfolding(c_grammar::specs::Reading::field_at))]
     pub fn field(&self, c: &mut Cursor) -> Result<FoundField, ParseFault>
-        requires exprs { ReachesExpr self.now.source self.now.height (E.pre self.now.expr) (E.post self.now.expr) }
-        requires declarators { ReachesDeclarator self.now.source self.now.height (D.pre self.now.declarator) (D.post self.now.declarator) }
-        ensures reads { Gives (λ f. (f.tree, here self.now.source c.new)) result (spec.field_at (rules self.now.height) (here self.now.source c.old)) }
-        ensures low { IfOk result (λ f. f.height ≤ self.now.height) }
+        requires reaches { Reaches E.Fn S.Fn D.Fn self.now }
+        ensures { ReadsLow (λ f. f.tree) (λ f. f.height) self.now.source c.old c.new result
+            (spec.field_at (rules self.now.height)) self.now.height }
     {
         if self.source.begins(c, Punctuator::Colon) {
             return self.bits(c, pieces::unnamed());
@@ -62,13 +62,14 @@ impl<
         Ok(pieces::plain(self.alloc, found)?)
     }
 
-    /// These members, and those behind a comma.
+    /// `struct-declarator-list: struct-declarator { , struct-declarator }` (C99 6.7.2.1), behind the first: these
+    /// members, and those behind a comma.
     pub fn more_fields(&self, c: &mut Cursor, first: FoundFields) -> Result<FoundFields, ParseFault>
-        requires exprs { ReachesExpr self.now.source self.now.height (E.pre self.now.expr) (E.post self.now.expr) }
-        requires declarators { ReachesDeclarator self.now.source self.now.height (D.pre self.now.declarator) (D.post self.now.declarator) }
+        requires reaches { Reaches E.Fn S.Fn D.Fn self.now }
         requires low_first { first.height ≤ self.now.height }
-        ensures reads { Gives (λ f. (f.trees, here self.now.source c.new)) result (after first.trees (spec.more_fields_at (rules self.now.height) (suc (length (here self.now.source c.old).0)) (here self.now.source c.old))) }
-        ensures low { IfOk result (λ f. f.height ≤ self.now.height) }
+        ensures { ReadsLow (λ f. f.trees) (λ f. f.height) self.now.source c.old c.new result
+            (λ s. after first.trees (spec.more_fields_at (rules self.now.height) (suc (length s.0)) s))
+            self.now.height }
     {
         let mut all = first;
         let mut left = self.source.turns(c);
@@ -84,13 +85,12 @@ impl<
         Err(ParseFault::Syntax(c.position))
     }
 
-    /// The members that a declaration declares, or none.
+    /// `[ struct-declarator-list ]` (C99 6.7.2.1): the members that a declaration declares, or none.
     #[tactic(auto, unfolding(c_grammar::specs::Reading::fields_at))]
     pub fn fields(&self, c: &mut Cursor) -> Result<FoundFields, ParseFault>
-        requires exprs { ReachesExpr self.now.source self.now.height (E.pre self.now.expr) (E.post self.now.expr) }
-        requires declarators { ReachesDeclarator self.now.source self.now.height (D.pre self.now.declarator) (D.post self.now.declarator) }
-        ensures reads { Gives (λ f. (f.trees, here self.now.source c.new)) result (spec.fields_at (rules self.now.height) (here self.now.source c.old)) }
-        ensures low { IfOk result (λ f. f.height ≤ self.now.height) }
+        requires reaches { Reaches E.Fn S.Fn D.Fn self.now }
+        ensures { ReadsLow (λ f. f.trees) (λ f. f.height) self.now.source c.old c.new result
+            (spec.fields_at (rules self.now.height)) self.now.height }
     {
         let none = pieces::no_fields(self.alloc);
         if self.source.begins(c, Punctuator::Semicolon) {
@@ -101,14 +101,12 @@ impl<
         self.more_fields(c, first)
     }
 
-    /// A declaration of members.
+    /// `struct-declaration: specifier-qualifier-list [ struct-declarator-list ] ;` (C99 6.7.2.1).
     #[tactic(auto, unfolding(c_grammar::specs::Reading::member_at))]
     pub fn member_declaration(&self, c: &mut Cursor) -> Result<FoundMember, ParseFault>
-        requires exprs { ReachesExpr self.now.source self.now.height (E.pre self.now.expr) (E.post self.now.expr) }
-        requires specifiers { ReachesSpecifier self.now.source self.now.height (S.pre self.now.specifier) (S.post self.now.specifier) }
-        requires declarators { ReachesDeclarator self.now.source self.now.height (D.pre self.now.declarator) (D.post self.now.declarator) }
-        ensures reads { Gives (λ f. (f.tree, here self.now.source c.new)) result (spec.member_at (rules self.now.height) (here self.now.source c.old)) }
-        ensures low { IfOk result (λ f. f.height ≤ self.now.height) }
+        requires reaches { Reaches E.Fn S.Fn D.Fn self.now }
+        ensures { ReadsLow (λ f. f.tree) (λ f. f.height) self.now.source c.old c.new result
+            (spec.member_at (rules self.now.height)) self.now.height }
     {
         let specifiers = self.specification(c)?;
         let fields = self.fields(c)?;

@@ -1,9 +1,9 @@
 //! Operators behind an operand, one after the other (C99 6.5.2, 6.5.5 to 6.5.17).
-ghost use Rattle.std.specs.Prelude.{◌≡◌, ◌≤◌, ◌<◌, ◌+◌, IfOk, length, suc};
+ghost use Rattle.std.specs.Prelude.{◌≤◌, ◌<◌, ◌+◌, length, suc};
 ghost use Rattle.c_grammar.specs.Reading as spec;
 ghost use Rattle.c_grammar.specs.Reading.{rules};
 ghost use Rattle.c_exprs.specs.Below.{ReachesExpr};
-ghost use Rattle.c_exprs.specs.Cursor.{here, Gives};
+ghost use Rattle.c_exprs.specs.Reads.{ReadsExpr};
 
 use crate::below::Below;
 use crate::cursor::Cursor;
@@ -28,7 +28,9 @@ impl<
         DeclaratorPlace,
     ) -> Result<FoundDeclarator, ParseFault>,
 > Below<'a, E, S, D> {
-    /// An operand with the operator that this punctuator is, which was taken, and what follows that.
+    /// `postfix-expression: postfix-expression ( [ .. ] | ( .. ) | . .. | -> .. | ++ | -- )` (C99 6.5.2), or the
+    /// operator and the right operand of a looser expression (C99 6.5.5 to 6.5.17), after the first punctuator of
+    /// it.
     fn extend_by(
         &self,
         c: &mut Cursor,
@@ -36,11 +38,11 @@ impl<
         mark: Punctuator,
         left: FoundExpr,
     ) -> Result<FoundExpr, ParseFault>
-        requires exprs { ReachesExpr self.now.source self.now.height (E.pre self.now.expr) (E.post self.now.expr) }
+        requires exprs { ReachesExpr E.Fn self.now.source self.now.height self.now.expr }
         requires small { self.now.height < 500 }
         requires low_left { left.height ≤ self.now.height + 1 }
-        ensures reads { Gives (λ f. (f.tree, here self.now.source c.new)) result (spec.extend_by (rules self.now.height) left.tree mark at (here self.now.source c.old)) }
-        ensures low { IfOk result (λ f. f.height ≤ self.now.height + 2) }
+        ensures { ReadsExpr self.now.source c.old c.new result
+            (spec.extend_by (rules self.now.height) left.tree mark at) (self.now.height + 2) }
     {
         match mark {
             Punctuator::LeftBracket => self.subscript(c, at, left),
@@ -59,13 +61,15 @@ impl<
         }
     }
 
-    /// An operand with the operator that comes next, and what follows that.
+    /// `postfix-expression: postfix-expression ( [ .. ] | ( .. ) | . .. | -> .. | ++ | -- )` (C99 6.5.2), or the
+    /// operator and the right operand of a looser expression (C99 6.5.5 to 6.5.17): what follows the operand on its
+    /// left.
     fn extend(&self, c: &mut Cursor, left: FoundExpr) -> Result<FoundExpr, ParseFault>
-        requires exprs { ReachesExpr self.now.source self.now.height (E.pre self.now.expr) (E.post self.now.expr) }
+        requires exprs { ReachesExpr E.Fn self.now.source self.now.height self.now.expr }
         requires small { self.now.height < 500 }
         requires low_left { left.height ≤ self.now.height + 1 }
-        ensures reads { Gives (λ f. (f.tree, here self.now.source c.new)) result (spec.extend_in (rules self.now.height) left.tree (here self.now.source c.old).0 (here self.now.source c.old).1) }
-        ensures low { IfOk result (λ f. f.height ≤ self.now.height + 2) }
+        ensures { ReadsExpr self.now.source c.old c.new result
+            (λ s. spec.extend_in (rules self.now.height) left.tree s.0 s.1) (self.now.height + 2) }
     {
         match self.source.tokens.get(c.position) {
             Some(token) => match &token.kind {
@@ -79,13 +83,15 @@ impl<
         }
     }
 
-    /// Operators of this rank, one after the other, each with all before it as its left operand.
+    /// `additive-expression: multiplicative-expression { ( + | - ) multiplicative-expression }`, and so at each rank
+    /// (C99 6.5.2, 6.5.5 to 6.5.17): the operators of a rank, each with all before it as its left operand.
     pub fn more(&self, c: &mut Cursor, rank: u32, left: FoundExpr) -> Result<FoundExpr, ParseFault>
-        requires exprs { ReachesExpr self.now.source self.now.height (E.pre self.now.expr) (E.post self.now.expr) }
+        requires exprs { ReachesExpr E.Fn self.now.source self.now.height self.now.expr }
         requires small { self.now.height < 500 }
         requires low_left { left.height ≤ self.now.height + 1 }
-        ensures reads { Gives (λ f. (f.tree, here self.now.source c.new)) result (spec.more_at (rules self.now.height) (suc self.now.height) rank (suc (length (here self.now.source c.old).0)) left.tree (here self.now.source c.old)) }
-        ensures low { IfOk result (λ f. f.height ≤ self.now.height + 1) }
+        ensures { ReadsExpr self.now.source c.old c.new result
+            (λ s. spec.more_at (rules self.now.height) (suc self.now.height) rank (suc (length s.0)) left.tree s)
+            (self.now.height + 1) }
     {
         let mut all = left;
         let mut turns = self.source.turns(c);

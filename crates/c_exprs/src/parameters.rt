@@ -1,9 +1,10 @@
 //! Functions in declarators, and their parameters (C99 6.7.5.3).
-ghost use Rattle.std.specs.Prelude.{◌≡◌, ◌≤◌, ◌<◌, ◌+◌, IfOk, false, length, suc};
+ghost use Rattle.std.specs.Prelude.{◌≡◌, ◌≤◌, ◌<◌, ◌+◌, false, length, suc};
 ghost use Rattle.c_grammar.specs.Reading as spec;
 ghost use Rattle.c_grammar.specs.Reading.{rules};
-ghost use Rattle.c_exprs.specs.Below.{ReachesExpr, ReachesSpecifier, ReachesDeclarator};
-ghost use Rattle.c_exprs.specs.Cursor.{here, behind, Gives};
+ghost use Rattle.c_exprs.specs.Below.{Reaches};
+ghost use Rattle.c_exprs.specs.Cursor.{behind};
+ghost use Rattle.c_exprs.specs.Reads.{ReadsDeclarator, ReadsLow};
 
 use crate::below::Below;
 use crate::cursor::Cursor;
@@ -29,13 +30,13 @@ impl<
         DeclaratorPlace,
     ) -> Result<FoundDeclarator, ParseFault>,
 > Below<'a, E, S, D> {
-    /// A parameter, whose name is then in scope.
+    /// `parameter-declaration: declaration-specifiers ( declarator | [ abstract-declarator ] )` (C99 6.7.5); its
+    /// name is in scope behind it.
     #[tactic(auto, unfolding(c_grammar::specs::Reading::parameter_at))]
     pub fn parameter(&self, c: &mut Cursor) -> Result<FoundParameter, ParseFault>
-        requires specifiers { ReachesSpecifier self.now.source self.now.height (S.pre self.now.specifier) (S.post self.now.specifier) }
-        requires declarators { ReachesDeclarator self.now.source self.now.height (D.pre self.now.declarator) (D.post self.now.declarator) }
-        ensures reads { Gives (λ f. (f.tree, here self.now.source c.new)) result (spec.parameter_at (rules self.now.height) (here self.now.source c.old)) }
-        ensures low { IfOk result (λ f. f.height ≤ self.now.height) }
+        requires reaches { Reaches E.Fn S.Fn D.Fn self.now }
+        ensures { ReadsLow (λ f. f.tree) (λ f. f.height) self.now.source c.old c.new result
+            (spec.parameter_at (rules self.now.height)) self.now.height }
     {
         let specifiers = self.specification(c)?;
         let found = self.declarator(c, DeclaratorPlace::Parameter)?;
@@ -43,18 +44,19 @@ impl<
         Ok(declarator::parameter(self.alloc, specifiers, found)?)
     }
 
-    /// These parameters, and those behind a comma, up to `)` or `...`.
+    /// `parameter-type-list: parameter-declaration { , parameter-declaration } [ , ... ]` (C99 6.7.5), behind the
+    /// first: these parameters, and those behind a comma, up to `)` or `...`.
     pub fn more_parameters(
         &self,
         c: &mut Cursor,
         first: FoundParameters,
     ) -> Result<FoundParameters, ParseFault>
-        requires specifiers { ReachesSpecifier self.now.source self.now.height (S.pre self.now.specifier) (S.post self.now.specifier) }
-        requires declarators { ReachesDeclarator self.now.source self.now.height (D.pre self.now.declarator) (D.post self.now.declarator) }
+        requires reaches { Reaches E.Fn S.Fn D.Fn self.now }
         requires low_first { first.height ≤ self.now.height }
         requires fixed { first.variadic ≡ false }
-        ensures reads { Gives (λ f. ((f.trees, f.variadic), here self.now.source c.new)) result (behind first.trees (spec.more_parameters_at (rules self.now.height) (suc (length (here self.now.source c.old).0)) (here self.now.source c.old))) }
-        ensures low { IfOk result (λ f. f.height ≤ self.now.height) }
+        ensures { ReadsLow (λ f. (f.trees, f.variadic)) (λ f. f.height) self.now.source c.old c.new result
+            (λ s. behind first.trees (spec.more_parameters_at (rules self.now.height) (suc (length s.0)) s))
+            self.now.height }
     {
         let mut all = first;
         let mut left = self.source.turns(c);
@@ -74,13 +76,12 @@ impl<
         Err(ParseFault::Syntax(c.position))
     }
 
-    /// Parameters, or none before `)`.
+    /// `[ parameter-type-list ]` (C99 6.7.5): parameters, or none before `)`.
     #[tactic(auto, unfolding(c_grammar::specs::Reading::parameters_at))]
     pub fn parameters(&self, c: &mut Cursor) -> Result<FoundParameters, ParseFault>
-        requires specifiers { ReachesSpecifier self.now.source self.now.height (S.pre self.now.specifier) (S.post self.now.specifier) }
-        requires declarators { ReachesDeclarator self.now.source self.now.height (D.pre self.now.declarator) (D.post self.now.declarator) }
-        ensures reads { Gives (λ f. ((f.trees, f.variadic), here self.now.source c.new)) result (spec.parameters_at (rules self.now.height) (here self.now.source c.old)) }
-        ensures low { IfOk result (λ f. f.height ≤ self.now.height) }
+        requires reaches { Reaches E.Fn S.Fn D.Fn self.now }
+        ensures { ReadsLow (λ f. (f.trees, f.variadic)) (λ f. f.height) self.now.source c.old c.new result
+            (spec.parameters_at (rules self.now.height)) self.now.height }
     {
         let none = declarator::no_parameters(self.alloc);
         if self.source.begins(c, Punctuator::RightParen) {
@@ -91,7 +92,7 @@ impl<
         self.more_parameters(c, first)
     }
 
-    /// A function, after `(`.
+    /// `direct-declarator: direct-declarator ( [ parameter-type-list ] )` (C99 6.7.5.3), after `(`.
     #[tactic(auto, unfolding(c_grammar::specs::Reading::function_at))]
     pub fn function(
         &self,
@@ -100,12 +101,11 @@ impl<
         at: u32,
         returned: FoundDeclarator,
     ) -> Result<FoundDeclarator, ParseFault>
-        requires specifiers { ReachesSpecifier self.now.source self.now.height (S.pre self.now.specifier) (S.post self.now.specifier) }
-        requires declarators { ReachesDeclarator self.now.source self.now.height (D.pre self.now.declarator) (D.post self.now.declarator) }
+        requires reaches { Reaches E.Fn S.Fn D.Fn self.now }
         requires small { self.now.height < 500 }
         requires low_returned { returned.height ≤ self.now.height + 1 }
-        ensures reads { Gives (λ f. (f.tree, here self.now.source c.new)) result (spec.function_at (rules self.now.height) place at returned.tree (here self.now.source c.old)) }
-        ensures low { IfOk result (λ f. f.height ≤ self.now.height + 2) }
+        ensures { ReadsDeclarator self.now.source c.old c.new result
+            (spec.function_at (rules self.now.height) place at returned.tree) (self.now.height + 2) }
     {
         self.source.enter(c)?;
         let parameters = self.parameters(c)?;

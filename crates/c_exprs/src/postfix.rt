@@ -1,10 +1,10 @@
 //! Operators behind an operand (C99 6.5.2, 6.5.5 to 6.5.17).
-ghost use Rattle.std.specs.Prelude.{◌≡◌, ◌≤◌, ◌<◌, ◌+◌, IfOk, map};
+ghost use Rattle.std.specs.Prelude.{◌≤◌, ◌<◌, ◌+◌, IfOk};
 ghost use Rattle.c_grammar.specs.Reading as spec;
 ghost use Rattle.c_grammar.specs.Reading.{rules};
 ghost use Rattle.c_grammar.specs.Grammar.{shape, highest_shape};
 ghost use Rattle.c_exprs.specs.Below.{ReachesExpr};
-ghost use Rattle.c_exprs.specs.Cursor.{here, Gives};
+ghost use Rattle.c_exprs.specs.Reads.{Reads, ReadsExpr};
 ghost use Rattle.c_exprs.specs.Conditional.{arms_at, chosen_at};
 
 use crate::below::Below;
@@ -30,7 +30,7 @@ impl<
         DeclaratorPlace,
     ) -> Result<FoundDeclarator, ParseFault>,
 > Below<'a, E, S, D> {
-    /// After `[`.
+    /// `postfix-expression: postfix-expression [ expression ]` (C99 6.5.2.1), after the `[`.
     #[tactic(auto, unfolding(c_grammar::specs::Reading::subscript_at))]
     pub fn subscript(
         &self,
@@ -38,18 +38,19 @@ impl<
         at: u32,
         left: FoundExpr,
     ) -> Result<FoundExpr, ParseFault>
-        requires exprs { ReachesExpr self.now.source self.now.height (E.pre self.now.expr) (E.post self.now.expr) }
+        requires exprs { ReachesExpr E.Fn self.now.source self.now.height self.now.expr }
         requires small { self.now.height < 500 }
         requires low_left { left.height ≤ self.now.height + 1 }
-        ensures reads { Gives (λ f. (f.tree, here self.now.source c.new)) result (spec.subscript_at (rules self.now.height) at left.tree (here self.now.source c.old)) }
-        ensures low { IfOk result (λ f. f.height ≤ self.now.height + 2) }
+        ensures { ReadsExpr self.now.source c.old c.new result
+            (spec.subscript_at (rules self.now.height) at left.tree) (self.now.height + 2) }
     {
         let index = self.expr(c, 16)?;
         self.source.expect(c, Punctuator::RightBracket)?;
         Ok(expr::subscript(self.alloc, at, left, index)?)
     }
 
-    /// After a binary operator.
+    /// `multiplicative-expression: multiplicative-expression ( * | / | % ) cast-expression`, and so at each rank up to
+    /// `logical-OR-expression` (C99 6.5.5 to 6.5.14), after the operator.
     #[tactic(auto, unfolding(c_grammar::specs::Reading::binary_at))]
     pub fn binary(
         &self,
@@ -58,22 +59,23 @@ impl<
         operator: BinaryOperator,
         left: FoundExpr,
     ) -> Result<FoundExpr, ParseFault>
-        requires exprs { ReachesExpr self.now.source self.now.height (E.pre self.now.expr) (E.post self.now.expr) }
+        requires exprs { ReachesExpr E.Fn self.now.source self.now.height self.now.expr }
         requires small { self.now.height < 500 }
         requires low_left { left.height ≤ self.now.height + 1 }
-        ensures reads { Gives (λ f. (f.tree, here self.now.source c.new)) result (spec.binary_at (rules self.now.height) at operator left.tree (here self.now.source c.old)) }
-        ensures low { IfOk result (λ f. f.height ≤ self.now.height + 2) }
+        ensures { ReadsExpr self.now.source c.old c.new result
+            (spec.binary_at (rules self.now.height) at operator left.tree) (self.now.height + 2) }
     {
         let rank = rank_of(operator);
         let right = self.expr(c, rank - 1)?;
         Ok(expr::binary(self.alloc, at, operator, left, right)?)
     }
 
-    /// The two arms of a conditional expression, with `:` between them.
+    /// `expression : conditional-expression` (C99 6.5.15): both arms, with the `:` between them.
     #[tactic(auto, unfolding(crate::specs::Conditional::arms_at))]
     fn arms(&self, c: &mut Cursor) -> Result<(FoundExpr, FoundExpr), ParseFault>
-        requires exprs { ReachesExpr self.now.source self.now.height (E.pre self.now.expr) (E.post self.now.expr) }
-        ensures reads { Gives (λ x. ((x.0.tree, x.1.tree), here self.now.source c.new)) result (arms_at (rules self.now.height) (here self.now.source c.old)) }
+        requires exprs { ReachesExpr E.Fn self.now.source self.now.height self.now.expr }
+        ensures reads { Reads (λ x. (x.0.tree, x.1.tree)) self.now.source c.old c.new result
+            (arms_at (rules self.now.height)) }
         ensures low { IfOk result (λ x. (x.0.height ≤ self.now.height) × (x.1.height ≤ self.now.height)) }
     {
         let positive = self.expr(c, 16)?;
@@ -82,20 +84,21 @@ impl<
         Ok((positive, negative))
     }
 
-    /// After `?` behind a condition that may stand there.
+    /// `? expression : conditional-expression` (C99 6.5.15), after the `?`, where the condition may stand there.
     #[tactic(auto, unfolding(crate::specs::Conditional::chosen_at))]
     fn choose(&self, c: &mut Cursor, at: u32, left: FoundExpr) -> Result<FoundExpr, ParseFault>
-        requires exprs { ReachesExpr self.now.source self.now.height (E.pre self.now.expr) (E.post self.now.expr) }
+        requires exprs { ReachesExpr E.Fn self.now.source self.now.height self.now.expr }
         requires small { self.now.height < 500 }
         requires low_left { left.height ≤ self.now.height + 1 }
-        ensures reads { Gives (λ f. (f.tree, here self.now.source c.new)) result (chosen_at (rules self.now.height) at left.tree (here self.now.source c.old)) }
-        ensures low { IfOk result (λ f. f.height ≤ self.now.height + 2) }
+        ensures { ReadsExpr self.now.source c.old c.new result
+            (chosen_at (rules self.now.height) at left.tree) (self.now.height + 2) }
     {
         let (positive, negative) = self.arms(c)?;
         Ok(expr::conditional(self.alloc, at, left, positive, negative)?)
     }
 
-    /// After `?`.
+    /// `conditional-expression: logical-OR-expression [ ? expression : conditional-expression ]` (C99 6.5.15),
+    /// after `?`.
     #[tactic(auto, using(crate::proofs::Choosing::conditional_none, crate::proofs::Choosing::conditional_goes))]
     pub fn conditional(
         &self,
@@ -103,11 +106,11 @@ impl<
         at: u32,
         left: FoundExpr,
     ) -> Result<FoundExpr, ParseFault>
-        requires exprs { ReachesExpr self.now.source self.now.height (E.pre self.now.expr) (E.post self.now.expr) }
+        requires exprs { ReachesExpr E.Fn self.now.source self.now.height self.now.expr }
         requires small { self.now.height < 500 }
         requires low_left { left.height ≤ self.now.height + 1 }
-        ensures reads { Gives (λ f. (f.tree, here self.now.source c.new)) result (spec.conditional_at (rules self.now.height) at left.tree (here self.now.source c.old)) }
-        ensures low { IfOk result (λ f. f.height ≤ self.now.height + 2) }
+        ensures { ReadsExpr self.now.source c.old c.new result
+            (spec.conditional_at (rules self.now.height) at left.tree) (self.now.height + 2) }
     {
         if left.rank > 13 {
             return Err(ParseFault::Syntax(c.position.saturating_sub(1)));
@@ -115,31 +118,31 @@ impl<
         self.choose(c, at, left)
     }
 
-    /// After `.`.
+    /// `postfix-expression: postfix-expression . identifier` (C99 6.5.2.3), after `.`.
     #[tactic(auto, unfolding(c_grammar::specs::Reading::member_of_at))]
     pub fn member(&self, c: &mut Cursor, at: u32, left: FoundExpr) -> Result<FoundExpr, ParseFault>
         requires small { self.now.height < 500 }
         requires low_left { left.height ≤ self.now.height + 1 }
-        ensures reads { Gives (λ f. (f.tree, here self.now.source c.new)) result (spec.member_of_at at left.tree (here self.now.source c.old)) }
-        ensures low { IfOk result (λ f. f.height ≤ self.now.height + 2) }
+        ensures { ReadsExpr self.now.source c.old c.new result
+            (spec.member_of_at at left.tree) (self.now.height + 2) }
     {
         let (member, _) = self.source.name(c)?;
         Ok(expr::member(self.alloc, at, member, left)?)
     }
 
-    /// After `->`.
+    /// `postfix-expression: postfix-expression -> identifier` (C99 6.5.2.3), after `->`.
     #[tactic(auto, unfolding(c_grammar::specs::Reading::arrow_at))]
     pub fn arrow(&self, c: &mut Cursor, at: u32, left: FoundExpr) -> Result<FoundExpr, ParseFault>
         requires small { self.now.height < 500 }
         requires low_left { left.height ≤ self.now.height + 1 }
-        ensures reads { Gives (λ f. (f.tree, here self.now.source c.new)) result (spec.arrow_at at left.tree (here self.now.source c.old)) }
-        ensures low { IfOk result (λ f. f.height ≤ self.now.height + 2) }
+        ensures { ReadsExpr self.now.source c.old c.new result (spec.arrow_at at left.tree) (self.now.height + 2) }
     {
         let (member, _) = self.source.name(c)?;
         Ok(expr::arrow(self.alloc, at, member, left)?)
     }
 
-    /// After `=` or a compound assignment's operator.
+    /// `assignment-expression: unary-expression assignment-operator assignment-expression` (C99 6.5.16), after the
+    /// operator.
     #[tactic(auto, unfolding(c_grammar::specs::Reading::assign_at))]
     pub fn assign(
         &self,
@@ -148,11 +151,11 @@ impl<
         operator: Option<BinaryOperator>,
         left: FoundExpr,
     ) -> Result<FoundExpr, ParseFault>
-        requires exprs { ReachesExpr self.now.source self.now.height (E.pre self.now.expr) (E.post self.now.expr) }
+        requires exprs { ReachesExpr E.Fn self.now.source self.now.height self.now.expr }
         requires small { self.now.height < 500 }
         requires low_left { left.height ≤ self.now.height + 1 }
-        ensures reads { Gives (λ f. (f.tree, here self.now.source c.new)) result (spec.assign_at (rules self.now.height) at operator left.tree (here self.now.source c.old)) }
-        ensures low { IfOk result (λ f. f.height ≤ self.now.height + 2) }
+        ensures { ReadsExpr self.now.source c.old c.new result
+            (spec.assign_at (rules self.now.height) at operator left.tree) (self.now.height + 2) }
     {
         if left.rank > 2 {
             return Err(ParseFault::Syntax(c.position.saturating_sub(1)));
@@ -161,14 +164,14 @@ impl<
         Ok(expr::assign(self.alloc, at, operator, left, value)?)
     }
 
-    /// After `,`.
+    /// `expression: expression , assignment-expression` (C99 6.5.17), after `,`.
     #[tactic(auto, unfolding(c_grammar::specs::Reading::comma_at))]
     pub fn comma(&self, c: &mut Cursor, at: u32, left: FoundExpr) -> Result<FoundExpr, ParseFault>
-        requires exprs { ReachesExpr self.now.source self.now.height (E.pre self.now.expr) (E.post self.now.expr) }
+        requires exprs { ReachesExpr E.Fn self.now.source self.now.height self.now.expr }
         requires small { self.now.height < 500 }
         requires low_left { left.height ≤ self.now.height + 1 }
-        ensures reads { Gives (λ f. (f.tree, here self.now.source c.new)) result (spec.comma_at (rules self.now.height) at left.tree (here self.now.source c.old)) }
-        ensures low { IfOk result (λ f. f.height ≤ self.now.height + 2) }
+        ensures { ReadsExpr self.now.source c.old c.new result
+            (spec.comma_at (rules self.now.height) at left.tree) (self.now.height + 2) }
     {
         let right = self.expr(c, 15)?;
         Ok(expr::comma(self.alloc, at, left, right)?)
@@ -182,11 +185,11 @@ impl<
         found: Option<Infix>,
         left: FoundExpr,
     ) -> Result<FoundExpr, ParseFault>
-        requires exprs { ReachesExpr self.now.source self.now.height (E.pre self.now.expr) (E.post self.now.expr) }
+        requires exprs { ReachesExpr E.Fn self.now.source self.now.height self.now.expr }
         requires small { self.now.height < 500 }
         requires low_left { left.height ≤ self.now.height + 1 }
-        ensures reads { Gives (λ f. (f.tree, here self.now.source c.new)) result (spec.infix_at (rules self.now.height) at found left.tree (here self.now.source c.old)) }
-        ensures low { IfOk result (λ f. f.height ≤ self.now.height + 2) }
+        ensures { ReadsExpr self.now.source c.old c.new result
+            (spec.infix_at (rules self.now.height) at found left.tree) (self.now.height + 2) }
     {
         match found {
             None => Err(ParseFault::Syntax(c.position)),

@@ -1,9 +1,10 @@
 //! Types in parentheses before an operand: casts and `sizeof` (C99 6.5.3.4, 6.5.4).
-ghost use Rattle.std.specs.Prelude.{◌≡◌, ◌≤◌, ◌<◌, ◌+◌, IfOk};
+ghost use Rattle.std.specs.Prelude.{◌≡◌, ◌<◌, ◌+◌};
 ghost use Rattle.c_grammar.specs.Reading as spec;
 ghost use Rattle.c_grammar.specs.Reading.{rules};
-ghost use Rattle.c_exprs.specs.Below.{ReachesExpr, ReachesSpecifier, ReachesDeclarator};
-ghost use Rattle.c_exprs.specs.Cursor.{here, Gives};
+ghost use Rattle.c_exprs.specs.Below.{Reaches};
+ghost use Rattle.c_exprs.specs.Cursor.{here};
+ghost use Rattle.c_exprs.specs.Reads.{ReadsExpr, ReadsLow};
 
 use crate::below::Below;
 use crate::cursor::{Cursor, Source};
@@ -48,13 +49,12 @@ impl<
         DeclaratorPlace,
     ) -> Result<FoundDeclarator, ParseFault>,
 > Below<'a, E, S, D> {
-    /// A type name in parentheses, and the offset of `(`.
+    /// `( type-name )` (C99 6.5.3, 6.5.4): the offset of `(`, and the type name.
     #[tactic(auto, unfolding(c_grammar::specs::Reading::parenthesized_type_at))]
     fn parenthesized_type(&self, c: &mut Cursor) -> Result<(u32, FoundType), ParseFault>
-        requires specifiers { ReachesSpecifier self.now.source self.now.height (S.pre self.now.specifier) (S.post self.now.specifier) }
-        requires declarators { ReachesDeclarator self.now.source self.now.height (D.pre self.now.declarator) (D.post self.now.declarator) }
-        ensures reads { Gives (λ x. ((x.0, x.1.tree), here self.now.source c.new)) result (spec.parenthesized_type_at (rules self.now.height) (here self.now.source c.old)) }
-        ensures low { IfOk result (λ x. x.1.height ≤ self.now.height) }
+        requires reaches { Reaches E.Fn S.Fn D.Fn self.now }
+        ensures { ReadsLow (λ x. (x.0, x.1.tree)) (λ x. x.1.height) self.now.source c.old c.new result
+            (spec.parenthesized_type_at (rules self.now.height)) self.now.height }
     {
         let at = self.source.expect(c, Punctuator::LeftParen)?;
         let named = self.type_name(c)?;
@@ -62,15 +62,13 @@ impl<
         Ok((at, named))
     }
 
-    /// After the word `sizeof`.
+    /// `unary-expression: sizeof ( unary-expression | ( type-name ) )` (C99 6.5.3.4), after the word `sizeof`.
     #[tactic(auto, unfolding(c_grammar::specs::Reading::sizeof_at))]
     fn size(&self, c: &mut Cursor, at: u32) -> Result<FoundExpr, ParseFault>
-        requires exprs { ReachesExpr self.now.source self.now.height (E.pre self.now.expr) (E.post self.now.expr) }
-        requires specifiers { ReachesSpecifier self.now.source self.now.height (S.pre self.now.specifier) (S.post self.now.specifier) }
-        requires declarators { ReachesDeclarator self.now.source self.now.height (D.pre self.now.declarator) (D.post self.now.declarator) }
+        requires reaches { Reaches E.Fn S.Fn D.Fn self.now }
         requires small { self.now.height < 500 }
-        ensures reads { Gives (λ f. (f.tree, here self.now.source c.new)) result (spec.sizeof_at (rules self.now.height) at (here self.now.source c.old)) }
-        ensures low { IfOk result (λ f. f.height ≤ self.now.height + 1) }
+        ensures { ReadsExpr self.now.source c.old c.new result
+            (spec.sizeof_at (rules self.now.height) at) (self.now.height + 1) }
     {
         if self.source.begins_typed(c) {
             let (_, named) = self.parenthesized_type(c)?;
@@ -80,28 +78,24 @@ impl<
         Ok(expr::sizeof_expr(self.alloc, at, operand)?)
     }
 
-    /// `sizeof`, and an operand or a type name in parentheses.
+    /// `unary-expression: sizeof unary-expression | sizeof ( type-name )` (C99 6.5.3.4).
     pub fn sized(&self, c: &mut Cursor) -> Result<FoundExpr, ParseFault>
-        requires exprs { ReachesExpr self.now.source self.now.height (E.pre self.now.expr) (E.post self.now.expr) }
-        requires specifiers { ReachesSpecifier self.now.source self.now.height (S.pre self.now.specifier) (S.post self.now.specifier) }
-        requires declarators { ReachesDeclarator self.now.source self.now.height (D.pre self.now.declarator) (D.post self.now.declarator) }
+        requires reaches { Reaches E.Fn S.Fn D.Fn self.now }
         requires small { self.now.height < 500 }
-        ensures reads { Gives (λ f. (f.tree, here self.now.source c.new)) result (spec.sized_at (rules self.now.height) (here self.now.source c.old)) }
-        ensures low { IfOk result (λ f. f.height ≤ self.now.height + 1) }
+        ensures { ReadsExpr self.now.source c.old c.new result
+            (spec.sized_at (rules self.now.height)) (self.now.height + 1) }
     {
         let at = self.source.expect_keyword(c, Keyword::Sizeof)?;
         self.size(c, at)
     }
 
-    /// A type name in parentheses, and its operand.
+    /// `cast-expression: ( type-name ) cast-expression` (C99 6.5.4).
     #[tactic(auto, unfolding(c_grammar::specs::Reading::cast_at))]
     pub fn cast(&self, c: &mut Cursor) -> Result<FoundExpr, ParseFault>
-        requires exprs { ReachesExpr self.now.source self.now.height (E.pre self.now.expr) (E.post self.now.expr) }
-        requires specifiers { ReachesSpecifier self.now.source self.now.height (S.pre self.now.specifier) (S.post self.now.specifier) }
-        requires declarators { ReachesDeclarator self.now.source self.now.height (D.pre self.now.declarator) (D.post self.now.declarator) }
+        requires reaches { Reaches E.Fn S.Fn D.Fn self.now }
         requires small { self.now.height < 500 }
-        ensures reads { Gives (λ f. (f.tree, here self.now.source c.new)) result (spec.cast_at (rules self.now.height) (here self.now.source c.old)) }
-        ensures low { IfOk result (λ f. f.height ≤ self.now.height + 1) }
+        ensures { ReadsExpr self.now.source c.old c.new result
+            (spec.cast_at (rules self.now.height)) (self.now.height + 1) }
     {
         let (at, named) = self.parenthesized_type(c)?;
         let operand = self.expr(c, 3)?;

@@ -1,9 +1,9 @@
 //! Primary expressions (C99 6.5.1), and operators before an operand (C99 6.5.3, 6.5.4).
-ghost use Rattle.std.specs.Prelude.{◌≡◌, ◌≤◌, ◌<◌, ◌+◌, IfOk, suc};
+ghost use Rattle.std.specs.Prelude.{◌<◌, ◌+◌};
 ghost use Rattle.c_grammar.specs.Reading as spec;
 ghost use Rattle.c_grammar.specs.Reading.{rules};
 ghost use Rattle.c_exprs.specs.Below.{ReachesExpr};
-ghost use Rattle.c_exprs.specs.Cursor.{here, Gives};
+ghost use Rattle.c_exprs.specs.Reads.{ReadsExpr};
 
 use crate::below::Below;
 use crate::cursor::Cursor;
@@ -29,38 +29,36 @@ impl<
         DeclaratorPlace,
     ) -> Result<FoundDeclarator, ParseFault>,
 > Below<'a, E, S, D> {
-    /// An expression in parentheses, after `(`.
+    /// `primary-expression: ( expression )` (C99 6.5.1), after `(`.
     #[tactic(auto, unfolding(c_grammar::specs::Reading::parenthesized_at))]
     pub fn parenthesized(&self, c: &mut Cursor, at: u32) -> Result<FoundExpr, ParseFault>
-        requires exprs { ReachesExpr self.now.source self.now.height (E.pre self.now.expr) (E.post self.now.expr) }
+        requires exprs { ReachesExpr E.Fn self.now.source self.now.height self.now.expr }
         requires small { self.now.height < 500 }
-        ensures reads { Gives (λ f. (f.tree, here self.now.source c.new)) result (spec.parenthesized_at (rules self.now.height) at (here self.now.source c.old)) }
-        ensures low { IfOk result (λ f. f.height ≤ self.now.height + 1) }
+        ensures { ReadsExpr self.now.source c.old c.new result
+            (spec.parenthesized_at (rules self.now.height) at) (self.now.height + 1) }
     {
         let inner = self.expr(c, 16)?;
         self.source.expect(c, Punctuator::RightParen)?;
         Ok(expr::parenthesized(self.alloc, at, inner)?)
     }
 
-    /// Adjacent string literals, of which this first one was taken.
+    /// `primary-expression: string-literal { string-literal }` (C99 6.5.1, 5.1.1.2), after the first literal.
     fn strings(
         &self,
         c: &mut Cursor,
         at: u32,
         first: Shared<Bytes>,
     ) -> Result<FoundExpr, ParseFault>
-        ensures reads { Gives (λ f. (f.tree, here self.now.source c.new)) result (spec.literal_at at first (here self.now.source c.old)) }
-        ensures low { IfOk result (λ f. f.height ≤ 1) }
+        ensures { ReadsExpr self.now.source c.old c.new result (spec.literal_at at first) 1 }
     {
         let pieces = self.source.literals(self.alloc, c, first)?;
         Ok(expr::string_literal(at, pieces))
     }
 
-    /// A name that is no typedef name; it was taken.
+    /// `primary-expression: identifier` (C99 6.5.1), which was taken and is no typedef name.
     fn identifier(&self, c: &Cursor, at: u32, name: &Name) -> Result<FoundExpr, ParseFault>
         requires taken { 0 < c.now.position }
-        ensures reads { Gives (λ f. (f.tree, here self.now.source c.now)) result (spec.identifier_at at name.now (here self.now.source c.now)) }
-        ensures low { IfOk result (λ f. f.height ≤ 1) }
+        ensures { ReadsExpr self.now.source c.now c.now result (spec.identifier_at at name.now) 1 }
     {
         if c.names.is_typedef(self.source.file, name.get().as_slice()) {
             return Err(ParseFault::Syntax(c.position - 1));
@@ -68,13 +66,14 @@ impl<
         Ok(expr::identifier(at, name.clone()?))
     }
 
-    /// A primary expression, of which this first token was taken.
+    /// `primary-expression: identifier | constant | string-literal | ( expression )` (C99 6.5.1), after its first
+    /// token.
     fn primary_by(&self, c: &mut Cursor, at: u32, kind: &TokenKind) -> Result<FoundExpr, ParseFault>
-        requires exprs { ReachesExpr self.now.source self.now.height (E.pre self.now.expr) (E.post self.now.expr) }
+        requires exprs { ReachesExpr E.Fn self.now.source self.now.height self.now.expr }
         requires small { self.now.height < 500 }
         requires taken { 0 < c.old.position }
-        ensures reads { Gives (λ f. (f.tree, here self.now.source c.new)) result (spec.primary_by (rules self.now.height) kind.now at (here self.now.source c.old)) }
-        ensures low { IfOk result (λ f. f.height ≤ self.now.height + 1) }
+        ensures { ReadsExpr self.now.source c.old c.new result
+            (spec.primary_by (rules self.now.height) kind.now at) (self.now.height + 1) }
     {
         match kind {
             TokenKind::Integer(constant) => Ok(expr::integer(at, *constant)),
@@ -91,12 +90,12 @@ impl<
         }
     }
 
-    /// A primary expression.
+    /// `primary-expression: identifier | constant | string-literal | ( expression )` (C99 6.5.1).
     pub fn primary(&self, c: &mut Cursor) -> Result<FoundExpr, ParseFault>
-        requires exprs { ReachesExpr self.now.source self.now.height (E.pre self.now.expr) (E.post self.now.expr) }
+        requires exprs { ReachesExpr E.Fn self.now.source self.now.height self.now.expr }
         requires small { self.now.height < 500 }
-        ensures reads { Gives (λ f. (f.tree, here self.now.source c.new)) result (spec.primary_in (rules self.now.height) (here self.now.source c.old).0 (here self.now.source c.old).1) }
-        ensures low { IfOk result (λ f. f.height ≤ self.now.height + 1) }
+        ensures { ReadsExpr self.now.source c.old c.new result
+            (λ s. spec.primary_in (rules self.now.height) s.0 s.1) (self.now.height + 1) }
     {
         match self.source.tokens.get(c.position) {
             Some(token) => {
@@ -107,13 +106,13 @@ impl<
         }
     }
 
-    /// A unary operator and its operand.
+    /// `unary-expression: ( ++ | -- ) unary-expression | unary-operator cast-expression` (C99 6.5.3).
     #[tactic(auto, unfolding(c_grammar::specs::Reading::unary_at))]
     pub fn unary(&self, c: &mut Cursor) -> Result<FoundExpr, ParseFault>
-        requires exprs { ReachesExpr self.now.source self.now.height (E.pre self.now.expr) (E.post self.now.expr) }
+        requires exprs { ReachesExpr E.Fn self.now.source self.now.height self.now.expr }
         requires small { self.now.height < 500 }
-        ensures reads { Gives (λ f. (f.tree, here self.now.source c.new)) result (spec.unary_at (rules self.now.height) (here self.now.source c.old)) }
-        ensures low { IfOk result (λ f. f.height ≤ self.now.height + 1) }
+        ensures { ReadsExpr self.now.source c.old c.new result
+            (spec.unary_at (rules self.now.height)) (self.now.height + 1) }
     {
         let (operator, at) = self.source.unary(c)?;
         let operand = self.expr(c, operand_rank(operator))?;

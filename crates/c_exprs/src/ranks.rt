@@ -1,9 +1,9 @@
 //! Expressions by how loosely they bind (C99 6.5).
-ghost use Rattle.std.specs.Prelude.{◌≡◌, ◌≤◌, ◌<◌, ◌+◌, IfOk, suc};
+ghost use Rattle.std.specs.Prelude.{◌≤◌, ◌<◌, ◌+◌, suc};
 ghost use Rattle.c_grammar.specs.Reading as spec;
 ghost use Rattle.c_grammar.specs.Reading.{rules};
-ghost use Rattle.c_exprs.specs.Below.{ReachesExpr, ReachesSpecifier, ReachesDeclarator};
-ghost use Rattle.c_exprs.specs.Cursor.{here, Gives};
+ghost use Rattle.c_exprs.specs.Below.{Reaches, ReachesExpr};
+ghost use Rattle.c_exprs.specs.Reads.{ReadsExpr};
 
 use crate::below::Below;
 use crate::cursor::Cursor;
@@ -27,27 +27,25 @@ impl<
         DeclaratorPlace,
     ) -> Result<FoundDeclarator, ParseFault>,
 > Below<'a, E, S, D> {
-    /// A primary expression and the postfix operators behind it (C99 6.5.2).
+    /// `postfix-expression: primary-expression { [ .. ] | ( .. ) | . .. | -> .. | ++ | -- }` (C99 6.5.2).
     #[tactic(auto, unfolding(c_grammar::specs::Reading::expr_by))]
     fn postfix(&self, c: &mut Cursor) -> Result<FoundExpr, ParseFault>
-        requires exprs { ReachesExpr self.now.source self.now.height (E.pre self.now.expr) (E.post self.now.expr) }
+        requires exprs { ReachesExpr E.Fn self.now.source self.now.height self.now.expr }
         requires small { self.now.height < 500 }
-        ensures reads { Gives (λ f. (f.tree, here self.now.source c.new)) result (spec.expr_by (rules self.now.height) (suc self.now.height) 1 (here self.now.source c.old)) }
-        ensures low { IfOk result (λ f. f.height ≤ self.now.height + 1) }
+        ensures { ReadsExpr self.now.source c.old c.new result
+            (spec.expr_by (rules self.now.height) (suc self.now.height) 1) (self.now.height + 1) }
     {
         let first = self.primary(c)?;
         self.more(c, 1, first)
     }
 
-    /// A unary expression (C99 6.5.3).
+    /// `unary-expression: postfix-expression | unary-operator cast-expression | sizeof ..` (C99 6.5.3).
     #[tactic(auto, unfolding(c_grammar::specs::Reading::expr_by))]
     fn prefixed(&self, c: &mut Cursor) -> Result<FoundExpr, ParseFault>
-        requires exprs { ReachesExpr self.now.source self.now.height (E.pre self.now.expr) (E.post self.now.expr) }
-        requires specifiers { ReachesSpecifier self.now.source self.now.height (S.pre self.now.specifier) (S.post self.now.specifier) }
-        requires declarators { ReachesDeclarator self.now.source self.now.height (D.pre self.now.declarator) (D.post self.now.declarator) }
+        requires reaches { Reaches E.Fn S.Fn D.Fn self.now }
         requires small { self.now.height < 500 }
-        ensures reads { Gives (λ f. (f.tree, here self.now.source c.new)) result (spec.expr_by (rules self.now.height) (suc self.now.height) 2 (here self.now.source c.old)) }
-        ensures low { IfOk result (λ f. f.height ≤ self.now.height + 1) }
+        ensures { ReadsExpr self.now.source c.old c.new result
+            (spec.expr_by (rules self.now.height) (suc self.now.height) 2) (self.now.height + 1) }
     {
         if self.source.begins_unary(c) {
             return self.unary(c);
@@ -58,15 +56,13 @@ impl<
         self.postfix(c)
     }
 
-    /// A cast expression (C99 6.5.4).
+    /// `cast-expression: unary-expression | ( type-name ) cast-expression` (C99 6.5.4).
     #[tactic(auto, unfolding(c_grammar::specs::Reading::expr_by))]
     fn converted(&self, c: &mut Cursor) -> Result<FoundExpr, ParseFault>
-        requires exprs { ReachesExpr self.now.source self.now.height (E.pre self.now.expr) (E.post self.now.expr) }
-        requires specifiers { ReachesSpecifier self.now.source self.now.height (S.pre self.now.specifier) (S.post self.now.specifier) }
-        requires declarators { ReachesDeclarator self.now.source self.now.height (D.pre self.now.declarator) (D.post self.now.declarator) }
+        requires reaches { Reaches E.Fn S.Fn D.Fn self.now }
         requires small { self.now.height < 500 }
-        ensures reads { Gives (λ f. (f.tree, here self.now.source c.new)) result (spec.expr_by (rules self.now.height) (suc self.now.height) 3 (here self.now.source c.old)) }
-        ensures low { IfOk result (λ f. f.height ≤ self.now.height + 1) }
+        ensures { ReadsExpr self.now.source c.old c.new result
+            (spec.expr_by (rules self.now.height) (suc self.now.height) 3) (self.now.height + 1) }
     {
         if self.source.begins_typed(c) {
             return self.cast(c);
@@ -74,16 +70,15 @@ impl<
         self.prefixed(c)
     }
 
-    /// An expression that binds at most so loosely as a cast.
+    /// `primary-expression`, `postfix-expression`, `unary-expression` or `cast-expression`, by its rank (C99 6.5.1
+    /// to 6.5.4).
     #[tactic(auto, unfolding(c_grammar::specs::Reading::expr_by))]
     fn operand(&self, c: &mut Cursor, rank: u32) -> Result<FoundExpr, ParseFault>
-        requires exprs { ReachesExpr self.now.source self.now.height (E.pre self.now.expr) (E.post self.now.expr) }
-        requires specifiers { ReachesSpecifier self.now.source self.now.height (S.pre self.now.specifier) (S.post self.now.specifier) }
-        requires declarators { ReachesDeclarator self.now.source self.now.height (D.pre self.now.declarator) (D.post self.now.declarator) }
+        requires reaches { Reaches E.Fn S.Fn D.Fn self.now }
         requires small { self.now.height < 500 }
         requires known { rank ≤ 3 }
-        ensures reads { Gives (λ f. (f.tree, here self.now.source c.new)) result (spec.expr_by (rules self.now.height) (suc self.now.height) rank (here self.now.source c.old)) }
-        ensures low { IfOk result (λ f. f.height ≤ self.now.height + 1) }
+        ensures { ReadsExpr self.now.source c.old c.new result
+            (spec.expr_by (rules self.now.height) (suc self.now.height) rank) (self.now.height + 1) }
     {
         match rank {
             0 => self.primary(c),
@@ -93,15 +88,15 @@ impl<
         }
     }
 
-    /// An expression that binds at most so loosely, of at most the height above that of its parts.
+    /// `expression: assignment-expression { , assignment-expression }`, and so at each rank from the cast up: the
+    /// operand, and the operators of each looser rank in turn (C99 6.5), of at most the height above that of its
+    /// parts.
     pub fn read_expr(&self, c: &mut Cursor, rank: u32) -> Result<FoundExpr, ParseFault>
-        requires exprs { ReachesExpr self.now.source self.now.height (E.pre self.now.expr) (E.post self.now.expr) }
-        requires specifiers { ReachesSpecifier self.now.source self.now.height (S.pre self.now.specifier) (S.post self.now.specifier) }
-        requires declarators { ReachesDeclarator self.now.source self.now.height (D.pre self.now.declarator) (D.post self.now.declarator) }
+        requires reaches { Reaches E.Fn S.Fn D.Fn self.now }
         requires small { self.now.height < 500 }
         requires known { rank ≤ 16 }
-        ensures reads { Gives (λ f. (f.tree, here self.now.source c.new)) result (spec.expr_by (rules self.now.height) (suc self.now.height) rank (here self.now.source c.old)) }
-        ensures low { IfOk result (λ f. f.height ≤ self.now.height + 1) }
+        ensures { ReadsExpr self.now.source c.old c.new result
+            (spec.expr_by (rules self.now.height) (suc self.now.height) rank) (self.now.height + 1) }
     {
         if rank <= 3 {
             return self.operand(c, rank);

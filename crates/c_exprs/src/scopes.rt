@@ -53,7 +53,8 @@ impl<'a> Source<'a> {
 
     /// Leaves the block of a function's parameters, which are kept where a declaration declares that function.
     pub fn close(&self, c: &mut Cursor, place: DeclaratorPlace, derived: bool)
-        ensures { here self.now c.new ≡ ((here self.now c.old).0, spec.closed_at place derived (here self.now c.old).1) }
+        ensures { here self.now c.new
+            ≡ ((here self.now c.old).0, spec.closed_at place derived (here self.now c.old).1) }
     {
         match place {
             DeclaratorPlace::Declaration => {

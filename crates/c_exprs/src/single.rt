@@ -1,10 +1,10 @@
 //! A declaration specifier, by its first token (C99 6.7).
-ghost use Rattle.std.specs.Prelude.{◌≡◌, ◌≤◌, ◌<◌, ◌+◌, IfOk, IfSome, option_map};
+ghost use Rattle.std.specs.Prelude.{◌≡◌, ◌<◌, ◌+◌, IfSome, option_map};
 ghost use Rattle.c_grammar.specs.Operators as table;
 ghost use Rattle.c_grammar.specs.Reading as spec;
 ghost use Rattle.c_grammar.specs.Reading.{rules};
-ghost use Rattle.c_exprs.specs.Below.{ReachesExpr, ReachesSpecifier, ReachesDeclarator};
-ghost use Rattle.c_exprs.specs.Cursor.{here, Gives};
+ghost use Rattle.c_exprs.specs.Below.{Reaches};
+ghost use Rattle.c_exprs.specs.Reads.{ReadsSpecifier};
 
 use crate::below::Below;
 use crate::cursor::Cursor;
@@ -48,19 +48,19 @@ impl<
         DeclaratorPlace,
     ) -> Result<FoundDeclarator, ParseFault>,
 > Below<'a, E, S, D> {
-    /// The specifier that a keyword begins, after that keyword.
+    /// `declaration-specifier: struct-or-union-specifier | enum-specifier | type-word | qualifier | class | inline`
+    /// (C99 6.7), after the keyword that begins it.
     fn keyword_specifier(
         &self,
         c: &mut Cursor,
         at: u32,
         keyword: Keyword,
     ) -> Result<FoundSpecifier, ParseFault>
-        requires exprs { ReachesExpr self.now.source self.now.height (E.pre self.now.expr) (E.post self.now.expr) }
-        requires specifiers { ReachesSpecifier self.now.source self.now.height (S.pre self.now.specifier) (S.post self.now.specifier) }
-        requires declarators { ReachesDeclarator self.now.source self.now.height (D.pre self.now.declarator) (D.post self.now.declarator) }
+        requires reaches { Reaches E.Fn S.Fn D.Fn self.now }
         requires small { self.now.height < 500 }
-        ensures reads { Gives (λ f. (f.tree, here self.now.source c.new)) result (spec.keyword_specifier (rules self.now.height) at keyword (table.aggregate_of keyword) (here self.now.source c.old)) }
-        ensures low { IfOk result (λ f. f.height ≤ self.now.height + 1) }
+        ensures { ReadsSpecifier self.now.source c.old c.new result
+            (spec.keyword_specifier (rules self.now.height) at keyword (table.aggregate_of keyword))
+            (self.now.height + 1) }
     {
         if let Some(kind) = aggregate_of(keyword) {
             return self.tagged(c, at, kind);
@@ -74,14 +74,13 @@ impl<
         }
     }
 
-    /// The declaration specifier that comes next, of at most the height above that of its parts.
+    /// `declaration-specifier: storage-class-specifier | type-specifier | type-qualifier | function-specifier`
+    /// (C99 6.7), of at most the height above that of its parts.
     pub fn read_specifier(&self, c: &mut Cursor) -> Result<FoundSpecifier, ParseFault>
-        requires exprs { ReachesExpr self.now.source self.now.height (E.pre self.now.expr) (E.post self.now.expr) }
-        requires specifiers { ReachesSpecifier self.now.source self.now.height (S.pre self.now.specifier) (S.post self.now.specifier) }
-        requires declarators { ReachesDeclarator self.now.source self.now.height (D.pre self.now.declarator) (D.post self.now.declarator) }
+        requires reaches { Reaches E.Fn S.Fn D.Fn self.now }
         requires small { self.now.height < 500 }
-        ensures reads { Gives (λ f. (f.tree, here self.now.source c.new)) result (spec.specifier_in (rules self.now.height) (here self.now.source c.old).0 (here self.now.source c.old).1) }
-        ensures low { IfOk result (λ f. f.height ≤ self.now.height + 1) }
+        ensures { ReadsSpecifier self.now.source c.old c.new result
+            (λ s. spec.specifier_in (rules self.now.height) s.0 s.1) (self.now.height + 1) }
     {
         match self.source.tokens.get(c.position) {
             Some(token) => match &token.kind {

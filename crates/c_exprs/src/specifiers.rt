@@ -1,10 +1,10 @@
 //! Declaration specifiers and type names (C99 6.7, 6.7.6).
-ghost use Rattle.std.specs.Prelude.{◌≡◌, ◌≤◌, ◌<◌, ◌+◌, ◌||◌, IfOk, false, length, suc};
+ghost use Rattle.std.specs.Prelude.{◌≡◌, ◌||◌, false, length, suc};
 ghost use Rattle.c_grammar.specs.Reading as spec;
 ghost use Rattle.c_grammar.specs.Reading.{rules};
 ghost use Rattle.c_grammar.specs.TypeWords as words;
-ghost use Rattle.c_exprs.specs.Below.{ReachesExpr, ReachesSpecifier, ReachesDeclarator};
-ghost use Rattle.c_exprs.specs.Cursor.{here, Gives};
+ghost use Rattle.c_exprs.specs.Below.{Reaches, ReachesSpecifier};
+ghost use Rattle.c_exprs.specs.Reads.{ReadsLow};
 
 use crate::below::Below;
 use crate::cursor::Cursor;
@@ -38,11 +38,11 @@ impl<
         DeclaratorPlace,
     ) -> Result<FoundDeclarator, ParseFault>,
 > Below<'a, E, S, D> {
-    /// As many specifiers as there are.
+    /// `{ declaration-specifier }` (C99 6.7): as many as there are.
     pub fn specifiers(&self, c: &mut Cursor) -> Result<FoundSpecifiers, ParseFault>
-        requires specifiers { ReachesSpecifier self.now.source self.now.height (S.pre self.now.specifier) (S.post self.now.specifier) }
-        ensures reads { Gives (λ f. (f.trees, here self.now.source c.new)) result (spec.specifiers_at (rules self.now.height) (suc (length (here self.now.source c.old).0)) false (here self.now.source c.old)) }
-        ensures low { IfOk result (λ f. f.height ≤ self.now.height) }
+        requires specifiers { ReachesSpecifier S.Fn self.now.source self.now.height self.now.specifier }
+        ensures { ReadsLow (λ f. f.trees) (λ f. f.height) self.now.source c.old c.new result
+            (λ s. spec.specifiers_at (rules self.now.height) (suc (length s.0)) false s) self.now.height }
     {
         let mut all = specifier::no_specifiers(self.alloc);
         let mut typed = false;
@@ -59,12 +59,13 @@ impl<
         Err(ParseFault::Syntax(c.position))
     }
 
-    /// Specifiers that name one type (C99 6.7.2).
+    /// `declaration-specifiers: declaration-specifier { declaration-specifier }` (C99 6.7) that name one type (C99
+    /// 6.7.2).
     #[tactic(auto, unfolding(c_grammar::specs::Reading::specification_at))]
     pub fn specification(&self, c: &mut Cursor) -> Result<FoundSpecifiers, ParseFault>
-        requires specifiers { ReachesSpecifier self.now.source self.now.height (S.pre self.now.specifier) (S.post self.now.specifier) }
-        ensures reads { Gives (λ f. (f.trees, here self.now.source c.new)) result (spec.specification_at (rules self.now.height) (here self.now.source c.old)) }
-        ensures low { IfOk result (λ f. f.height ≤ self.now.height) }
+        requires specifiers { ReachesSpecifier S.Fn self.now.source self.now.height self.now.specifier }
+        ensures { ReadsLow (λ f. f.trees) (λ f. f.height) self.now.source c.old c.new result
+            (spec.specification_at (rules self.now.height)) self.now.height }
     {
         let all = self.specifiers(c)?;
         if all.words.is_allowed() {
@@ -74,13 +75,12 @@ impl<
         }
     }
 
-    /// A type name (C99 6.7.6).
+    /// `type-name: specifier-qualifier-list [ abstract-declarator ]` (C99 6.7.6).
     #[tactic(auto, unfolding(c_grammar::specs::Reading::type_name_at))]
     pub fn type_name(&self, c: &mut Cursor) -> Result<FoundType, ParseFault>
-        requires specifiers { ReachesSpecifier self.now.source self.now.height (S.pre self.now.specifier) (S.post self.now.specifier) }
-        requires declarators { ReachesDeclarator self.now.source self.now.height (D.pre self.now.declarator) (D.post self.now.declarator) }
-        ensures reads { Gives (λ f. (f.tree, here self.now.source c.new)) result (spec.type_name_at (rules self.now.height) (here self.now.source c.old)) }
-        ensures low { IfOk result (λ f. f.height ≤ self.now.height) }
+        requires reaches { Reaches E.Fn S.Fn D.Fn self.now }
+        ensures { ReadsLow (λ f. f.tree) (λ f. f.height) self.now.source c.old c.new result
+            (spec.type_name_at (rules self.now.height)) self.now.height }
     {
         let specifiers = self.specification(c)?;
         let declarator = self.declarator(c, DeclaratorPlace::TypeName)?;

@@ -1,9 +1,9 @@
 //! Direct declarators, and what stands behind them (C99 6.7.5, 6.7.6).
-ghost use Rattle.std.specs.Prelude.{◌≡◌, ◌≤◌, ◌<◌, ◌+◌, IfOk, length, suc};
+ghost use Rattle.std.specs.Prelude.{◌≤◌, ◌<◌, ◌+◌, length, suc};
 ghost use Rattle.c_grammar.specs.Reading as spec;
 ghost use Rattle.c_grammar.specs.Reading.{rules};
-ghost use Rattle.c_exprs.specs.Below.{ReachesExpr, ReachesSpecifier, ReachesDeclarator};
-ghost use Rattle.c_exprs.specs.Cursor.{here, Gives};
+ghost use Rattle.c_exprs.specs.Below.{Reaches, ReachesDeclarator};
+ghost use Rattle.c_exprs.specs.Reads.{ReadsDeclarator};
 
 use crate::below::Below;
 use crate::cursor::Cursor;
@@ -28,10 +28,9 @@ impl<
         DeclaratorPlace,
     ) -> Result<FoundDeclarator, ParseFault>,
 > Below<'a, E, S, D> {
-    /// No name, where there may be none.
+    /// `[ abstract-declarator ]` that is left out (C99 6.7.5, 6.7.6): no name, where there may be none.
     pub fn omitted(&self, c: &Cursor, place: DeclaratorPlace) -> Result<FoundDeclarator, ParseFault>
-        ensures reads { Gives (λ f. (f.tree, here self.now.source c.now)) result (spec.omitted_at place (here self.now.source c.now)) }
-        ensures low { IfOk result (λ f. f.height ≤ self.now.height + 1) }
+        ensures { ReadsDeclarator self.now.source c.now c.now result (spec.omitted_at place) (self.now.height + 1) }
     {
         if may_omit(place) {
             Ok(declarator::omitted())
@@ -40,16 +39,16 @@ impl<
         }
     }
 
-    /// A name, a group, or nothing.
+    /// `direct-declarator: identifier | ( declarator )` (C99 6.7.5), or nothing where the name may be left out.
     pub fn direct(
         &self,
         c: &mut Cursor,
         place: DeclaratorPlace,
     ) -> Result<FoundDeclarator, ParseFault>
-        requires declarators { ReachesDeclarator self.now.source self.now.height (D.pre self.now.declarator) (D.post self.now.declarator) }
+        requires declarators { ReachesDeclarator D.Fn self.now.source self.now.height self.now.declarator }
         requires small { self.now.height < 500 }
-        ensures reads { Gives (λ f. (f.tree, here self.now.source c.new)) result (spec.direct_in (rules self.now.height) place (here self.now.source c.old).0 (here self.now.source c.old).1) }
-        ensures low { IfOk result (λ f. f.height ≤ self.now.height + 1) }
+        ensures { ReadsDeclarator self.now.source c.old c.new result
+            (λ s. spec.direct_in (rules self.now.height) place s.0 s.1) (self.now.height + 1) }
     {
         match self.source.tokens.get(c.position) {
             Some(token) => match &token.kind {
@@ -75,20 +74,18 @@ impl<
         }
     }
 
-    /// A declarator and the suffix behind it.
+    /// `direct-declarator: direct-declarator ( [ .. ] | ( .. ) )` (C99 6.7.5): a declarator and the suffix behind it.
     pub fn suffix(
         &self,
         c: &mut Cursor,
         place: DeclaratorPlace,
         before: FoundDeclarator,
     ) -> Result<FoundDeclarator, ParseFault>
-        requires exprs { ReachesExpr self.now.source self.now.height (E.pre self.now.expr) (E.post self.now.expr) }
-        requires specifiers { ReachesSpecifier self.now.source self.now.height (S.pre self.now.specifier) (S.post self.now.specifier) }
-        requires declarators { ReachesDeclarator self.now.source self.now.height (D.pre self.now.declarator) (D.post self.now.declarator) }
+        requires reaches { Reaches E.Fn S.Fn D.Fn self.now }
         requires small { self.now.height < 500 }
         requires low_before { before.height ≤ self.now.height + 1 }
-        ensures reads { Gives (λ f. (f.tree, here self.now.source c.new)) result (spec.suffix_in (rules self.now.height) place before.tree (here self.now.source c.old).0 (here self.now.source c.old).1) }
-        ensures low { IfOk result (λ f. f.height ≤ self.now.height + 2) }
+        ensures { ReadsDeclarator self.now.source c.old c.new result
+            (λ s. spec.suffix_in (rules self.now.height) place before.tree s.0 s.1) (self.now.height + 2) }
     {
         match self.source.tokens.get(c.position) {
             Some(token) => match &token.kind {
@@ -106,20 +103,19 @@ impl<
         }
     }
 
-    /// A declarator and the suffixes behind it.
+    /// `direct-declarator: direct-declarator { [ .. ] | ( .. ) }` (C99 6.7.5): a declarator and the suffixes behind it.
     pub fn suffixes(
         &self,
         c: &mut Cursor,
         place: DeclaratorPlace,
         before: FoundDeclarator,
     ) -> Result<FoundDeclarator, ParseFault>
-        requires exprs { ReachesExpr self.now.source self.now.height (E.pre self.now.expr) (E.post self.now.expr) }
-        requires specifiers { ReachesSpecifier self.now.source self.now.height (S.pre self.now.specifier) (S.post self.now.specifier) }
-        requires declarators { ReachesDeclarator self.now.source self.now.height (D.pre self.now.declarator) (D.post self.now.declarator) }
+        requires reaches { Reaches E.Fn S.Fn D.Fn self.now }
         requires small { self.now.height < 500 }
         requires low_before { before.height ≤ self.now.height + 1 }
-        ensures reads { Gives (λ f. (f.tree, here self.now.source c.new)) result (spec.suffixes_at (rules self.now.height) (suc self.now.height) place (suc (length (here self.now.source c.old).0)) before.tree (here self.now.source c.old)) }
-        ensures low { IfOk result (λ f. f.height ≤ self.now.height + 1) }
+        ensures { ReadsDeclarator self.now.source c.old c.new result
+            (λ s. spec.suffixes_at (rules self.now.height) (suc self.now.height) place (suc (length s.0)) before.tree s)
+            (self.now.height + 1) }
     {
         let mut all = before;
         let mut left = self.source.turns(c);
@@ -136,37 +132,33 @@ impl<
         Err(ParseFault::Syntax(c.position))
     }
 
-    /// A direct declarator and the suffixes behind it.
+    /// `direct-declarator: ( identifier | ( declarator ) ) { [ .. ] | ( .. ) }` (C99 6.7.5).
     #[tactic(auto, unfolding(c_grammar::specs::Reading::suffixed_at))]
     pub fn suffixed(
         &self,
         c: &mut Cursor,
         place: DeclaratorPlace,
     ) -> Result<FoundDeclarator, ParseFault>
-        requires exprs { ReachesExpr self.now.source self.now.height (E.pre self.now.expr) (E.post self.now.expr) }
-        requires specifiers { ReachesSpecifier self.now.source self.now.height (S.pre self.now.specifier) (S.post self.now.specifier) }
-        requires declarators { ReachesDeclarator self.now.source self.now.height (D.pre self.now.declarator) (D.post self.now.declarator) }
+        requires reaches { Reaches E.Fn S.Fn D.Fn self.now }
         requires small { self.now.height < 500 }
-        ensures reads { Gives (λ f. (f.tree, here self.now.source c.new)) result (spec.suffixed_at (rules self.now.height) (suc self.now.height) place (here self.now.source c.old)) }
-        ensures low { IfOk result (λ f. f.height ≤ self.now.height + 1) }
+        ensures { ReadsDeclarator self.now.source c.old c.new result
+            (spec.suffixed_at (rules self.now.height) (suc self.now.height) place) (self.now.height + 1) }
     {
         let direct = self.direct(c, place)?;
         self.suffixes(c, place, direct)
     }
 
-    /// A declarator, of at most the height above that of its parts.
+    /// `declarator: [ pointer ] direct-declarator` (C99 6.7.5), of at most the height above that of its parts.
     #[tactic(auto, unfolding(c_grammar::specs::Reading::declarator_by))]
     pub fn read_declarator(
         &self,
         c: &mut Cursor,
         place: DeclaratorPlace,
     ) -> Result<FoundDeclarator, ParseFault>
-        requires exprs { ReachesExpr self.now.source self.now.height (E.pre self.now.expr) (E.post self.now.expr) }
-        requires specifiers { ReachesSpecifier self.now.source self.now.height (S.pre self.now.specifier) (S.post self.now.specifier) }
-        requires declarators { ReachesDeclarator self.now.source self.now.height (D.pre self.now.declarator) (D.post self.now.declarator) }
+        requires reaches { Reaches E.Fn S.Fn D.Fn self.now }
         requires small { self.now.height < 500 }
-        ensures reads { Gives (λ f. (f.tree, here self.now.source c.new)) result (spec.declarator_by (rules self.now.height) (suc self.now.height) place (here self.now.source c.old)) }
-        ensures low { IfOk result (λ f. f.height ≤ self.now.height + 1) }
+        ensures { ReadsDeclarator self.now.source c.old c.new result
+            (spec.declarator_by (rules self.now.height) (suc self.now.height) place) (self.now.height + 1) }
     {
         if self.source.begins(c, Punctuator::Star) {
             self.pointer(c, place)

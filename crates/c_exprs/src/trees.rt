@@ -1,7 +1,7 @@
 //! Trees of at most a height, in which expressions, specifiers and declarators stand in one another.
-ghost use Rattle.std.specs.Prelude.{◌≡◌, ◌≤◌};
+ghost use Rattle.std.specs.Prelude.{◌≤◌};
 ghost use Rattle.c_grammar.specs.Reading.{rules, specification_at};
-ghost use Rattle.c_exprs.specs.Cursor.{here, Gives};
+ghost use Rattle.c_exprs.specs.Reads.{Reads};
 
 use crate::below::Below;
 use crate::cursor::{Cursor, Source};
@@ -20,11 +20,11 @@ pub struct Trees<'a> {
 }
 
 impl<'a> Trees<'a> {
-    /// An expression that binds at most so loosely.
+    /// An expression at a rank of the grammar (C99 6.5).
     pub fn expr(&self, c: &mut Cursor, rank: u32) -> Result<FoundExpr, ParseFault>
         requires small { self.now.height ≤ 256 }
         requires known { rank ≤ 16 }
-        ensures { Gives (λ f. (f.tree, here self.now.source c.new)) result ((rules self.now.height).expr rank (here self.now.source c.old)) }
+        ensures { Reads (λ f. f.tree) self.now.source c.old c.new result ((rules self.now.height).expr rank) }
     {
         expr_of(
             self.alloc,
@@ -36,10 +36,11 @@ impl<'a> Trees<'a> {
         )
     }
 
-    /// Specifiers that name one type (C99 6.7.2).
+    /// `declaration-specifiers: declaration-specifier { declaration-specifier }` (C99 6.7) that name one type (C99
+    /// 6.7.2).
     pub fn specification(&self, c: &mut Cursor) -> Result<FoundSpecifiers, ParseFault>
         requires small { self.now.height ≤ 256 }
-        ensures { Gives (λ f. (f.trees, here self.now.source c.new)) result (specification_at (rules self.now.height) (here self.now.source c.old)) }
+        ensures { Reads (λ f. f.trees) self.now.source c.old c.new result (specification_at (rules self.now.height)) }
     {
         let level = Below {
             alloc: self.alloc,
@@ -52,14 +53,14 @@ impl<'a> Trees<'a> {
         level.specification(c)
     }
 
-    /// A declarator at such a place.
+    /// `declarator: [ pointer ] direct-declarator` (C99 6.7.5), or an abstract one at its places.
     pub fn declarator(
         &self,
         c: &mut Cursor,
         place: DeclaratorPlace,
     ) -> Result<FoundDeclarator, ParseFault>
         requires small { self.now.height ≤ 256 }
-        ensures { Gives (λ f. (f.tree, here self.now.source c.new)) result ((rules self.now.height).declarator place (here self.now.source c.old)) }
+        ensures { Reads (λ f. f.tree) self.now.source c.old c.new result ((rules self.now.height).declarator place) }
     {
         declarator_of(
             self.alloc,

@@ -2,6 +2,7 @@
 ghost use Rattle.std.specs.Prelude.{◌≡◌, ◌∷◌, [], IfOk, length, suc};
 ghost use Rattle.c_grammar.specs.Reading as spec;
 ghost use Rattle.c_exprs.specs.Cursor.{here, after, Gives, Takes};
+ghost use Rattle.c_exprs.specs.Reads.{Reads};
 
 use crate::cursor::{Cursor, Source};
 use crate::fault::ParseFault;
@@ -58,9 +59,10 @@ impl<'a> Source<'a> {
         }
     }
 
-    /// Type qualifiers (C99 6.7.3).
+    /// `[ type-qualifier-list ]` (C99 6.7.3, 6.7.5.1).
     pub fn qualifiers(&self, alloc: Global, c: &mut Cursor) -> Result<Items<Qualifier>, ParseFault>
-        ensures { Gives (λ xs. (xs, here self.now c.new)) result (spec.run_at spec.a_qualifier (suc (length (here self.now c.old).0)) (here self.now c.old)) }
+        ensures { Reads (λ xs. xs) self.now c.old c.new result
+            (λ s. spec.run_at spec.a_qualifier (suc (length s.0)) s) }
     {
         let mut all = Items::new(alloc);
         let mut left = self.turns(c);
@@ -74,9 +76,10 @@ impl<'a> Source<'a> {
         Err(ParseFault::Syntax(c.position))
     }
 
-    /// The words between the brackets of an array (C99 6.7.5.2).
+    /// `[ static ] [ type-qualifier-list ]` in any order (C99 6.7.5.2): the words between the brackets of an array.
     pub fn array_words(&self, alloc: Global, c: &mut Cursor) -> Result<Items<ArrayWord>, ParseFault>
-        ensures { Gives (λ xs. (xs, here self.now c.new)) result (spec.run_at spec.an_array_word (suc (length (here self.now c.old).0)) (here self.now c.old)) }
+        ensures { Reads (λ xs. xs) self.now c.old c.new result
+            (λ s. spec.run_at spec.an_array_word (suc (length s.0)) s) }
     {
         let mut all = Items::new(alloc);
         let mut left = self.turns(c);
@@ -92,7 +95,8 @@ impl<'a> Source<'a> {
 
     /// Takes the next token where it is a string literal; the bytes that it stands for, and its offset.
     pub fn literal(&self, c: &mut Cursor) -> Result<(Shared<Bytes>, u32), ParseFault>
-        ensures { Gives (λ x. (x.0, x.1, here self.now c.new)) result (spec.take_by spec.a_literal (here self.now c.old).0 (here self.now c.old).1) }
+        ensures { Gives (λ x. (x.0, x.1, here self.now c.new)) result
+            (spec.take_by spec.a_literal (here self.now c.old).0 (here self.now c.old).1) }
     {
         match self.tokens.get(c.position) {
             Some(token) => match &token.kind {
@@ -124,14 +128,15 @@ impl<'a> Source<'a> {
         }
     }
 
-    /// This string literal, and those that stand behind it.
+    /// `string-literal { string-literal }` (C99 6.5.1), behind the first: this one, and those that stand behind it.
     pub fn literals(
         &self,
         alloc: Global,
         c: &mut Cursor,
         first: Shared<Bytes>,
     ) -> Result<Items<Shared<Bytes>>, ParseFault>
-        ensures { Gives (λ xs. (xs, here self.now c.new)) result (after (first ∷ []) (spec.run_at spec.a_literal (suc (length (here self.now c.old).0)) (here self.now c.old))) }
+        ensures { Reads (λ xs. xs) self.now c.old c.new result
+            (λ s. after (first ∷ []) (spec.run_at spec.a_literal (suc (length s.0)) s)) }
     {
         let mut all = Items::new(alloc);
         all.push(first)?;
