@@ -7,7 +7,6 @@ pub mod DeclarationSound
 pub mod DeclaratorsComplete
 pub mod Equations
 pub mod ExprsComplete
-pub mod Induction
 pub mod IsSound
 pub mod Reach
 pub mod Read

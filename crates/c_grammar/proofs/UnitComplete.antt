@@ -18,13 +18,18 @@ use Rattle.c_grammar.proofs.StmtComplete.{stmt_again}
 use Rattle.c_grammar.proofs.UnitLaws.{body_again, external_again, unit_again}
 
 -- an initializer, where no operator follows that it takes in
-pub initializer_complete : (limit : ℕ) (s z : State) (x : Initializer) → Made limit (initializer_of x) s z → 15 < binds z → initializer_at limit s ≡ Some (x, z)
+pub initializer_complete : (limit : ℕ) (s z : State) (x : Initializer) → Made limit (initializer_of x) s z →
+    15 < binds z → initializer_at limit s ≡ Some (x, z)
 initializer_complete limit s z x d loose = initializer_again below_complete limit x s z d.0 d.1 loose
 
-pub declaration_complete : (limit : ℕ) (s z : State) (d : Declaration) → Made limit (declaration_of d) s z → declaration_at (rules limit) (initializer_at limit) s ≡ Some (d, z)
-declaration_complete limit s z d x = declaration_again limit (rules limit) (below_complete limit) (initializer_at limit) (λ v. initializer_again below_complete limit v) d s z x.0 x.1
+pub declaration_complete : (limit : ℕ) (s z : State) (d : Declaration) → Made limit (declaration_of d) s z →
+    declaration_at (rules limit) (initializer_at limit) s ≡ Some (d, z)
+declaration_complete limit s z d x =
+    declaration_again limit (rules limit) (below_complete limit) (initializer_at limit) (λ v. initializer_again
+    below_complete limit v) d s z x.0 x.1
 
-pub stmt_complete : (limit rank : ℕ) (s z : State) (x : Stmt) → DerivesStmt limit rank s x z → stmt_at limit rank s ≡ Some (x, z)
+pub stmt_complete : (limit rank : ℕ) (s z : State) (x : Stmt) → DerivesStmt limit rank s x z → stmt_at limit rank s ≡
+    Some (x, z)
 stmt_complete limit rank s z x d = stmt_again below_complete limit rank s z x d
 
 pub body_complete : (s z : State) (b : Body) → DerivesBody s b z → body_at s ≡ Some (b, z)

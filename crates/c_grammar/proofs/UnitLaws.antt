@@ -1,5 +1,29 @@
 -- A unit is read where it is derived, and only there; by the laws of expressions, specifiers and declarators.
-use Rattle.std.proofs.Common.{◌≡◌, ◌≤◌, ◌<◌, ℕ, zero, suc, List, [], ◌∷◌, ◌++◌, length, Some, None, true, false, refl, sym, ap, ◌∙◌, subst, arith, inl, inr}
+use Rattle.std.proofs.Common.{
+  ◌≡◌,
+  ◌≤◌,
+  ◌<◌,
+  ℕ,
+  zero,
+  suc,
+  List,
+  [],
+  ◌∷◌,
+  ◌++◌,
+  length,
+  Some,
+  None,
+  true,
+  false,
+  refl,
+  sym,
+  ap,
+  ◌∙◌,
+  subst,
+  arith,
+  inl,
+  inr,
+}
 use Rattle.std.proofs.lemmas.Option.{same_Some}
 use Rattle.c_lexer.specs.declared.token.Token.{Token}
 use Rattle.c_lexer.specs.declared.token.TokenKind.TheVariants as kind
@@ -15,25 +39,65 @@ use Rattle.c_tree.specs.declared.unit.External.TheVariants as external
 use Rattle.c_grammar.specs.Parts.{Scope, State, Spans, entered_function}
 use Rattle.c_grammar.specs.Grammar.{ended_in, all_specified, specification, takes_mark}
 use Rattle.c_grammar.specs.Reading.{Reading, rules, expect, begins, specification_at}
-use Rattle.c_grammar.specs.Units.{makes_types, declaring_parts, declaration_of, limit, Spelled, DerivesBody, DerivesFunction, DerivesExternal, DerivesExternals, file_scope, derives}
-use Rattle.c_grammar.specs.UnitReading.{initializer_at, declaring_at, declaration_behind_at, no_declarators, stmt_at, group_in, start_of, whole, body_at, declared_external_at, external_at, is_end, externals_at, read_unit}
+use Rattle.c_grammar.specs.Units.{
+  makes_types,
+  declaring_parts,
+  declaration_of,
+  limit,
+  Spelled,
+  DerivesBody,
+  DerivesFunction,
+  DerivesExternal,
+  DerivesExternals,
+  file_scope,
+  derives,
+}
+use Rattle.c_grammar.specs.UnitReading.{
+  initializer_at,
+  declaring_at,
+  declaration_behind_at,
+  no_declarators,
+  stmt_at,
+  group_in,
+  start_of,
+  whole,
+  body_at,
+  declared_external_at,
+  external_at,
+  is_end,
+  externals_at,
+  read_unit,
+}
 use Rattle.c_grammar.proofs.Spans.{join, split, no_more, bind_some, chosen, expects, expects_at}
 use Rattle.c_grammar.proofs.Begins.{taken, specified_mark, specification_begins}
 use Rattle.c_grammar.proofs.Reach.{behind}
 use Rattle.c_grammar.proofs.UnitSteps.{SoundBelow, found}
-use Rattle.c_grammar.proofs.UnitBegins.{CompleteBelow, by_rest, declaring_begins, pieces, after_first, declaration_begins}
+use Rattle.c_grammar.proofs.UnitBegins.{
+  CompleteBelow,
+  by_rest,
+  declaring_begins,
+  pieces,
+  after_first,
+  declaration_begins,
+}
 use Rattle.c_grammar.proofs.DeclarationSound.{declaring_takes, behind_takes, alone_takes, initializer_takes}
 use Rattle.c_grammar.proofs.DeclarationComplete.{declaring_again, behind_again, initializer_again}
 use Rattle.c_grammar.proofs.StmtSound.{stmt_takes}
 use Rattle.c_grammar.proofs.StmtComplete.{stmt_again}
 use Rattle.c_grammar.proofs.BraceGroup.{group_again, group_takes}
 
-module _ (sound : (limit : ℕ) → SoundBelow limit (rules limit)) (complete : (limit : ℕ) → CompleteBelow limit (rules limit)) where
+module _ (sound : (limit : ℕ) → SoundBelow limit (rules limit)) (complete : (limit : ℕ) → CompleteBelow limit
+    (rules limit)) where
   -- ---- bodies
 
-  spelled_by : (tokens : List Token) (scope : Scope) (first : Token) (r : Reading Stmt) → stmt_at limit 0 (tokens, scope) ≡ r → Spelled tokens scope first (whole first.start r)
-  spelled_by tokens scope first None e = (refl, λ x d. let f = stmt_again complete limit 0 (tokens, scope) ([], d.0) x d.1 in cc)
-  spelled_by tokens scope first (Some (x, ([], after))) e = (after, stmt_takes sound limit 0 (tokens, scope) ([], after) x e)
+  spelled_by : (tokens : List Token) (scope : Scope) (first : Token) (r : Reading Stmt) → stmt_at limit 0 (
+    tokens,
+    scope,
+  ) ≡ r → Spelled tokens scope first (whole first.start r)
+  spelled_by tokens scope first None e =
+      (refl, λ x d. let f = stmt_again complete limit 0 (tokens, scope) ([], d.0) x d.1 in cc)
+  spelled_by tokens scope first (Some (x, ([], after))) e =
+      (after, stmt_takes sound limit 0 (tokens, scope) ([], after) x e)
   spelled_by tokens scope first (Some (x, (t ∷ rest, after))) e = (
     refl,
     λ x' d.
@@ -42,10 +106,13 @@ module _ (sound : (limit : ℕ) → SoundBelow limit (rules limit)) (complete : 
         cc,
   )
 
-  whole_by : (tokens : List Token) (scope : Scope) (first : Token) (b : Body) (r : Reading Stmt) → stmt_at limit 0 (tokens, scope) ≡ r → Spelled tokens scope first b → whole first.start r ≡ b
-  whole_by tokens scope first (body.Read x) r e d = let f = stmt_again complete limit 0 (tokens, scope) ([], d.0) x d.1 in rw (sym e ∙ f) refl
+  whole_by : (tokens : List Token) (scope : Scope) (first : Token) (b : Body) (r : Reading Stmt) → stmt_at limit 0
+      (tokens, scope) ≡ r → Spelled tokens scope first b → whole first.start r ≡ b
+  whole_by tokens scope first (body.Read x) r e d =
+      let f = stmt_again complete limit 0 (tokens, scope) ([], d.0) x d.1 in rw (sym e ∙ f) refl
   whole_by tokens scope first (body.Unread at) None e d = ap (λ n. body.Unread n) d.0
-  whole_by tokens scope first (body.Unread at) (Some (x, ([], after))) e d = absurd (d.1 x (after, stmt_takes sound limit 0 (tokens, scope) ([], after) x e))
+  whole_by tokens scope first (body.Unread at) (Some (x, ([], after))) e d =
+      absurd (d.1 x (after, stmt_takes sound limit 0 (tokens, scope) ([], after) x e))
   whole_by tokens scope first (body.Unread at) (Some (x, (t ∷ rest, after))) e d = ap (λ n. body.Unread n) d.0
 
   pub body_takes : (s z : State) (b : Body) → body_at s ≡ Some (b, z) → DerivesBody s b z
@@ -57,16 +124,28 @@ module _ (sound : (limit : ℕ) → SoundBelow limit (rules limit)) (complete : 
       let scope = entered_function s.1 in
       let read : List Token → Body = λ l. whole (start_of l) (stmt_at limit 0 (l, scope)) in
       let x = spelled_by tokens scope g.first (stmt_at limit 0 (tokens, scope)) refl in
-      let e : (read tokens, (a.0.1, s.1)) ≡ (b, z) = ap (λ (l : List Token). (read l, (a.0.1, s.1))) (sym g.whole) ∙ same_Some (read a.0.0, (a.0.1, s.1)) (b, z) a.2 in
+      let e : (read tokens, (a.0.1, s.1)) ≡ (b, z) = ap (λ (l : List Token). (read l, (a.0.1, s.1))) (sym g.whole) ∙
+      same_Some (read a.0.0, (a.0.1, s.1)) (b, z) a.2 in
       subst (λ (p : Body × State). DerivesBody s p.0 p.1) e
-      (record { first = g.first; inner = g.inner; last = g.last; is = g.is; starts = g.starts; ends = g.ends; matched = g.matched; spelled = x; scope = refl })
+      (record {
+        first = g.first;
+        inner = g.inner;
+        last = g.last;
+        is = g.is;
+        starts = g.starts;
+        ends = g.ends;
+        matched = g.matched;
+        spelled = x;
+        scope = refl;
+      })
 
   pub body_again : (s z : State) (b : Body) → DerivesBody s b z → body_at s ≡ Some (b, z)
   unfolding body_at
   body_again s z b d =
       let tokens = d.first ∷ (d.inner ++ d.last ∷ []) in
       let scope = entered_function s.1 in
-      let g : group_in s.0 ≡ Some (tokens, z.0) = rw d.is (group_again d.first d.last d.inner z.0 d.starts d.matched d.ends) in
+      let g : group_in s.0 ≡ Some (tokens, z.0) = rw d.is (group_again d.first d.last d.inner z.0 d.starts d.matched
+      d.ends) in
       let w = whole_by tokens scope d.first b (stmt_at limit 0 (tokens, scope)) refl d.spelled in
       rw (g, w) (ap (λ (c : Scope). Some (b, (z.0, c))) (sym d.scope))
 
@@ -90,7 +169,8 @@ module _ (sound : (limit : ℕ) → SoundBelow limit (rules limit)) (complete : 
               | inl q ↦
                   let b = bind_some (expect mark.Semicolon a.0.1) _ _ q.1 in
                   found P (external.Declared (no_declarators a.0.0), b.0.2) (x, z) b.2
-                  (alone_takes limit r (sound limit) inside within a.0.0 s a.0.1 b.0.2 e.0 e.1 (expects mark.Semicolon [] a.0.1 b.0.2 b.0 b.1 refl))
+                  (alone_takes limit r (sound limit) inside within a.0.0 s a.0.1 b.0.2 e.0 e.1 (expects mark.Semicolon
+                  [] a.0.1 b.0.2 b.0 b.1 refl))
               | inr q ↦
                   let t = makes_types a.0.0 in
                   let b = bind_some (declaring_at r t a.0.1) _ _ q.1 in
@@ -101,14 +181,17 @@ module _ (sound : (limit : ℕ) → SoundBelow limit (rules limit)) (complete : 
                         found P (external.Function a.0.0 b.0.0 c.0.0, c.0.1) (x, z) c.2
                         (record {
                           behind = b.0.1;
-                          spans = join (specification (all_specified a.0.0)) (declaring_parts t b.0.0) s a.0.1 b.0.1 e.0 y.0;
+                          spans =
+                              join (specification (all_specified a.0.0)) (declaring_parts t b.0.0) s a.0.1 b.0.1 e.0
+                              y.0;
                           low = omega (arith, e.1, y.1);
                           body = body_takes b.0.1 c.0.1 c.0.0 c.1;
                         })
                     | inr u ↦
                         let c = bind_some (declaration_behind_at r inside a.0.0 b.0.0 b.0.1) _ _ u.1 in
                         found P (external.Declared c.0.0, c.0.1) (x, z) c.2
-                        (behind_takes limit r (sound limit) inside within a.0.0 b.0.0 s a.0.1 b.0.1 c.0.1 c.0.0 e.0 e.1 y.0 y.1 c.1)
+                        (behind_takes limit r (sound limit) inside within a.0.0 b.0.0 s a.0.1 b.0.1 c.0.1 c.0.0 e.0
+                        e.1 y.0 y.1 c.1)
                   ]
             ]
       ]
@@ -136,11 +219,20 @@ module _ (sound : (limit : ℕ) → SoundBelow limit (rules limit)) (complete : 
 
   -- ---- external declarations are read
 
-  declared_again : (xs : List Specifier) (ds : List InitDeclarator) (s z : State) → Spans (declaration_of (record { specifiers = xs; declarators = ds })).parts s z → (declaration_of (record { specifiers = xs; declarators = ds })).height ≤ limit → declared_external_at s ≡ Some (external.Declared (record { specifiers = xs; declarators = ds }), z)
+  declared_again : (xs : List Specifier) (ds : List InitDeclarator) (s z : State) →
+      Spans (declaration_of (record { specifiers = xs; declarators = ds })).parts s z →
+      (declaration_of (record { specifiers = xs; declarators = ds })).height ≤ limit → declared_external_at s ≡ Some (
+        external.Declared (record {
+          specifiers = xs;
+          declarators = ds;
+        }),
+        z,
+      )
   unfolding declared_external_at declaration_of
   declared_again xs [] s z x low =
       let p = split (specification (all_specified xs)) (takes_mark mark.Semicolon ∷ []) s z x in
-      let read = (complete limit).specifiers s p.0 xs p.1 (omega arith) (rw (taken p.2.2) refl) (rw (taken p.2.2) refl) in
+      let read = (complete limit).specifiers s p.0 xs p.1 (omega arith) (rw (taken p.2.2) refl)
+      (rw (taken p.2.2) refl) in
       rw (read, taken p.2.2) (ap (λ (w : State). Some (external.Declared (no_declarators xs), w)) p.2.3)
   declared_again xs (d ∷ ds) s z x low =
       let r = rules limit in
@@ -150,13 +242,15 @@ module _ (sound : (limit : ℕ) → SoundBelow limit (rules limit)) (complete : 
       let n = declaring_begins (makes_types xs) d.declarator p.named p.declared p.declaring in
       let a = by_rest d p.declared p.first p.rest (after_first xs d ds s z p) in
       let read = (complete limit).specifiers s p.named xs p.specifiers (omega arith) (n.typed p.named.1) n.brace in
-      let head = declaring_again limit r (complete limit) inside within (makes_types xs) d.declarator p.named p.declared p.declaring (omega arith) a.ended in
+      let head = declaring_again limit r (complete limit) inside within (makes_types xs) d.declarator p.named
+      p.declared p.declaring (omega arith) a.ended in
       let rest = behind_again limit r (complete limit) inside within xs d ds s z p (omega arith) in
       let b = n.semicolon in
       let b' = a.no_brace in
       rw (read, b, head, b', rest) refl
 
-  function_again : (xs : List Specifier) (d : Declarator) (b : Body) (s z : State) → DerivesFunction xs d b s z → declared_external_at s ≡ Some (external.Function xs d b, z)
+  function_again : (xs : List Specifier) (d : Declarator) (b : Body) (s z : State) → DerivesFunction xs d b s z →
+      declared_external_at s ≡ Some (external.Function xs d b, z)
   unfolding declared_external_at
   function_again xs d b s z f =
       let r = rules limit in
@@ -209,7 +303,8 @@ module _ (sound : (limit : ℕ) → SoundBelow limit (rules limit)) (complete : 
   not_end [] n h = absurd (omega arith)
   not_end (t ∷ rest) n h = refl
 
-  externals_again : (n : ℕ) (xs : List External) (s : State) → length s.0 < n → DerivesExternals s xs → externals_at n s ≡ Some xs
+  externals_again : (n : ℕ) (xs : List External) (s : State) → length s.0 < n → DerivesExternals s xs → externals_at n
+      s ≡ Some xs
   unfolding externals_at
   externals_again zero xs s enough d = absurd (omega arith)
   externals_again (suc n) [] s enough d = rw d refl

@@ -16,13 +16,18 @@ use Rattle.c_grammar.proofs.DeclarationSound.{initializer_takes, declaration_tak
 use Rattle.c_grammar.proofs.StmtSound.{stmt_takes}
 use Rattle.c_grammar.proofs.UnitLaws.{body_takes, external_takes, unit_takes}
 
-pub initializer_sound : (limit : ℕ) (s z : State) (x : Initializer) → initializer_at limit s ≡ Some (x, z) → Made limit (initializer_of x) s z
+pub initializer_sound : (limit : ℕ) (s z : State) (x : Initializer) → initializer_at limit s ≡ Some (x, z) →
+    Made limit (initializer_of x) s z
 initializer_sound limit s z x h = initializer_takes below_sound limit s z x h
 
-pub declaration_sound : (limit : ℕ) (s z : State) (d : Declaration) → declaration_at (rules limit) (initializer_at limit) s ≡ Some (d, z) → Made limit (declaration_of d) s z
-declaration_sound limit s z d h = declaration_takes limit (rules limit) (below_sound limit) (initializer_at limit) (initializer_takes below_sound limit) s z d h
+pub declaration_sound : (limit : ℕ) (s z : State) (d : Declaration) → declaration_at (rules limit)
+    (initializer_at limit) s ≡ Some (d, z) → Made limit (declaration_of d) s z
+declaration_sound limit s z d h =
+    declaration_takes limit (rules limit) (below_sound limit) (initializer_at limit) (initializer_takes below_sound
+    limit) s z d h
 
-pub stmt_sound : (limit rank : ℕ) (s z : State) (x : Stmt) → stmt_at limit rank s ≡ Some (x, z) → DerivesStmt limit rank s x z
+pub stmt_sound : (limit rank : ℕ) (s z : State) (x : Stmt) → stmt_at limit rank s ≡ Some (x, z) → DerivesStmt limit
+    rank s x z
 stmt_sound limit rank s z x h = stmt_takes below_sound limit rank s z x h
 
 pub body_sound : (s z : State) (b : Body) → body_at s ≡ Some (b, z) → DerivesBody s b z

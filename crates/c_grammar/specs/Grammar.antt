@@ -1,5 +1,24 @@
 -- How expressions (C99 6.5), the types that stand in them and declarators (6.7) are spelled.
-use Rattle.std.specs.Prelude.{◌≡◌, ◌≤◌, ℕ, suc, max, List, [], ◌∷◌, ◌++◌, Bool, true, false, ◌||◌, not, Option, Some, None, map}
+use Rattle.std.specs.Prelude.{
+  ◌≡◌,
+  ◌≤◌,
+  ℕ,
+  suc,
+  max,
+  List,
+  [],
+  ◌∷◌,
+  ◌++◌,
+  Bool,
+  true,
+  false,
+  ◌||◌,
+  not,
+  Option,
+  Some,
+  None,
+  map,
+}
 use Rattle.c_lexer.specs.declared.token.Token.{Token}
 use Rattle.c_lexer.specs.declared.token.TokenKind.{TokenKind}
 use Rattle.c_lexer.specs.declared.token.TokenKind.TheVariants as kind
@@ -10,22 +29,71 @@ use Rattle.c_lexer.specs.declared.token.Punctuator.TheVariants as mark
 use Rattle.c_tree.specs.declared.expr.BinaryOperator.{BinaryOperator}
 use Rattle.c_tree.specs.declared.expr.Qualifier.{Qualifier}
 use Rattle.c_tree.specs.declared.expr.ArrayWord.{ArrayWord}
-use Rattle.c_tree.specs.declared.expr.Expr.{Expr, fold-Expr}
-use Rattle.c_tree.specs.declared.expr.TypeName.{TypeName, fold-TypeName}
-use Rattle.c_tree.specs.declared.expr.Specifier.{Specifier, fold-Specifier}
-use Rattle.c_tree.specs.declared.expr.MemberDeclaration.{MemberDeclaration, fold-MemberDeclaration}
-use Rattle.c_tree.specs.declared.expr.Field.{Field, fold-Field}
-use Rattle.c_tree.specs.declared.expr.Enumerator.{Enumerator, fold-Enumerator}
-use Rattle.c_tree.specs.declared.expr.Declarator.{Declarator, fold-Declarator}
-use Rattle.c_tree.specs.declared.expr.Parameter.{Parameter, fold-Parameter}
+use Rattle.c_tree.specs.declared.expr.Expr.{Expr}
+use Rattle.c_tree.specs.declared.expr.TypeName.{TypeName}
+use Rattle.c_tree.specs.declared.expr.Specifier.{Specifier}
+use Rattle.c_tree.specs.declared.expr.MemberDeclaration.{MemberDeclaration}
+use Rattle.c_tree.specs.declared.expr.Field.{Field}
+use Rattle.c_tree.specs.declared.expr.Enumerator.{Enumerator}
+use Rattle.c_tree.specs.declared.expr.Declarator.{Declarator}
+use Rattle.c_tree.specs.declared.expr.Parameter.{Parameter}
 use Rattle.c_tree.specs.declared.expr.Declarator.TheOpen as open_
+use Rattle.c_tree.specs.declared.expr.TagName.{TagName}
+use Rattle.c_tree.specs.Folds.{
+  Carrier,
+  Algebra,
+  DeclaratorLayer,
+  ExprLayer,
+  FieldLayer,
+  SpecifierLayer,
+  EnumeratorLayer,
+  MemberDeclarationLayer,
+  ParameterLayer,
+  TypeNameLayer,
+  fold_declarator,
+  fold_expr,
+  fold_field,
+  fold_specifier,
+  fold_enumerator,
+  fold_member,
+  fold_parameter,
+  fold_type_name,
+}
 use Rattle.c_grammar.specs.declared.declarator_place.DeclaratorPlace.{DeclaratorPlace}
 use Rattle.c_grammar.specs.declared.declarator_place.DeclaratorPlace.TheVariants as place
 use Rattle.c_grammar.specs.declared.type_words.TypeKind.{TypeKind}
 use Rattle.c_grammar.specs.declared.type_words.TypeKind.TheVariants as type_kind
 use Rattle.c_grammar.specs.TypeWords.{are_allowed, is_type}
-use Rattle.c_grammar.specs.Spelling.{unary_mark, operand_rank, postfix_mark, binary_mark, rank_of, assign_mark, class_keyword, qualifier_keyword, word_keyword, aggregate_keyword, array_word_keyword}
-use Rattle.c_grammar.specs.Parts.{Name, Part, takes, takes_at, at_most, holds, typedef_name, ordinary, declares, opens, closes, keeps, no_type, State, Spans}
+use Rattle.c_grammar.specs.Spelling.{
+  unary_mark,
+  operand_rank,
+  postfix_mark,
+  binary_mark,
+  rank_of,
+  assign_mark,
+  class_keyword,
+  qualifier_keyword,
+  word_keyword,
+  aggregate_keyword,
+  array_word_keyword,
+}
+use Rattle.c_grammar.specs.Parts.{
+  Name,
+  Part,
+  takes,
+  takes_at,
+  at_most,
+  holds,
+  typedef_name,
+  ordinary,
+  declares,
+  opens,
+  closes,
+  keeps,
+  no_type,
+  State,
+  Spans,
+}
 
 -- ---- what the grammar says of a tree
 
@@ -56,30 +124,18 @@ pub record Form : Type 0 where
   pub omitted : Bool
   pub derived : Bool
 
--- one level of each type, with what the grammar says of the trees below
-abbrev pub ExprLayer : Type 0
-ExprLayer = open_.Expr-F Form Shape Piece Specified Piece Piece Piece Piece
-
-abbrev pub DeclaratorLayer : Type 0
-DeclaratorLayer = open_.Declarator-F Form Shape Piece Specified Piece Piece Piece Piece
-
-abbrev pub FieldLayer : Type 0
-FieldLayer = open_.Field-F Form Shape Piece Specified Piece Piece Piece Piece
-
-abbrev pub SpecifierLayer : Type 0
-SpecifierLayer = open_.Specifier-F Form Shape Piece Specified Piece Piece Piece Piece
-
-abbrev pub EnumeratorLayer : Type 0
-EnumeratorLayer = open_.Enumerator-F Form Shape Piece Specified Piece Piece Piece Piece
-
-abbrev pub MemberLayer : Type 0
-MemberLayer = open_.MemberDeclaration-F Form Shape Piece Specified Piece Piece Piece Piece
-
-abbrev pub ParameterLayer : Type 0
-ParameterLayer = open_.Parameter-F Form Shape Piece Specified Piece Piece Piece Piece
-
-abbrev pub TypeNameLayer : Type 0
-TypeNameLayer = open_.TypeName-F Form Shape Piece Specified Piece Piece Piece Piece
+-- of each type of tree
+abbrev pub Said : Carrier
+Said = record {
+  declarator = Form;
+  expr = Shape;
+  field = Piece;
+  specifier = Specified;
+  enumerator = Piece;
+  member = Piece;
+  parameter = Piece;
+  type_name = Piece;
+}
 
 -- ---- lists
 
@@ -148,9 +204,13 @@ abbrev pub highest_specifier : List Specified → ℕ
 highest_specifier [] = 0
 highest_specifier (x ∷ xs) = max x.height (highest_specifier xs)
 
-abbrev pub tag_parts : Option Name → List Part
+-- a tag, by the offset of its own token
+abbrev pub takes_tag : TagName → Part
+takes_tag tag = takes_at tag.at (kind.Identifier tag.name)
+
+abbrev pub tag_parts : Option TagName → List Part
 tag_parts None = []
-tag_parts (Some tag) = takes (kind.Identifier tag) ∷ []
+tag_parts (Some tag) = takes_tag tag ∷ []
 
 abbrev pub braced : List Part → List Part
 braced ps = takes_mark mark.LeftBrace ∷ (ps ++ takes_mark mark.RightBrace ∷ [])
@@ -158,15 +218,23 @@ braced ps = takes_mark mark.LeftBrace ∷ (ps ++ takes_mark mark.RightBrace ∷ 
 abbrev pub word_of : ℕ → Keyword → TypeKind → Specified
 word_of at k says = record { parts = λ typed. takes_keyword_at at k ∷ []; height = 1; kind = says }
 
-abbrev pub specified : SpecifierLayer → Specified
+abbrev pub specified : SpecifierLayer Said → Specified
 specified (open_.Storage at class) = word_of at (class_keyword class) type_kind.NoType
 specified (open_.Qualifier at qualifier) = word_of at (qualifier_keyword qualifier) type_kind.NoType
 specified (open_.Inline at) = word_of at keyword.Inline type_kind.NoType
 specified (open_.Word at word) = word_of at (word_keyword word) (type_kind.Word word)
 specified (open_.Typedef at name) =
-    record { parts = λ typed. holds (not typed) ∷ typedef_name name ∷ takes_at at (kind.Identifier name) ∷ []; height = 1; kind = type_kind.Whole }
+    record {
+      parts = λ typed. holds (not typed) ∷ typedef_name name ∷ takes_at at (kind.Identifier name) ∷ [];
+      height = 1;
+      kind = type_kind.Whole;
+    }
 specified (open_.Tag at aggregate tag) =
-    record { parts = λ typed. takes_keyword_at at (aggregate_keyword aggregate) ∷ takes (kind.Identifier tag) ∷ []; height = 1; kind = type_kind.Whole }
+    record {
+      parts = λ typed. takes_keyword_at at (aggregate_keyword aggregate) ∷ takes_tag tag ∷ [];
+      height = 1;
+      kind = type_kind.Whole;
+    }
 specified (open_.Aggregate at aggregate tag members) =
     record {
       parts = λ typed. takes_keyword_at at (aggregate_keyword aggregate) ∷ (tag_parts tag ++ braced (joined members));
@@ -174,10 +242,16 @@ specified (open_.Aggregate at aggregate tag members) =
       kind = type_kind.Whole;
     }
 specified (open_.EnumTag at tag) =
-    record { parts = λ typed. takes_keyword_at at keyword.Enum ∷ takes (kind.Identifier tag) ∷ []; height = 1; kind = type_kind.Whole }
+    record {
+      parts = λ typed. takes_keyword_at at keyword.Enum ∷ takes_tag tag ∷ [];
+      height = 1;
+      kind = type_kind.Whole;
+    }
 specified (open_.Enumeration at tag enumerators trailing) =
     record {
-      parts = λ typed. takes_keyword_at at keyword.Enum ∷ (tag_parts tag ++ braced (listed enumerators ++ comma_if trailing));
+      parts =
+          λ typed. takes_keyword_at at keyword.Enum ∷ (tag_parts tag ++ braced (listed enumerators ++
+          comma_if trailing));
       height = suc (highest enumerators);
       kind = type_kind.Whole;
     }
@@ -191,8 +265,12 @@ height_of None = 0
 height_of (Some e) = e.height
 
 -- an enumeration constant is in scope behind its enumerator (6.2.1)
-abbrev pub enumerator_piece : EnumeratorLayer → Piece
-enumerator_piece x = record { parts = takes_at x.at (kind.Identifier x.name) ∷ (value_parts x.value ++ declares x.name false ∷ []); height = height_of x.value }
+abbrev pub enumerator_piece : EnumeratorLayer Said → Piece
+enumerator_piece x =
+    record {
+      parts = takes_at x.at (kind.Identifier x.name) ∷ (value_parts x.value ++ declares x.name false ∷ []);
+      height = height_of x.value;
+    }
 
 -- ---- declarators
 
@@ -235,43 +313,58 @@ abbrev pub closing_parts : DeclaratorPlace → Bool → Part
 closing_parts place.Declaration false = keeps
 closing_parts _ _ = closes
 
-abbrev pub formed : DeclaratorLayer → Form
+abbrev pub formed : DeclaratorLayer Said → Form
 formed (open_.Name at name) =
-    record { parts = λ where_. takes_at at (kind.Identifier name) ∷ []; rank = 0; height = 1; name = Some name; omitted = false; derived = false }
-formed open_.Omitted = record { parts = λ where_. []; rank = 0; height = 1; name = None; omitted = true; derived = false }
+    record {
+      parts = λ where_. takes_at at (kind.Identifier name) ∷ [];
+      rank = 0;
+      height = 1;
+      name = Some name;
+      omitted = false;
+      derived = false;
+    }
+formed open_.Omitted =
+    record { parts = λ where_. []; rank = 0; height = 1; name = None; omitted = true; derived = false }
 formed (open_.Grouped at inner) =
     record {
-      parts = λ where_. takes_mark_at at mark.LeftParen ∷ (group_parts where_ ++ holds (not inner.omitted) ∷ (inner.parts where_ ++ takes_mark mark.RightParen ∷ []));
+      parts =
+          λ where_. takes_mark_at at mark.LeftParen ∷ (group_parts where_ ++ holds (not inner.omitted) ∷
+          (inner.parts where_ ++ takes_mark mark.RightParen ∷ []));
       rank = 0;
       height = suc inner.height;
       name = inner.name;
       omitted = false;
       derived = inner.derived;
     }
-formed (open_.Pointer at qualifiers target) =
+formed (open_.Pointer at qualifiers inner) =
     record {
-      parts = λ where_. takes_mark_at at mark.Star ∷ (qualifier_parts qualifiers ++ target.parts where_);
+      parts = λ where_. takes_mark_at at mark.Star ∷ (qualifier_parts qualifiers ++ inner.parts where_);
       rank = 2;
-      height = suc target.height;
-      name = target.name;
+      height = suc inner.height;
+      name = inner.name;
       omitted = false;
       derived = true;
     }
-formed (open_.Array at element words length) =
+formed (open_.Array at inner words length) =
     record {
-      parts = λ where_. at_most element.rank 1 ∷ (element.parts where_ ++ takes_mark_at at mark.LeftBracket ∷ (array_word_parts words ++ (length_parts length ++ takes_mark mark.RightBracket ∷ [])));
+      parts =
+          λ where_. at_most inner.rank 1 ∷ (inner.parts where_ ++ takes_mark_at at mark.LeftBracket ∷
+          (array_word_parts words ++ (length_parts length ++ takes_mark mark.RightBracket ∷ [])));
       rank = 1;
-      height = suc (max element.height (height_of length));
-      name = element.name;
+      height = suc (max inner.height (height_of length));
+      name = inner.name;
       omitted = false;
       derived = true;
     }
-formed (open_.Function at result parameters variadic) =
+formed (open_.Function at inner parameters variadic) =
     record {
-      parts = λ where_. at_most result.rank 1 ∷ (result.parts where_ ++ takes_mark_at at mark.LeftParen ∷ opens ∷ (parameter_parts parameters variadic ++ closing_parts where_ result.derived ∷ takes_mark mark.RightParen ∷ []));
+      parts =
+          λ where_. at_most inner.rank 1 ∷ (inner.parts where_ ++ takes_mark_at at mark.LeftParen ∷ opens ∷
+          (parameter_parts parameters variadic ++ closing_parts where_ inner.derived ∷ takes_mark mark.RightParen
+          ∷ []));
       rank = 1;
-      height = suc (max result.height (highest parameters));
-      name = result.name;
+      height = suc (max inner.height (highest parameters));
+      name = inner.name;
       omitted = false;
       derived = true;
     }
@@ -281,13 +374,13 @@ declaring None is_type = []
 declaring (Some name) is_type = declares name is_type ∷ []
 
 -- a parameter declares its name
-abbrev pub parameter_piece : ParameterLayer → Piece
+abbrev pub parameter_piece : ParameterLayer Said → Piece
 parameter_piece x = record {
   parts = specification x.specifiers ++ (x.declarator.parts place.Parameter ++ declaring x.declarator.name false);
   height = max (highest_specifier x.specifiers) x.declarator.height;
 }
 
-abbrev pub type_name_piece : TypeNameLayer → Piece
+abbrev pub type_name_piece : TypeNameLayer Said → Piece
 type_name_piece x = record {
   parts = specification x.specifiers ++ holds (not (is_named x.declarator)) ∷ x.declarator.parts place.TypeName;
   height = max (highest_specifier x.specifiers) x.declarator.height;
@@ -302,16 +395,20 @@ abbrev pub form_height : Option Form → ℕ
 form_height None = 0
 form_height (Some d) = d.height
 
-abbrev pub field_piece : FieldLayer → Piece
-field_piece (open_.Plain declarator) = record { parts = field_name_parts (Some declarator); height = declarator.height }
+abbrev pub field_piece : FieldLayer Said → Piece
+field_piece (open_.Plain declarator) =
+    record { parts = field_name_parts (Some declarator); height = declarator.height }
 field_piece (open_.Bits at declarator width) =
-    record { parts = field_name_parts declarator ++ takes_mark_at at mark.Colon ∷ of_rank 14 width; height = max (form_height declarator) width.height }
+    record {
+      parts = field_name_parts declarator ++ takes_mark_at at mark.Colon ∷ of_rank 14 width;
+      height = max (form_height declarator) width.height;
+    }
 
 abbrev pub fields_parts : List Piece → List Part
 fields_parts [] = []
 fields_parts (x ∷ xs) = listed (x ∷ xs)
 
-abbrev pub member_piece : MemberLayer → Piece
+abbrev pub member_piece : MemberDeclarationLayer Said → Piece
 member_piece x = record {
   parts = specification x.specifiers ++ (fields_parts x.fields ++ takes_mark mark.Semicolon ∷ []);
   height = max (highest_specifier x.specifiers) (highest x.fields);
@@ -335,65 +432,100 @@ literal_parts at [] = holds false ∷ []
 literal_parts at (p ∷ ps) = takes_at at (kind.StringLiteral p) ∷ more_literals ps
 
 abbrev pub assign_parts : ℕ → Option BinaryOperator → List Part
-assign_parts at operator = elim (assign_mark operator) as (λ _. List Part) [ None ↦ holds false ∷ [] | Some m ↦ takes_mark_at at m ∷ [] ]
+assign_parts at operator = elim (assign_mark operator) as (λ _. List Part) [
+  | None ↦ holds false ∷ []
+  | Some m ↦
+      takes_mark_at at m ∷ []
+]
 
 abbrev pub in_parens : List Part → List Part
 in_parens ps = takes_mark mark.LeftParen ∷ (ps ++ takes_mark mark.RightParen ∷ [])
 
-abbrev pub spelled : ExprLayer → Shape
+abbrev pub spelled : ExprLayer Said → Shape
 spelled (open_.Integer at constant) = leaf (takes_at at (kind.Integer constant) ∷ [])
 spelled (open_.Floating at) = leaf (takes_at at kind.Floating ∷ [])
 spelled (open_.Character at value) = leaf (takes_at at (kind.Character value) ∷ [])
 spelled (open_.StringLiteral at pieces) = leaf (literal_parts at pieces)
 spelled (open_.FunctionName at) = leaf (takes_at at kind.FunctionName ∷ [])
 spelled (open_.Identifier at name) = leaf (ordinary name ∷ takes_at at (kind.Identifier name) ∷ [])
-spelled (open_.Parenthesized at inner) = node 0 inner.height (takes_mark_at at mark.LeftParen ∷ (inner.parts ++ takes_mark mark.RightParen ∷ []))
+spelled (open_.Parenthesized at inner) =
+    node 0 inner.height (takes_mark_at at mark.LeftParen ∷ (inner.parts ++ takes_mark mark.RightParen ∷ []))
 spelled (open_.Subscript at array index) =
-    node 1 (max array.height index.height) (at_most array.rank 1 ∷ (array.parts ++ takes_mark_at at mark.LeftBracket ∷ (index.parts ++ takes_mark mark.RightBracket ∷ [])))
+    node 1 (max array.height index.height) (at_most array.rank 1 ∷ (array.parts ++ takes_mark_at at mark.LeftBracket ∷
+    (index.parts ++ takes_mark mark.RightBracket ∷ [])))
 spelled (open_.Call at callee arguments) =
-    node 1 (max callee.height (highest_shape arguments)) (at_most callee.rank 1 ∷ (callee.parts ++ takes_mark_at at mark.LeftParen ∷ (argument_parts arguments ++ takes_mark mark.RightParen ∷ [])))
-spelled (open_.Member at object member) = node 1 object.height (at_most object.rank 1 ∷ (object.parts ++ takes_mark_at at mark.Dot ∷ takes (kind.Identifier member) ∷ []))
-spelled (open_.Arrow at pointer member) = node 1 pointer.height (at_most pointer.rank 1 ∷ (pointer.parts ++ takes_mark_at at mark.Arrow ∷ takes (kind.Identifier member) ∷ []))
-spelled (open_.Postfix at operator operand) = node 1 operand.height (at_most operand.rank 1 ∷ (operand.parts ++ takes_mark_at at (postfix_mark operator) ∷ []))
-spelled (open_.Unary at operator operand) = node 2 operand.height (at_most operand.rank (operand_rank operator) ∷ takes_mark_at at (unary_mark operator) ∷ operand.parts)
-spelled (open_.SizeofExpr at operand) = node 2 operand.height (at_most operand.rank 2 ∷ takes_keyword_at at keyword.Sizeof ∷ operand.parts)
-spelled (open_.SizeofType at type_name) = node 2 type_name.height (takes_keyword_at at keyword.Sizeof ∷ in_parens type_name.parts)
+    node 1 (max callee.height (highest_shape arguments)) (at_most callee.rank 1 ∷
+    (callee.parts ++ takes_mark_at at mark.LeftParen ∷ (argument_parts arguments ++ takes_mark mark.RightParen ∷ [])))
+spelled (open_.Member at object member) =
+    node 1 object.height (at_most object.rank 1 ∷ (object.parts ++ takes_mark_at at mark.Dot ∷
+    takes (kind.Identifier member) ∷ []))
+spelled (open_.Arrow at pointer member) =
+    node 1 pointer.height (at_most pointer.rank 1 ∷ (pointer.parts ++ takes_mark_at at mark.Arrow ∷
+    takes (kind.Identifier member) ∷ []))
+spelled (open_.Postfix at operator operand) =
+    node 1 operand.height (at_most operand.rank 1 ∷ (operand.parts ++ takes_mark_at at (postfix_mark operator) ∷ []))
+spelled (open_.Unary at operator operand) =
+    node 2 operand.height (at_most operand.rank (operand_rank operator) ∷ takes_mark_at at (unary_mark operator) ∷
+    operand.parts)
+spelled (open_.SizeofExpr at operand) =
+    node 2 operand.height (at_most operand.rank 2 ∷ takes_keyword_at at keyword.Sizeof ∷ operand.parts)
+spelled (open_.SizeofType at type_name) =
+    node 2 type_name.height (takes_keyword_at at keyword.Sizeof ∷ in_parens type_name.parts)
 spelled (open_.Cast at type_name operand) =
-    node 3 (max type_name.height operand.height) (at_most operand.rank 3 ∷ takes_mark_at at mark.LeftParen ∷ (type_name.parts ++ takes_mark mark.RightParen ∷ operand.parts))
+    node 3 (max type_name.height operand.height) (at_most operand.rank 3 ∷ takes_mark_at at mark.LeftParen ∷
+    (type_name.parts ++ takes_mark mark.RightParen ∷ operand.parts))
 spelled (open_.Binary at operator left right) =
-    node (rank_of operator) (max left.height right.height) (at_most left.rank (rank_of operator) ∷ at_most (suc right.rank) (rank_of operator) ∷ (left.parts ++ takes_mark_at at (binary_mark operator) ∷ right.parts))
+    node (rank_of operator) (max left.height right.height) (at_most left.rank (rank_of operator) ∷
+    at_most (suc right.rank) (rank_of operator) ∷ (left.parts ++ takes_mark_at at (binary_mark operator) ∷
+    right.parts))
 spelled (open_.Conditional at condition positive negative) =
-    node 14 (max condition.height (max positive.height negative.height)) (at_most condition.rank 13 ∷ at_most negative.rank 14 ∷ (condition.parts ++ takes_mark_at at mark.Question ∷ (positive.parts ++ takes_mark mark.Colon ∷ negative.parts)))
+    node 14 (max condition.height (max positive.height negative.height)) (at_most condition.rank 13 ∷
+    at_most negative.rank 14 ∷ (condition.parts ++ takes_mark_at at mark.Question ∷
+    (positive.parts ++ takes_mark mark.Colon ∷ negative.parts)))
 spelled (open_.Assign at operator target value) =
-    node 15 (max target.height value.height) (at_most target.rank 2 ∷ at_most value.rank 15 ∷ (target.parts ++ (assign_parts at operator ++ value.parts)))
+    node 15 (max target.height value.height) (at_most target.rank 2 ∷ at_most value.rank 15 ∷
+    (target.parts ++ (assign_parts at operator ++ value.parts)))
 spelled (open_.Comma at left right) =
-    node 16 (max left.height right.height) (at_most right.rank 15 ∷ (left.parts ++ takes_mark_at at mark.Comma ∷ right.parts))
+    node 16 (max left.height right.height) (at_most right.rank 15 ∷ (left.parts ++ takes_mark_at at mark.Comma ∷
+    right.parts))
 
 -- ---- trees
 
+abbrev pub grammar : Algebra Said
+grammar = record {
+  declarator = formed;
+  expr = spelled;
+  field = field_piece;
+  specifier = specified;
+  enumerator = enumerator_piece;
+  member = member_piece;
+  parameter = parameter_piece;
+  type_name = type_name_piece;
+}
+
 unfoldable pub shape : Expr → Shape
-shape e = fold-Expr Form Shape Piece Specified Piece Piece Piece Piece formed spelled field_piece specified enumerator_piece member_piece parameter_piece type_name_piece e
+shape e = fold_expr grammar e
 
 unfoldable pub form : Declarator → Form
-form d = fold-Declarator Form Shape Piece Specified Piece Piece Piece Piece formed spelled field_piece specified enumerator_piece member_piece parameter_piece type_name_piece d
+form d = fold_declarator grammar d
 
 unfoldable pub specifier_of : Specifier → Specified
-specifier_of x = fold-Specifier Form Shape Piece Specified Piece Piece Piece Piece formed spelled field_piece specified enumerator_piece member_piece parameter_piece type_name_piece x
+specifier_of x = fold_specifier grammar x
 
 unfoldable pub field_of : Field → Piece
-field_of x = fold-Field Form Shape Piece Specified Piece Piece Piece Piece formed spelled field_piece specified enumerator_piece member_piece parameter_piece type_name_piece x
+field_of x = fold_field grammar x
 
 unfoldable pub enumerator_of : Enumerator → Piece
-enumerator_of x = fold-Enumerator Form Shape Piece Specified Piece Piece Piece Piece formed spelled field_piece specified enumerator_piece member_piece parameter_piece type_name_piece x
+enumerator_of x = fold_enumerator grammar x
 
 unfoldable pub member_of : MemberDeclaration → Piece
-member_of x = fold-MemberDeclaration Form Shape Piece Specified Piece Piece Piece Piece formed spelled field_piece specified enumerator_piece member_piece parameter_piece type_name_piece x
+member_of x = fold_member grammar x
 
 unfoldable pub parameter_of : Parameter → Piece
-parameter_of x = fold-Parameter Form Shape Piece Specified Piece Piece Piece Piece formed spelled field_piece specified enumerator_piece member_piece parameter_piece type_name_piece x
+parameter_of x = fold_parameter grammar x
 
 unfoldable pub type_name_of : TypeName → Piece
-type_name_of x = fold-TypeName Form Shape Piece Specified Piece Piece Piece Piece formed spelled field_piece specified enumerator_piece member_piece parameter_piece type_name_piece x
+type_name_of x = fold_type_name grammar x
 
 -- the specifiers of a declaration
 abbrev pub all_specified : List Specifier → List Specified
@@ -418,10 +550,11 @@ fits_place place.Parameter d = true
 fits_place place.TypeName d = not (is_named d)
 
 -- it derives this declarator at such a place
-pub record DerivesDeclarator (limit : ℕ) (where_ : DeclaratorPlace) (s : State) (d : Declarator) (z : State) : Type 0 where
-  pub spans : Spans ((form d).parts where_) s z
-  pub named : fits_place where_ (form d) ≡ true
-  pub low : (form d).height ≤ limit
+pub record DerivesDeclarator (limit : ℕ) (where_ : DeclaratorPlace) (s : State) (d : Declarator) (z : State) : Type 0
+  where
+    pub spans : Spans ((form d).parts where_) s z
+    pub named : fits_place where_ (form d) ≡ true
+    pub low : (form d).height ≤ limit
 
 -- a token that stands behind declarators
 abbrev pub ends_declarator : TokenKind → Bool

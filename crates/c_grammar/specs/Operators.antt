@@ -159,4 +159,6 @@ stored at (Some c) other = Some (specifier.Storage at c)
 
 -- the declaration specifier that a keyword is by itself (C99 6.7)
 abbrev pub word_specifier : ℕ → Keyword → Option Specifier
-word_specifier at k = cond (sameb keyword_type k keyword.Inline) (Some (specifier.Inline at)) (stored at (class_of k) (qualified at (qualifier_of k) (type_specifier at (type_word_of k))))
+word_specifier at k =
+    cond (sameb keyword_type k keyword.Inline) (Some (specifier.Inline at)) (stored at (class_of k)
+    (qualified at (qualifier_of k) (type_specifier at (type_word_of k))))

@@ -64,7 +64,8 @@ outer (f ∷ fs) = fs
 
 -- a name is declared in the innermost block
 unfoldable pub declared : Name → Bool → Scope → Scope
-declared name is_type scope = record scope { frames = declared_in (record { name = name; is_type = is_type }) scope.frames }
+declared name is_type scope =
+    record scope { frames = declared_in (record { name = name; is_type = is_type }) scope.frames }
 
 -- a block is entered
 unfoldable pub entered : Scope → Scope

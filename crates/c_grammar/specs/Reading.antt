@@ -1,5 +1,26 @@
 -- Reading an expression, a specifier or a declarator: a tree and the state after it, or nothing.
-use Rattle.std.specs.Prelude.{ℕ, zero, suc, pred, List, [], ◌∷◌, length, map, Bool, true, false, cond, ◌||◌, ◌&&◌, nat_eq, nat_le, Option, Some, None}
+use Rattle.std.specs.Prelude.{
+  ℕ,
+  zero,
+  suc,
+  pred,
+  List,
+  [],
+  ◌∷◌,
+  length,
+  map,
+  Bool,
+  true,
+  false,
+  cond,
+  ◌||◌,
+  ◌&&◌,
+  nat_eq,
+  nat_le,
+  Option,
+  Some,
+  None,
+}
 use denote.Enum.Bare.{sameb}
 use Rattle.c_lexer.specs.declared.token.Token.{Token}
 use Rattle.c_lexer.specs.declared.token.TokenKind.{TokenKind}
@@ -16,6 +37,7 @@ use Rattle.c_tree.specs.declared.expr.BinaryOperator.{BinaryOperator}
 use Rattle.c_tree.specs.declared.expr.Qualifier.{Qualifier}
 use Rattle.c_tree.specs.declared.expr.ArrayWord.{ArrayWord}
 use Rattle.c_tree.specs.declared.expr.AggregateKind.{AggregateKind}
+use Rattle.c_tree.specs.declared.expr.TagName.{TagName}
 use Rattle.c_tree.specs.declared.expr.Expr.{Expr}
 use Rattle.c_tree.specs.declared.expr.Expr.TheVariants as expr
 use Rattle.c_tree.specs.declared.expr.TypeName.{TypeName}
@@ -35,7 +57,15 @@ use Rattle.c_grammar.specs.declared.operators.Infix.TheVariants as between
 use Rattle.c_grammar.specs.declared.type_words.TypeKind.{TypeKind}
 use Rattle.c_grammar.specs.TypeWords.{are_allowed, is_type}
 use Rattle.c_grammar.specs.Spelling.{rank_of, operand_rank}
-use Rattle.c_grammar.specs.Operators.{unary_of, infix_of, binding_of, qualifier_of, array_word_of, aggregate_of, word_specifier}
+use Rattle.c_grammar.specs.Operators.{
+  unary_of,
+  infix_of,
+  binding_of,
+  qualifier_of,
+  array_word_of,
+  aggregate_of,
+  word_specifier,
+}
 use Rattle.c_grammar.specs.Parts.{Name, Scope, State, is_typedef, declared, entered, left, left_keeping, specifies_in}
 use Rattle.c_grammar.specs.Grammar.{shape, form, specifier_of, may_omit}
 
@@ -79,6 +109,10 @@ expect_keyword wanted s = take_by (a_keyword wanted) s.0 s.1
 abbrev pub name_at : State → Option (Name × ℕ × State)
 name_at s = take_by a_name s.0 s.1
 
+-- a tag, by the offset of its own token
+abbrev pub tag_at : State → Reading TagName
+tag_at s = name_at s >>= (λ name. Some (record { at = name.1; name = name.0 }, name.2))
+
 abbrev pub holds_some : {A : Type 0} → Option A → Bool
 holds_some None = false
 holds_some (Some x) = true
@@ -111,7 +145,8 @@ kind_of x = (specifier_of x).kind
 unfoldable pub specifiers_at : Rules → ℕ → Bool → State → Reading (List Specifier)
 specifiers_at r zero typed s = None
 specifiers_at r (suc n) typed s = cond (specifies_in typed s.0 s.1)
-    (r.specifier s >>= (λ x. specifiers_at r n (typed || is_type (kind_of x.0)) x.1 >>= (λ more. Some (x.0 ∷ more.0, more.1))))
+    (r.specifier s >>= (λ x. specifiers_at r n (typed || is_type (kind_of x.0)) x.1 >>=
+    (λ more. Some (x.0 ∷ more.0, more.1))))
     (Some ([], s))
 
 -- specifiers that name one type
@@ -128,7 +163,9 @@ type_name_at r s = do
 
 -- an expression behind `=`, if there is one
 unfoldable pub value_at : Rules → State → Reading (Option Expr)
-value_at r s = cond (begins mark.Equal s) (expect mark.Equal s >>= (λ eq. r.expr 14 eq.2 >>= (λ e. Some (Some e.0, e.1)))) (Some (None, s))
+value_at r s =
+    cond (begins mark.Equal s) (expect mark.Equal s >>= (λ eq. r.expr 14 eq.2 >>= (λ e. Some (Some e.0, e.1))))
+    (Some (None, s))
 
 unfoldable pub enumerator_at : Rules → State → Reading Enumerator
 enumerator_at r s = do
@@ -142,10 +179,13 @@ more_enumerators_at r zero s = None
 more_enumerators_at r (suc n) s = cond (begins mark.Comma s)
     (expect mark.Comma s >>= (λ c. cond (begins mark.RightBrace c.2)
     (Some (([], true), c.2))
-    (enumerator_at r c.2 >>= (λ x. more_enumerators_at r n x.1 >>= (λ more. Some ((x.0 ∷ more.0.0, more.0.1), more.1))))))
+    (enumerator_at r c.2 >>= (λ x. more_enumerators_at r n x.1 >>= (λ more. Some (
+      (x.0 ∷ more.0.0, more.0.1),
+      more.1,
+    ))))))
     (Some (([], false), s))
 
-unfoldable pub enumeration_at : Rules → ℕ → Option Name → State → Reading Specifier
+unfoldable pub enumeration_at : Rules → ℕ → Option TagName → State → Reading Specifier
 enumeration_at r at tag s = do
   start ← expect mark.LeftBrace s
   first ← enumerator_at r start.2
@@ -156,8 +196,10 @@ enumeration_at r at tag s = do
 -- after the word `enum`
 unfoldable pub enum_at : Rules → ℕ → State → Reading Specifier
 enum_at r at s = cond (begins mark.LeftBrace s) (enumeration_at r at None s) (do
-  tag ← name_at s
-  cond (begins mark.LeftBrace tag.2) (enumeration_at r at (Some tag.0) tag.2) (Some (specifier.EnumTag at tag.0, tag.2)))
+  tag ← tag_at s
+  cond (begins mark.LeftBrace tag.1)
+      (enumeration_at r at (Some tag.0) tag.1)
+      (Some (specifier.EnumTag at tag.0, tag.1)))
 
 unfoldable pub bits_at : Rules → Option Declarator → State → Reading Field
 bits_at r d s = do
@@ -173,7 +215,8 @@ field_at r s = cond (begins mark.Colon s) (bits_at r None s) (do
 unfoldable pub more_fields_at : Rules → ℕ → State → Reading (List Field)
 more_fields_at r zero s = None
 more_fields_at r (suc n) s = cond (begins mark.Comma s)
-    (expect mark.Comma s >>= (λ c. field_at r c.2 >>= (λ x. more_fields_at r n x.1 >>= (λ more. Some (x.0 ∷ more.0, more.1)))))
+    (expect mark.Comma s >>= (λ c. field_at r c.2 >>= (λ x. more_fields_at r n x.1 >>=
+    (λ more. Some (x.0 ∷ more.0, more.1)))))
     (Some ([], s))
 
 unfoldable pub fields_at : Rules → State → Reading (List Field)
@@ -195,7 +238,7 @@ members_at r (suc n) s = cond (begins mark.RightBrace s)
     (Some ([], s))
     (member_at r s >>= (λ x. members_at r n x.1 >>= (λ more. Some (x.0 ∷ more.0, more.1))))
 
-unfoldable pub aggregate_at : Rules → ℕ → AggregateKind → Option Name → State → Reading Specifier
+unfoldable pub aggregate_at : Rules → ℕ → AggregateKind → Option TagName → State → Reading Specifier
 aggregate_at r at aggregate tag s = do
   start ← expect mark.LeftBrace s
   members ← members_at r (suc (length start.2.0)) start.2
@@ -205,8 +248,10 @@ aggregate_at r at aggregate tag s = do
 -- after the word `struct` or `union`
 unfoldable pub tagged_at : Rules → ℕ → AggregateKind → State → Reading Specifier
 tagged_at r at aggregate s = cond (begins mark.LeftBrace s) (aggregate_at r at aggregate None s) (do
-  tag ← name_at s
-  cond (begins mark.LeftBrace tag.2) (aggregate_at r at aggregate (Some tag.0) tag.2) (Some (specifier.Tag at aggregate tag.0, tag.2)))
+  tag ← tag_at s
+  cond (begins mark.LeftBrace tag.1)
+      (aggregate_at r at aggregate (Some tag.0) tag.1)
+      (Some (specifier.Tag at aggregate tag.0, tag.1)))
 
 abbrev pub keyword_specifier : Rules → ℕ → Keyword → Option AggregateKind → State → Reading Specifier
 keyword_specifier r at k (Some aggregate) s = tagged_at r at aggregate s
@@ -244,8 +289,8 @@ unfoldable pub pointer_at : Rules → DeclaratorPlace → State → Reading Decl
 pointer_at r where_ s = do
   star ← expect mark.Star s
   qualifiers ← run_at a_qualifier (suc (length star.2.0)) star.2
-  target ← r.declarator where_ qualifiers.1
-  Some (declarator.Pointer star.1 qualifiers.0 target.0, target.1)
+  inner ← r.declarator where_ qualifiers.1
+  Some (declarator.Pointer star.1 qualifiers.0 inner.0, inner.1)
 
 -- an assignment expression, where something else than `]` comes next
 unfoldable pub length_at : Rules → State → Reading (Option Expr)
@@ -255,11 +300,11 @@ length_at r s = cond (begins mark.RightBracket s) (Some (None, s)) (do
 
 -- after `[`
 unfoldable pub array_at : Rules → ℕ → Declarator → State → Reading Declarator
-array_at r at element s = do
+array_at r at inner s = do
   words ← run_at an_array_word (suc (length s.0)) s
   length' ← length_at r words.1
   end ← expect mark.RightBracket length'.1
-  Some (declarator.Array at element words.0 length'.0, end.2)
+  Some (declarator.Array at inner words.0 length'.0, end.2)
 
 abbrev pub with_name : Option Name → Bool → State → State
 with_name None is_type s = s
@@ -277,7 +322,10 @@ more_parameters_at r zero s = None
 more_parameters_at r (suc n) s = cond (begins mark.Comma s)
     (expect mark.Comma s >>= (λ c. cond (begins mark.Ellipsis c.2)
     (expect mark.Ellipsis c.2 >>= (λ e. Some (([], true), e.2)))
-    (parameter_at r c.2 >>= (λ x. more_parameters_at r n x.1 >>= (λ more. Some ((x.0 ∷ more.0.0, more.0.1), more.1))))))
+    (parameter_at r c.2 >>= (λ x. more_parameters_at r n x.1 >>= (λ more. Some (
+      (x.0 ∷ more.0.0, more.0.1),
+      more.1,
+    ))))))
     (Some (([], false), s))
 
 unfoldable pub parameters_at : Rules → State → Reading (List Parameter × Bool)
@@ -292,10 +340,10 @@ closed_at _ _ scope = left scope
 
 -- after `(`
 unfoldable pub function_at : Rules → DeclaratorPlace → ℕ → Declarator → State → Reading Declarator
-function_at r where_ at result s = do
+function_at r where_ at inner s = do
   xs ← parameters_at r (s.0, entered s.1)
-  end ← expect mark.RightParen (xs.1.0, closed_at where_ (form result).derived xs.1.1)
-  Some (declarator.Function at result xs.0.0 xs.0.1, end.2)
+  end ← expect mark.RightParen (xs.1.0, closed_at where_ (form inner).derived xs.1.1)
+  Some (declarator.Function at inner xs.0.0 xs.0.1, end.2)
 
 abbrev pub is_suffix : TokenKind → Bool
 is_suffix (kind.Punctuator mark.LeftBracket) = true
@@ -319,7 +367,8 @@ suffix_in r where_ d (t ∷ rest) scope = suffix_by r where_ d t.kind t.start (r
 unfoldable pub suffixes_at : Rules → ℕ → DeclaratorPlace → ℕ → Declarator → State → Reading Declarator
 suffixes_at r limit where_ zero d s = None
 suffixes_at r limit where_ (suc n) d s = cond (suffixed s.0)
-    (suffix_in r where_ d s.0 s.1 >>= (λ x. cond (nat_le (form x.0).height limit) (suffixes_at r limit where_ n x.0 x.1) None))
+    (suffix_in r where_ d s.0 s.1 >>= (λ x. cond (nat_le (form x.0).height limit) (suffixes_at r limit where_ n x.0
+    x.1) None))
     (Some (d, s))
 
 unfoldable pub grouped_declarator_at : Rules → DeclaratorPlace → ℕ → State → Reading Declarator
@@ -342,7 +391,9 @@ named_declarator_at _ at name rest s = Some (declarator.Name at name, rest)
 
 abbrev pub direct_by : Rules → DeclaratorPlace → TokenKind → ℕ → State → State → Reading Declarator
 direct_by r where_ (kind.Identifier name) at rest s = named_declarator_at where_ at name rest s
-direct_by r where_ (kind.Punctuator mark.LeftParen) at rest s = cond (may_omit where_ && begins_parameters rest) (Some (declarator.Omitted, s)) (grouped_declarator_at r where_ at rest)
+direct_by r where_ (kind.Punctuator mark.LeftParen) at rest s =
+    cond (may_omit where_ && begins_parameters rest) (Some (declarator.Omitted, s)) (grouped_declarator_at r where_ at
+    rest)
 direct_by r where_ _ at rest s = omitted_at where_ s
 
 abbrev pub direct_in : Rules → DeclaratorPlace → List Token → Scope → Reading Declarator
@@ -350,7 +401,8 @@ direct_in r where_ [] scope = omitted_at where_ ([], scope)
 direct_in r where_ (t ∷ rest) scope = direct_by r where_ t.kind t.start (rest, scope) (t ∷ rest, scope)
 
 unfoldable pub suffixed_at : Rules → ℕ → DeclaratorPlace → State → Reading Declarator
-suffixed_at r limit where_ s = direct_in r where_ s.0 s.1 >>= (λ d. suffixes_at r limit where_ (suc (length d.1.0)) d.0 d.1)
+suffixed_at r limit where_ s =
+    direct_in r where_ s.0 s.1 >>= (λ d. suffixes_at r limit where_ (suc (length d.1.0)) d.0 d.1)
 
 unfoldable pub declarator_by : Rules → ℕ → DeclaratorPlace → State → Reading Declarator
 declarator_by r limit where_ s = cond (begins mark.Star s) (pointer_at r where_ s) (suffixed_at r limit where_ s)
@@ -373,7 +425,8 @@ binds s = binds_in s.0
 unfoldable pub more_arguments_at : Rules → ℕ → State → Reading (List Expr)
 more_arguments_at r zero s = None
 more_arguments_at r (suc n) s = cond (begins mark.Comma s)
-    (expect mark.Comma s >>= (λ c. r.expr 15 c.2 >>= (λ x. more_arguments_at r n x.1 >>= (λ more. Some (x.0 ∷ more.0, more.1)))))
+    (expect mark.Comma s >>= (λ c. r.expr 15 c.2 >>= (λ x. more_arguments_at r n x.1 >>=
+    (λ more. Some (x.0 ∷ more.0, more.1)))))
     (Some ([], s))
 
 unfoldable pub arguments_at : Rules → State → Reading (List Expr)
@@ -531,9 +584,12 @@ cast_at r s = do
 unfoldable pub expr_by : Rules → ℕ → ℕ → State → Reading Expr
 expr_by r limit zero s = primary_in r s.0 s.1
 expr_by r limit (suc zero) s = looped r limit 1 (expr_by r limit zero) s
-expr_by r limit (suc (suc zero)) s = cond (begins_by a_unary s.0) (unary_at r s) (cond (begins_keyword keyword.Sizeof s) (sized_at r s) (expr_by r limit (suc zero) s))
+expr_by r limit (suc (suc zero)) s =
+    cond (begins_by a_unary s.0) (unary_at r s) (cond (begins_keyword keyword.Sizeof s) (sized_at r s)
+    (expr_by r limit (suc zero) s))
 expr_by r limit (suc (suc (suc zero))) s = cond (typed_in s.0 s.1) (cast_at r s) (expr_by r limit (suc (suc zero)) s)
-expr_by r limit (suc (suc (suc (suc k)))) s = looped r limit (suc (suc (suc (suc k)))) (expr_by r limit (suc (suc (suc k)))) s
+expr_by r limit (suc (suc (suc (suc k)))) s =
+    looped r limit (suc (suc (suc (suc k)))) (expr_by r limit (suc (suc (suc k)))) s
 
 -- ---- trees of at most a height
 
@@ -541,7 +597,8 @@ abbrev pub nothing : Rules
 nothing = record { expr = λ rank s. None; specifier = λ s. None; declarator = λ where_ s. None }
 
 abbrev pub next_rules : Rules → ℕ → Rules
-next_rules r limit = record { expr = expr_by r limit; specifier = λ s. specifier_in r s.0 s.1; declarator = declarator_by r limit }
+next_rules r limit =
+    record { expr = expr_by r limit; specifier = λ s. specifier_in r s.0 s.1; declarator = declarator_by r limit }
 
 -- trees of at most this height
 unfoldable pub rules : ℕ → Rules

@@ -44,16 +44,21 @@ has_no_integer w = nat_eq w.char 0 && nat_eq w.short 0 && nat_eq w.int 0 && nat_
 
 -- a type that stands alone
 abbrev pub is_whole : TypeWords → Bool
-is_whole w = nat_eq w.alone 1 && has_no_integer w && nat_eq w.long 0 && nat_eq w.float 0 && nat_eq w.double 0 && nat_eq w.complex 0
+is_whole w =
+    nat_eq w.alone 1 && has_no_integer w && nat_eq w.long 0 && nat_eq w.float 0 && nat_eq w.double 0 && nat_eq
+    w.complex 0
 
 -- `char`, and at most one of `signed` and `unsigned`
 abbrev pub is_char : TypeWords → Bool
-is_char w = nat_eq w.char 1 && nat_le w.sign 1 && nat_eq w.alone 0 && nat_eq w.short 0 && nat_eq w.int 0 && nat_eq w.long 0 && nat_eq w.float 0 && nat_eq w.double 0 && nat_eq w.complex 0
+is_char w =
+    nat_eq w.char 1 && nat_le w.sign 1 && nat_eq w.alone 0 && nat_eq w.short 0 && nat_eq w.int 0 && nat_eq w.long 0 &&
+    nat_eq w.float 0 && nat_eq w.double 0 && nat_eq w.complex 0
 
 -- `int`, `short`, `long` and `long long`, where `int` may be left out beside another word
 abbrev pub is_integer : TypeWords → Bool
 is_integer w =
-    nat_eq w.alone 0 && nat_eq w.char 0 && nat_eq w.float 0 && nat_eq w.double 0 && nat_eq w.complex 0 && nat_le w.sign 1 && nat_le w.int 1
+    nat_eq w.alone 0 && nat_eq w.char 0 && nat_eq w.float 0 && nat_eq w.double 0 && nat_eq w.complex 0 && nat_le
+    w.sign 1 && nat_le w.int 1
     && ((nat_le w.short 1 && nat_eq w.long 0) || (nat_eq w.short 0 && nat_le w.long 2))
     && not (nat_eq w.sign 0 && nat_eq w.int 0 && nat_eq w.short 0 && nat_eq w.long 0)
 
@@ -61,7 +66,8 @@ is_integer w =
 abbrev pub is_floating : TypeWords → Bool
 is_floating w =
     nat_eq w.alone 0 && has_no_integer w && nat_le w.complex 1
-    && ((nat_eq w.float 1 && nat_eq w.double 0 && nat_eq w.long 0) || (nat_eq w.float 0 && nat_eq w.double 1 && nat_le w.long 1))
+    && ((nat_eq w.float 1 && nat_eq w.double 0 && nat_eq w.long 0) || (nat_eq w.float 0 && nat_eq w.double 1 && nat_le
+    w.long 1))
 
 abbrev pub is_allowed : TypeWords → Bool
 is_allowed w = is_integer w || is_whole w || is_char w || is_floating w

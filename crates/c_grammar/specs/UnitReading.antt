@@ -1,5 +1,22 @@
 -- Reading initializers, declarations, statements and external definitions.
-use Rattle.std.specs.Prelude.{ℕ, zero, suc, List, [], ◌∷◌, length, Bool, true, false, cond, ◌&&◌, nat_le, Option, Some, None}
+use Rattle.std.specs.Prelude.{
+  ℕ,
+  zero,
+  suc,
+  List,
+  [],
+  ◌∷◌,
+  length,
+  Bool,
+  true,
+  false,
+  cond,
+  ◌&&◌,
+  nat_le,
+  Option,
+  Some,
+  None,
+}
 use Rattle.c_lexer.specs.declared.token.Token.{Token}
 use Rattle.c_lexer.specs.declared.token.TokenKind.{TokenKind}
 use Rattle.c_lexer.specs.declared.token.TokenKind.TheVariants as kind
@@ -26,9 +43,33 @@ use Rattle.c_tree.specs.declared.unit.Body.TheVariants as body
 use Rattle.c_tree.specs.declared.unit.External.{External}
 use Rattle.c_tree.specs.declared.unit.External.TheVariants as external
 use Rattle.c_grammar.specs.declared.declarator_place.DeclaratorPlace.TheVariants as place
-use Rattle.c_grammar.specs.Parts.{Scope, State, declared, entered, left, forgetting, entered_function, specifies_in, is_punctuator}
+use Rattle.c_grammar.specs.Parts.{
+  Scope,
+  State,
+  declared,
+  entered,
+  left,
+  forgetting,
+  entered_function,
+  specifies_in,
+  is_punctuator,
+}
 use Rattle.c_grammar.specs.Grammar.{form}
-use Rattle.c_grammar.specs.Reading.{Reading, ◌>>=◌, Rules, rules, take_by, a_literal, expect, expect_keyword, name_at, begins, begins_keyword, run_at, specification_at}
+use Rattle.c_grammar.specs.Reading.{
+  Reading,
+  ◌>>=◌,
+  Rules,
+  rules,
+  take_by,
+  a_literal,
+  expect,
+  expect_keyword,
+  name_at,
+  begins,
+  begins_keyword,
+  run_at,
+  specification_at,
+}
 use Rattle.c_grammar.specs.Units.{makes_types, name_of, closer, closing, limit, file_scope}
 
 -- ---- initializers
@@ -93,7 +134,10 @@ more_items_at r inside zero s = None
 more_items_at r inside (suc n) s = cond (begins mark.Comma s)
     (expect mark.Comma s >>= (λ c. cond (begins mark.RightBrace c.2)
     (Some (([], true), c.2))
-    (item_at r inside c.2 >>= (λ x. more_items_at r inside n x.1 >>= (λ more. Some ((x.0 ∷ more.0.0, more.0.1), more.1))))))
+    (item_at r inside c.2 >>= (λ x. more_items_at r inside n x.1 >>= (λ more. Some (
+      (x.0 ∷ more.0.0, more.0.1),
+      more.1,
+    ))))))
     (Some (([], false), s))
 
 unfoldable pub items_at : Rules → Inside → State → Reading (List InitializerItem × Bool)
@@ -140,7 +184,9 @@ abbrev pub assembler_at : State → Reading (List (List ℕ))
 assembler_at s = cond (begins_keyword keyword.Asm s) (assembler_name_at s) (Some ([], s))
 
 unfoldable pub initialized_at : Inside → State → Reading (Option Initializer)
-initialized_at inside s = cond (begins mark.Equal s) (expect mark.Equal s >>= (λ eq. inside eq.2 >>= (λ x. Some (Some x.0, x.1)))) (Some (None, s))
+initialized_at inside s =
+    cond (begins mark.Equal s) (expect mark.Equal s >>= (λ eq. inside eq.2 >>= (λ x. Some (Some x.0, x.1))))
+    (Some (None, s))
 
 -- what follows a declarator
 unfoldable pub rest_at : Inside → Declarator → State → Reading InitDeclarator
@@ -157,7 +203,8 @@ init_at r inside is_type s = do
 unfoldable pub more_inits_at : Rules → Inside → Bool → ℕ → State → Reading (List InitDeclarator)
 more_inits_at r inside is_type zero s = None
 more_inits_at r inside is_type (suc n) s = cond (begins mark.Comma s)
-    (expect mark.Comma s >>= (λ c. init_at r inside is_type c.2 >>= (λ x. more_inits_at r inside is_type n x.1 >>= (λ more. Some (x.0 ∷ more.0, more.1)))))
+    (expect mark.Comma s >>= (λ c. init_at r inside is_type c.2 >>= (λ x. more_inits_at r inside is_type n x.1 >>=
+    (λ more. Some (x.0 ∷ more.0, more.1)))))
     (Some ([], s))
 
 -- a declaration whose specifiers and first declarator were read
@@ -366,7 +413,9 @@ abbrev pub declared_by : Rules → Inside → ℕ → State → Reading Stmt
 declared_by r inside rank s = cond (nat_le 1 rank) (declared_statement_at r inside s) None
 
 unfoldable pub stmt_by : Turn → Rules → Inside → ℕ → State → Reading Stmt
-stmt_by turn r inside rank s = cond (labelled s.0) (label_at turn s) (cond (specifies_in false s.0 s.1) (declared_by r inside rank s) (plain_in turn r inside s.0 s.1))
+stmt_by turn r inside rank s =
+    cond (labelled s.0) (label_at turn s) (cond (specifies_in false s.0 s.1) (declared_by r inside rank s)
+    (plain_in turn r inside s.0 s.1))
 
 -- a statement of at most this height
 unfoldable pub stmt_at : ℕ → Turn
@@ -392,7 +441,9 @@ cut_by None false is_wanted deeper same out = same
 unfoldable pub cut : List Token → List Punctuator → Cut
 cut ts [] = Some ([], ts)
 cut [] (m ∷ ms) = None
-cut (t ∷ ts) (m ∷ ms) = with_front t (cut_by (closer t.kind) (closing t.kind) (is_punctuator m t.kind) (λ o. cut ts (o ∷ m ∷ ms)) (cut ts (m ∷ ms)) (cut ts ms))
+cut (t ∷ ts) (m ∷ ms) =
+    with_front t (cut_by (closer t.kind) (closing t.kind) (is_punctuator m t.kind) (λ o. cut ts (o ∷ m ∷ ms))
+    (cut ts (m ∷ ms)) (cut ts ms))
 
 -- the brace group that begins here
 abbrev pub group_in : List Token → Cut
@@ -410,7 +461,8 @@ whole at (Some (x, ([], scope))) = body.Read x
 whole at (Some (x, (t ∷ rest, scope))) = body.Unread at
 
 unfoldable pub body_at : State → Reading Body
-body_at s = group_in s.0 >>= (λ g. Some (whole (start_of g.0) (stmt_at limit 0 (g.0, entered_function s.1)), (g.1, s.1)))
+body_at s =
+    group_in s.0 >>= (λ g. Some (whole (start_of g.0) (stmt_at limit 0 (g.0, entered_function s.1)), (g.1, s.1)))
 
 -- a definition or declaration whose specifiers and first declarator were read
 abbrev pub behind_declarator_at : List Specifier → Declarator → State → Reading External
@@ -426,7 +478,9 @@ declared_external_at s = do
       (declaring_at (rules limit) (makes_types xs.0) xs.1 >>= (λ d. behind_declarator_at xs.0 d.0 d.1))
 
 unfoldable pub external_at : State → Reading External
-external_at s = cond (begins mark.Semicolon s) (expect mark.Semicolon s >>= (λ end. Some (external.Empty end.1, end.2))) (declared_external_at s)
+external_at s =
+    cond (begins mark.Semicolon s) (expect mark.Semicolon s >>= (λ end. Some (external.Empty end.1, end.2)))
+    (declared_external_at s)
 
 abbrev pub is_end : List Token → Bool
 is_end [] = true
@@ -434,7 +488,8 @@ is_end (t ∷ rest) = false
 
 unfoldable pub externals_at : ℕ → State → Option (List External)
 externals_at zero s = None
-externals_at (suc n) s = cond (is_end s.0) (Some []) (external_at s >>= (λ x. externals_at n x.1 >>= (λ more. Some (x.0 ∷ more))))
+externals_at (suc n) s =
+    cond (is_end s.0) (Some []) (external_at s >>= (λ x. externals_at n x.1 >>= (λ more. Some (x.0 ∷ more))))
 
 -- the external declarations that the tokens of a source are
 abbrev pub read_unit : List Token → Option (List External)

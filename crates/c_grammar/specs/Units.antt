@@ -1,6 +1,25 @@
 -- How initializers (C99 6.7.8), declarations (6.7), statements (6.8) and external definitions (6.9) are spelled, and
 -- which units the grammar derives.
-use Rattle.std.specs.Prelude.{◌≡◌, ◌≤◌, ℕ, suc, max, List, [], ◌∷◌, ◌++◌, Bool, true, false, ◌||◌, not, Option, Some, None, map}
+use Rattle.std.specs.Prelude.{
+  ◌≡◌,
+  ◌≤◌,
+  ℕ,
+  suc,
+  max,
+  List,
+  [],
+  ◌∷◌,
+  ◌++◌,
+  Bool,
+  true,
+  false,
+  ◌||◌,
+  not,
+  Option,
+  Some,
+  None,
+  map,
+}
 use Rattle.c_lexer.specs.declared.token.Token.{Token}
 use Rattle.c_lexer.specs.declared.token.TokenKind.{TokenKind}
 use Rattle.c_lexer.specs.declared.token.TokenKind.TheVariants as kind
@@ -28,15 +47,54 @@ use Rattle.c_tree.specs.declared.unit.Body.TheVariants as body
 use Rattle.c_tree.specs.declared.unit.External.{External}
 use Rattle.c_tree.specs.declared.unit.External.TheVariants as external
 use Rattle.c_grammar.specs.declared.declarator_place.DeclaratorPlace.TheVariants as place
-use Rattle.c_grammar.specs.Parts.{Name, Scope, Part, takes, takes_at, at_most, holds, declares, opens, closes, forgets, unless, State, Spans, entered_function}
-use Rattle.c_grammar.specs.Grammar.{Shape, Piece, Form, shape, form, all_specified, specification, highest_specifier, highest, listed, comma_if, of_rank, takes_mark, takes_mark_at, takes_keyword_at, is_named, in_parens, more_literals}
+use Rattle.c_grammar.specs.Parts.{
+  Name,
+  Scope,
+  Part,
+  takes,
+  takes_at,
+  at_most,
+  holds,
+  declares,
+  opens,
+  closes,
+  forgets,
+  unless,
+  State,
+  Spans,
+  entered_function,
+}
+use Rattle.c_grammar.specs.Grammar.{
+  Shape,
+  Piece,
+  Form,
+  shape,
+  form,
+  all_specified,
+  specification,
+  highest_specifier,
+  highest,
+  listed,
+  comma_if,
+  of_rank,
+  takes_mark,
+  takes_mark_at,
+  takes_keyword_at,
+  is_named,
+  in_parens,
+  more_literals,
+}
 
 -- ---- initializers
 
 abbrev pub designator_piece : Designator → Piece
-designator_piece (designator.Member at member) = record { parts = takes_mark_at at mark.Dot ∷ takes (kind.Identifier member) ∷ []; height = 0 }
+designator_piece (designator.Member at member) =
+    record { parts = takes_mark_at at mark.Dot ∷ takes (kind.Identifier member) ∷ []; height = 0 }
 designator_piece (designator.Element at index) =
-    record { parts = takes_mark_at at mark.LeftBracket ∷ (of_rank 14 (shape index) ++ takes_mark mark.RightBracket ∷ []); height = (shape index).height }
+    record {
+      parts = takes_mark_at at mark.LeftBracket ∷ (of_rank 14 (shape index) ++ takes_mark mark.RightBracket ∷ []);
+      height = (shape index).height;
+    }
 
 abbrev pub joined_designators : List Designator → List Part
 joined_designators [] = []
@@ -55,7 +113,10 @@ items_parts (x ∷ xs) trailing = listed (x ∷ xs) ++ comma_if trailing
 abbrev pub initialized : initial.Initializer-F Piece Piece → Piece
 initialized (initial.Value value) = record { parts = of_rank 15 (shape value); height = suc (shape value).height }
 initialized (initial.List at items trailing) =
-    record { parts = takes_mark_at at mark.LeftBrace ∷ (items_parts items trailing ++ takes_mark mark.RightBrace ∷ []); height = suc (highest items) }
+    record {
+      parts = takes_mark_at at mark.LeftBrace ∷ (items_parts items trailing ++ takes_mark mark.RightBrace ∷ []);
+      height = suc (highest items);
+    }
 
 abbrev pub initialized_item : initial.InitializerItem-F Piece Piece → Piece
 initialized_item x = record {
@@ -85,11 +146,14 @@ name_of d = elim d.name as (λ _. Name) [ None ↦ [] | Some name ↦ name ]
 
 -- a declarator of a declaration; its name is in scope from its end on (6.2.1)
 abbrev pub declaring_parts : Bool → Declarator → List Part
-declaring_parts is_type d = forgets ∷ holds (is_named (form d)) ∷ ((form d).parts place.Declaration ++ declares (name_of (form d)) is_type ∷ [])
+declaring_parts is_type d =
+    forgets ∷ holds (is_named (form d)) ∷ ((form d).parts place.Declaration ++ declares (name_of (form d)) is_type ∷
+    [])
 
 abbrev pub assembler_parts : List (List ℕ) → List Part
 assembler_parts [] = []
-assembler_parts (p ∷ ps) = takes (kind.Keyword keyword.Asm) ∷ in_parens (takes (kind.StringLiteral p) ∷ more_literals ps)
+assembler_parts (p ∷ ps) =
+    takes (kind.Keyword keyword.Asm) ∷ in_parens (takes (kind.StringLiteral p) ∷ more_literals ps)
 
 abbrev pub initializer_parts : Option Initializer → List Part
 initializer_parts None = []
@@ -104,7 +168,11 @@ abbrev pub rest_parts : InitDeclarator → List Part
 rest_parts d = assembler_parts d.assembler_name ++ initializer_parts d.initializer
 
 abbrev pub init_piece : Bool → InitDeclarator → Piece
-init_piece is_type d = record { parts = declaring_parts is_type d.declarator ++ rest_parts d; height = max (form d.declarator).height (initializer_height d.initializer) }
+init_piece is_type d =
+    record {
+      parts = declaring_parts is_type d.declarator ++ rest_parts d;
+      height = max (form d.declarator).height (initializer_height d.initializer);
+    }
 
 abbrev pub init_list_parts : List Piece → List Part
 init_list_parts [] = []
@@ -115,7 +183,9 @@ init_pieces d = map (init_piece (makes_types d.specifiers)) d.declarators
 
 unfoldable pub declaration_of : Declaration → Piece
 declaration_of d = record {
-  parts = specification (all_specified d.specifiers) ++ (init_list_parts (init_pieces d) ++ takes_mark mark.Semicolon ∷ []);
+  parts =
+      specification (all_specified d.specifiers) ++ (init_list_parts (init_pieces d) ++ takes_mark mark.Semicolon ∷
+      []);
   height = max (highest_specifier (all_specified d.specifiers)) (highest (init_pieces d));
 }
 
@@ -174,30 +244,45 @@ condition_parts e = in_parens (shape e).parts
 
 abbrev pub stated : stmt.Stmt-F Shape → Shape
 stated (stmt.Block at items) =
-    statement (highest_stmt items) (takes_mark_at at mark.LeftBrace ∷ opens ∷ (joined_shapes items ++ closes ∷ takes_mark mark.RightBrace ∷ []))
-stated (stmt.Declared declaration) = record { parts = (declaration_of declaration).parts; rank = 1; height = suc (declaration_of declaration).height }
-stated (stmt.Value at value) = statement (value_height value) (value_parts value ++ takes_mark_at at mark.Semicolon ∷ [])
-stated (stmt.Label at name body) = statement body.height (takes_at at (kind.Identifier name) ∷ takes_mark mark.Colon ∷ only_statement body)
+    statement (highest_stmt items) (takes_mark_at at mark.LeftBrace ∷ opens ∷ (joined_shapes items ++ closes ∷
+    takes_mark mark.RightBrace ∷ []))
+stated (stmt.Declared declaration) =
+    record { parts = (declaration_of declaration).parts; rank = 1; height = suc (declaration_of declaration).height }
+stated (stmt.Value at value) =
+    statement (value_height value) (value_parts value ++ takes_mark_at at mark.Semicolon ∷ [])
+stated (stmt.Label at name body) =
+    statement body.height (takes_at at (kind.Identifier name) ∷ takes_mark mark.Colon ∷ only_statement body)
 stated (stmt.Case at value body) =
-    statement (max (shape value).height body.height) (takes_keyword_at at keyword.Case ∷ (of_rank 14 (shape value) ++ takes_mark mark.Colon ∷ only_statement body))
-stated (stmt.Default at body) = statement body.height (takes_keyword_at at keyword.Default ∷ takes_mark mark.Colon ∷ only_statement body)
+    statement (max (shape value).height body.height) (takes_keyword_at at keyword.Case ∷ (of_rank 14 (shape value) ++
+    takes_mark mark.Colon ∷ only_statement body))
+stated (stmt.Default at body) =
+    statement body.height (takes_keyword_at at keyword.Default ∷ takes_mark mark.Colon ∷ only_statement body)
 stated (stmt.If at condition positive negative) =
     statement (max (shape condition).height (max positive.height (else_height negative)))
-    (takes_keyword_at at keyword.If ∷ as_block (condition_parts condition ++ (substatement positive ++ else_parts negative)))
+    (takes_keyword_at at keyword.If ∷ as_block (condition_parts condition ++ (substatement positive ++
+    else_parts negative)))
 stated (stmt.Switch at value body) =
-    statement (max (shape value).height body.height) (takes_keyword_at at keyword.Switch ∷ as_block (condition_parts value ++ substatement body))
+    statement (max (shape value).height body.height) (takes_keyword_at at keyword.Switch ∷
+    as_block (condition_parts value ++ substatement body))
 stated (stmt.While at condition body) =
-    statement (max (shape condition).height body.height) (takes_keyword_at at keyword.While ∷ as_block (condition_parts condition ++ substatement body))
+    statement (max (shape condition).height body.height) (takes_keyword_at at keyword.While ∷
+    as_block (condition_parts condition ++ substatement body))
 stated (stmt.Do at body condition) =
     statement (max body.height (shape condition).height)
-    (takes_keyword_at at keyword.Do ∷ as_block (substatement body ++ takes (kind.Keyword keyword.While) ∷ (condition_parts condition ++ takes_mark mark.Semicolon ∷ [])))
+    (takes_keyword_at at keyword.Do ∷ as_block (substatement body ++ takes (kind.Keyword keyword.While) ∷
+    (condition_parts condition ++ takes_mark mark.Semicolon ∷ [])))
 stated (stmt.For at start condition step body) =
     statement (max (for_start_height start) (max (value_height condition) (max (value_height step) body.height)))
-    (takes_keyword_at at keyword.For ∷ as_block (takes_mark mark.LeftParen ∷ (for_start_parts start ++ (value_parts condition ++ takes_mark mark.Semicolon ∷ (value_parts step ++ takes_mark mark.RightParen ∷ substatement body)))))
-stated (stmt.Goto at name) = statement 0 (takes_keyword_at at keyword.Goto ∷ takes (kind.Identifier name) ∷ takes_mark mark.Semicolon ∷ [])
+    (takes_keyword_at at keyword.For ∷ as_block (takes_mark mark.LeftParen ∷ (for_start_parts start ++
+    (value_parts condition ++ takes_mark mark.Semicolon ∷ (value_parts step ++ takes_mark mark.RightParen ∷
+    substatement body)))))
+stated (stmt.Goto at name) =
+    statement 0 (takes_keyword_at at keyword.Goto ∷ takes (kind.Identifier name) ∷ takes_mark mark.Semicolon ∷ [])
 stated (stmt.Continue at) = statement 0 (takes_keyword_at at keyword.Continue ∷ takes_mark mark.Semicolon ∷ [])
 stated (stmt.Break at) = statement 0 (takes_keyword_at at keyword.Break ∷ takes_mark mark.Semicolon ∷ [])
-stated (stmt.Return at value) = statement (value_height value) (takes_keyword_at at keyword.Return ∷ (value_parts value ++ takes_mark mark.Semicolon ∷ []))
+stated (stmt.Return at value) =
+    statement (value_height value) (takes_keyword_at at keyword.Return ∷
+    (value_parts value ++ takes_mark mark.Semicolon ∷ []))
 
 unfoldable pub stmt_shape : Stmt → Shape
 stmt_shape x = fold-Stmt Shape stated x
@@ -231,7 +316,8 @@ closing _ = false
 pub data Matched : List Token → Type 0 where
   none : Matched []
   plain : (t : Token) (ts : List Token) → closer t.kind ≡ None → closing t.kind ≡ false → Matched ts → Matched (t ∷ ts)
-  group : (o c : Token) (m : Punctuator) (inner ts : List Token) → closer o.kind ≡ Some m → c.kind ≡ kind.Punctuator m → Matched inner → Matched ts → Matched (o ∷ (inner ++ c ∷ ts))
+  group : (o c : Token) (m : Punctuator) (inner ts : List Token) → closer o.kind ≡ Some m → c.kind ≡ kind.Punctuator
+      m → Matched inner → Matched ts → Matched (o ∷ (inner ++ c ∷ ts))
 
 -- these tokens as a whole are a block in this scope
 abbrev pub IsBlock : List Token → Scope → Stmt → Type 0
@@ -264,7 +350,8 @@ pub record DerivesFunction (xs : List Specifier) (d : Declarator) (b : Body) (s 
 
 abbrev pub DerivesExternal : State → External → State → Type 0
 DerivesExternal s (external.Function xs d b) z = DerivesFunction xs d b s z
-DerivesExternal s (external.Declared declaration) z = Spans (declaration_of declaration).parts s z × ((declaration_of declaration).height ≤ limit)
+DerivesExternal s (external.Declared declaration) z =
+    Spans (declaration_of declaration).parts s z × ((declaration_of declaration).height ≤ limit)
 DerivesExternal s (external.Empty at) z = Spans (takes_mark_at at mark.Semicolon ∷ []) s z
 
 abbrev pub DerivesExternals : State → List External → Type 0
