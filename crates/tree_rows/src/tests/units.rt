@@ -293,14 +293,18 @@ pub static BRACKETS: [(&'static str, &'static str); 9] = [
 ];
 
 /// A source, and the text of its tree with the offsets of its nodes.
-pub static PLACED: [(&'static str, &'static str); 11] = [
+pub static PLACED: [(&'static str, &'static str); 12] = [
+    (
+        "struct S { int a; }; struct S { int b; };",
+        "(declaration (specifiers (struct@0 S@7 (members (fields (specifiers int@11) (name@15 a))))))\n(declaration (specifiers (struct@21 S@28 (members (fields (specifiers int@32) (name@36 b))))))\n",
+    ),
     (
         "int f(void) { return a + 1; }",
         "(function (specifiers int@0) (function@5 (name@4 f) (parameters (parameter (specifiers void@6) omitted))) (block@12 (return@14 (binary@23 + (identifier@21 a) (integer@25 1)))))\n",
     ),
     (
         "struct s { int a : 2; } x = { .a = 1, [2] = b[3](4).c };",
-        "(declaration (specifiers (struct@0 s (members (fields (specifiers int@11) (bits@17 (name@15 a) (integer@19 2)))))) (declared (name@24 x) (initializer (list@28 (designated (dot@30 a) (integer@35 1)) (designated (element@38 (integer@39 2)) (member@51 (call@48 (subscript@45 (identifier@44 b) (integer@46 3)) (integer@49 4)) c))))))\n",
+        "(declaration (specifiers (struct@0 s@7 (members (fields (specifiers int@11) (bits@17 (name@15 a) (integer@19 2)))))) (declared (name@24 x) (initializer (list@28 (designated (dot@30 a) (integer@35 1)) (designated (element@38 (integer@39 2)) (member@51 (call@48 (subscript@45 (identifier@44 b) (integer@46 3)) (integer@49 4)) c))))))\n",
     ),
     (
         "enum { A = 1, } *const (*p)[2];",
@@ -328,7 +332,7 @@ pub static PLACED: [(&'static str, &'static str); 11] = [
     ),
     (
         "static const inline union u *g(enum e);",
-        "(declaration (specifiers static@0 const@7 inline@13 (union@20 u)) (declared (pointer@28 (function@30 (name@29 g) (parameters (parameter (specifiers (enum@31 e)) omitted))))))\n",
+        "(declaration (specifiers static@0 const@7 inline@13 (union@20 u@26)) (declared (pointer@28 (function@30 (name@29 g) (parameters (parameter (specifiers (enum@31 e@36)) omitted))))))\n",
     ),
     (
         "typedef int T; T x = sizeof (T) < 1.5;",
