@@ -195,7 +195,7 @@ pub fn initializer(
     height: u32,
 ) -> Result<Initializer, ParseFault>
     requires small { height ≤ 256 }
-    ensures { Reads (λ x. x) (source_of tokens file) c.old c.new result (initializer_at height) }
+    ensures { Reads (λ x. x) (source_of tokens.entry file.entry) c.old c.new result (initializer_at height) }
 {
     if height == 0 {
         return Err(ParseFault::TooDeep(c.position));

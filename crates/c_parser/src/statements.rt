@@ -22,7 +22,7 @@ pub fn statement(
     rank: u32,
 ) -> Result<Stmt, ParseFault>
     requires small { height ≤ 256 }
-    ensures { Reads (λ x. x) (source_of tokens file) c.old c.new result (stmt_at height rank) }
+    ensures { Reads (λ x. x) (source_of tokens.entry file.entry) c.old c.new result (stmt_at height rank) }
 {
     if height == 0 {
         return Err(ParseFault::TooDeep(c.position));
