@@ -9,10 +9,10 @@ use crate::below::Below;
 use crate::cursor::Cursor;
 use crate::fault::ParseFault;
 use c_grammar::DeclaratorPlace;
-use c_lexer::{Name, Punctuator, Token};
+use c_lexer::{Punctuator, Token};
 use c_nodes::{FoundDeclarator, FoundExpr, FoundMembers, FoundSpecifier, pieces, specifier};
 use c_scope::FileNames;
-use c_tree::AggregateKind;
+use c_tree::{AggregateKind, TagName};
 use std::alloc::Global;
 
 impl<
@@ -55,7 +55,7 @@ impl<
         c: &mut Cursor,
         at: u32,
         kind: AggregateKind,
-        tag: Option<Name>,
+        tag: Option<TagName>,
     ) -> Result<FoundSpecifier, ParseFault>
         requires reaches { Reaches E.Fn S.Fn D.Fn self.now }
         requires small { self.now.height < 500 }
@@ -85,7 +85,7 @@ impl<
         if self.source.begins(c, Punctuator::LeftBrace) {
             return self.aggregate(c, at, kind, None);
         }
-        let (tag, _) = self.source.name(c)?;
+        let tag = self.source.tag(c)?;
         if self.source.begins(c, Punctuator::LeftBrace) {
             return self.aggregate(c, at, kind, Some(tag));
         }

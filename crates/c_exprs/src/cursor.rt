@@ -4,12 +4,13 @@ ghost use Rattle.c_grammar.specs.Reading as spec;
 ghost use Rattle.c_grammar.specs.Parts.{specifies_in, specifies_by, begins_type};
 ghost use Rattle.c_grammar.specs.Parts as parts;
 ghost use Rattle.c_exprs.specs.Cursor.{here, Gives};
+ghost use Rattle.c_exprs.specs.Reads.{Reads};
 
 use crate::fault::ParseFault;
 use c_grammar::{binding_of, unary_of};
 use c_lexer::{Keyword, Name, Punctuator, Token, TokenKind};
 use c_scope::{FileNames, Names};
-use c_tree::UnaryOperator;
+use c_tree::{TagName, UnaryOperator};
 use std::alloc::Global;
 
 /// How far the tokens are read, and the names that are in scope there.
@@ -119,6 +120,14 @@ impl<'a> Source<'a> {
             },
             None => Err(ParseFault::Syntax(c.position)),
         }
+    }
+
+    /// Takes the next token where it is an identifier, as the tag of a structure, union or enumeration.
+    pub fn tag(&self, c: &mut Cursor) -> Result<TagName, ParseFault>
+        ensures { Reads (λ tag. tag) self.now c.old c.new result spec.tag_at }
+    {
+        let (name, at) = self.name(c)?;
+        Ok(TagName { at, name })
     }
 
     /// How loosely the operator binds that comes next, behind an operand; 17 where none does.

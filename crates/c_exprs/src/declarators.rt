@@ -42,8 +42,8 @@ impl<
     {
         let at = self.source.expect(c, Punctuator::Star)?;
         let qualifiers = self.source.qualifiers(self.alloc, c)?;
-        let target = self.declarator(c, place)?;
-        Ok(declarator::pointer(self.alloc, at, qualifiers, target)?)
+        let inner = self.declarator(c, place)?;
+        Ok(declarator::pointer(self.alloc, at, qualifiers, inner)?)
     }
 
     /// `[ assignment-expression ]` before `]` (C99 6.7.5.2): the length of an array.
@@ -73,18 +73,18 @@ impl<
         &self,
         c: &mut Cursor,
         at: u32,
-        element: FoundDeclarator,
+        inner: FoundDeclarator,
     ) -> Result<FoundDeclarator, ParseFault>
         requires exprs { ReachesExpr E.Fn self.now.source self.now.height self.now.expr }
         requires small { self.now.height < 500 }
-        requires low_element { element.height ≤ self.now.height + 1 }
+        requires low_inner { inner.height ≤ self.now.height + 1 }
         ensures { ReadsDeclarator self.now.source c.old c.new result
-            (spec.array_at (rules self.now.height) at element.tree) (self.now.height + 2) }
+            (spec.array_at (rules self.now.height) at inner.tree) (self.now.height + 2) }
     {
         let words = self.source.array_words(self.alloc, c)?;
         let length = self.length(c)?;
         self.source.expect(c, Punctuator::RightBracket)?;
-        Ok(declarator::array(self.alloc, at, element, words, length)?)
+        Ok(declarator::array(self.alloc, at, inner, words, length)?)
     }
 
     /// `direct-declarator: ( declarator )` (C99 6.7.5), after `(`.

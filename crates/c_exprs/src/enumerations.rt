@@ -11,11 +11,11 @@ use crate::below::Below;
 use crate::cursor::Cursor;
 use crate::fault::ParseFault;
 use c_grammar::DeclaratorPlace;
-use c_lexer::{Name, Punctuator, Token};
+use c_lexer::{Punctuator, Token};
 use c_nodes::expr::most;
 use c_nodes::{FoundDeclarator, FoundEnumerator, FoundExpr, FoundSpecifier, specifier};
 use c_scope::FileNames;
-use c_tree::Enumerator;
+use c_tree::{Enumerator, TagName};
 use plain_data::{Items, Shared};
 use std::alloc::{AllocError, Global};
 
@@ -126,7 +126,7 @@ impl<
         &self,
         c: &mut Cursor,
         at: u32,
-        tag: Option<Name>,
+        tag: Option<TagName>,
     ) -> Result<FoundSpecifier, ParseFault>
         requires exprs { ReachesExpr E.Fn self.now.source self.now.height self.now.expr }
         requires small { self.now.height < 500 }
@@ -153,7 +153,7 @@ impl<
         if self.source.begins(c, Punctuator::LeftBrace) {
             return self.enumeration(c, at, None);
         }
-        let (tag, _) = self.source.name(c)?;
+        let tag = self.source.tag(c)?;
         if self.source.begins(c, Punctuator::LeftBrace) {
             return self.enumeration(c, at, Some(tag));
         }

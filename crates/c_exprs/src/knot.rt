@@ -25,7 +25,7 @@ pub fn expr_of(
 ) -> Result<FoundExpr, ParseFault>
     requires small { height ≤ 256 }
     requires known { rank ≤ 16 }
-    ensures { ReadsExpr (source_of tokens file) c.old c.new result ((rules height).expr rank) height }
+    ensures { ReadsExpr (source_of tokens.entry file.entry) c.old c.new result ((rules height).expr rank) height }
 {
     if height == 0 {
         return Err(ParseFault::TooDeep(c.position));
@@ -52,7 +52,7 @@ pub fn specifier_of(
     height: u32,
 ) -> Result<FoundSpecifier, ParseFault>
     requires small { height ≤ 256 }
-    ensures { ReadsSpecifier (source_of tokens file) c.old c.new result (rules height).specifier height }
+    ensures { ReadsSpecifier (source_of tokens.entry file.entry) c.old c.new result (rules height).specifier height }
 {
     if height == 0 {
         return Err(ParseFault::TooDeep(c.position));
@@ -79,7 +79,7 @@ pub fn declarator_of(
     place: DeclaratorPlace,
 ) -> Result<FoundDeclarator, ParseFault>
     requires small { height ≤ 256 }
-    ensures { ReadsDeclarator (source_of tokens file) c.old c.new result ((rules height).declarator place) height }
+    ensures { ReadsDeclarator (source_of tokens.entry file.entry) c.old c.new result ((rules height).declarator place) height }
 {
     if height == 0 {
         return Err(ParseFault::TooDeep(c.position));

@@ -99,18 +99,18 @@ impl<
         c: &mut Cursor,
         place: DeclaratorPlace,
         at: u32,
-        returned: FoundDeclarator,
+        inner: FoundDeclarator,
     ) -> Result<FoundDeclarator, ParseFault>
         requires reaches { Reaches E.Fn S.Fn D.Fn self.now }
         requires small { self.now.height < 500 }
-        requires low_returned { returned.height ≤ self.now.height + 1 }
+        requires low_inner { inner.height ≤ self.now.height + 1 }
         ensures { ReadsDeclarator self.now.source c.old c.new result
-            (spec.function_at (rules self.now.height) place at returned.tree) (self.now.height + 2) }
+            (spec.function_at (rules self.now.height) place at inner.tree) (self.now.height + 2) }
     {
         self.source.enter(c)?;
         let parameters = self.parameters(c)?;
-        self.source.close(c, place, returned.derived);
+        self.source.close(c, place, inner.derived);
         self.source.expect(c, Punctuator::RightParen)?;
-        Ok(declarator::function(self.alloc, at, returned, parameters)?)
+        Ok(declarator::function(self.alloc, at, inner, parameters)?)
     }
 }

@@ -12,7 +12,8 @@ body_height (body.Read block) = (stmt_shape block).height
 body_height (body.Unread at) = 0
 
 abbrev pub external_height : External → ℕ
-external_height (external.Function xs d b) = max (max (highest_specifier (all_specified xs)) (form d).height) (body_height b)
+external_height (external.Function xs d b) =
+    max (max (highest_specifier (all_specified xs)) (form d).height) (body_height b)
 external_height (external.Declared declaration) = (declaration_of declaration).height
 external_height (external.Empty at) = 0
 

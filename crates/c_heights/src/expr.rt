@@ -208,17 +208,15 @@ pub fn declarator_height(d: &Declarator) -> u32
         Declarator::Name { .. } => 1,
         Declarator::Omitted => 1,
         Declarator::Grouped { inner, .. } => above(declarator_height(inner.get())),
-        Declarator::Pointer { target, .. } => above(declarator_height(target.get())),
-        Declarator::Array {
-            element,
-            length,
-            ..
-        } => above(declarator_height(element.get()).max(optional_height(length))),
+        Declarator::Pointer { inner, .. } => above(declarator_height(inner.get())),
+        Declarator::Array { inner, length, .. } => {
+            above(declarator_height(inner.get()).max(optional_height(length)))
+        }
         Declarator::Function {
-            result: of,
+            inner,
             parameters,
             ..
-        } => above(declarator_height(of.get()).max(highest_parameter(parameters.as_slice()))),
+        } => above(declarator_height(inner.get()).max(highest_parameter(parameters.as_slice()))),
     }
 }
 

@@ -17,7 +17,7 @@ fn designator_height(d: &Designator) -> u32
 {
     match d {
         Designator::Member { .. } => 0,
-        Designator::Element { index, .. } => expr_height(index),
+        Designator::Element { index, .. } => expr_height(index.get()),
     }
 }
 
@@ -37,7 +37,7 @@ pub fn initializer_height(i: &Initializer) -> u32
     ensures { result ≡ capped (units.initializer_of i.now).height }
 {
     match i {
-        Initializer::Value { value } => above(expr_height(value)),
+        Initializer::Value { value } => above(expr_height(value.get())),
         Initializer::List { items, .. } => above(highest_item(items.as_slice())),
     }
 }
@@ -92,12 +92,12 @@ pub fn declaration_height(d: &Declaration) -> u32
     highest_specifier(d.specifiers.as_slice()).max(highest_init(d.declarators.as_slice()))
 }
 
-fn optional_expr(e: &Option<Expr>) -> u32
+fn optional_expr(e: &Option<Shared<Expr>>) -> u32
     ensures { result ≡ capped (units.value_height e.now) }
 {
     match e {
         None => 0,
-        Some(e) => expr_height(e),
+        Some(e) => expr_height(e.get()),
     }
 }
 
@@ -120,7 +120,9 @@ pub fn stmt_height(s: &Stmt) -> u32
         Stmt::Declared { declaration } => above(declaration_height(declaration)),
         Stmt::Value { value, .. } => above(optional_expr(value)),
         Stmt::Label { body, .. } => above(stmt_height(body.get())),
-        Stmt::Case { value, body, .. } => above(expr_height(value).max(stmt_height(body.get()))),
+        Stmt::Case { value, body, .. } => above(expr_height(value.get()).max(stmt_height(
+            body.get(),
+        ))),
         Stmt::Default { body, .. } => above(stmt_height(body.get())),
         Stmt::If {
             condition,
@@ -129,19 +131,21 @@ pub fn stmt_height(s: &Stmt) -> u32
             ..
         } => {
             let sides = stmt_height(positive.get()).max(optional_stmt(negative));
-            above(expr_height(condition).max(sides))
+            above(expr_height(condition.get()).max(sides))
         }
-        Stmt::Switch { value, body, .. } => above(expr_height(value).max(stmt_height(body.get()))),
+        Stmt::Switch { value, body, .. } => above(expr_height(value.get()).max(stmt_height(
+            body.get(),
+        ))),
         Stmt::While {
             condition,
             body,
             ..
-        } => above(expr_height(condition).max(stmt_height(body.get()))),
+        } => above(expr_height(condition.get()).max(stmt_height(body.get()))),
         Stmt::Do {
             body,
             condition,
             ..
-        } => above(stmt_height(body.get()).max(expr_height(condition))),
+        } => above(stmt_height(body.get()).max(expr_height(condition.get()))),
         Stmt::For {
             start,
             condition,
@@ -184,7 +188,7 @@ fn body_height(b: &Body) -> u32
     ensures { result ≡ capped (spec.body_height b.now) }
 {
     match b {
-        Body::Read { block } => stmt_height(block),
+        Body::Read { block } => stmt_height(block.get()),
         Body::Unread { .. } => 0,
     }
 }
@@ -207,12 +211,12 @@ pub fn external_height(e: &External) -> u32
 }
 
 /// The greatest height of external declarations.
-pub fn highest_external(items: &[External]) -> u32
+pub fn highest_external(items: &[Shared<External>]) -> u32
     ensures { result ≡ capped (spec.highest_external items.now) }
 {
     let mut most = 0;
     for item in items {
-        most = external_height(item).max(most);
+        most = external_height(item.get()).max(most);
     }
     most
 }

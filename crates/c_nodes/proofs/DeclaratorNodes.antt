@@ -41,38 +41,38 @@ name_grouped at inner n e = e ∙ sym (ap (λ w. w.name) (form-Grouped at inner)
 pub derived_grouped : (at : ℕ) (inner : Declarator) (b : Bool) → b ≡ (form inner).derived → b ≡ (form (declarator.Grouped at inner)).derived
 derived_grouped at inner b e = e ∙ sym (ap (λ w. w.derived) (form-Grouped at inner))
 
-pub height_pointer : (at : ℕ) (qualifiers : List Qualifier) (target : Declarator) (h0 h : ℕ) → h0 ≡ (form target).height → h ≡ h0 → h + 1 ≡ (form (declarator.Pointer at qualifiers target)).height
-height_pointer at qualifiers target h0 h e0 g =
-    let s = ap (λ w. w.height) (form-Pointer at qualifiers target) in
+pub height_pointer : (at : ℕ) (qualifiers : List Qualifier) (inner : Declarator) (h0 h : ℕ) → h0 ≡ (form inner).height → h ≡ h0 → h + 1 ≡ (form (declarator.Pointer at qualifiers inner)).height
+height_pointer at qualifiers inner h0 h e0 g =
+    let s = ap (λ w. w.height) (form-Pointer at qualifiers inner) in
     omega (arith, s)
 
-pub name_pointer : (at : ℕ) (qualifiers : List Qualifier) (target : Declarator) (n : Option Name) → n ≡ (form target).name → n ≡ (form (declarator.Pointer at qualifiers target)).name
-name_pointer at qualifiers target n e = e ∙ sym (ap (λ w. w.name) (form-Pointer at qualifiers target))
+pub name_pointer : (at : ℕ) (qualifiers : List Qualifier) (inner : Declarator) (n : Option Name) → n ≡ (form inner).name → n ≡ (form (declarator.Pointer at qualifiers inner)).name
+name_pointer at qualifiers inner n e = e ∙ sym (ap (λ w. w.name) (form-Pointer at qualifiers inner))
 
-pub derived_pointer : (at : ℕ) (qualifiers : List Qualifier) (target : Declarator) → true ≡ (form (declarator.Pointer at qualifiers target)).derived
-derived_pointer at qualifiers target = sym (ap (λ w. w.derived) (form-Pointer at qualifiers target))
+pub derived_pointer : (at : ℕ) (qualifiers : List Qualifier) (inner : Declarator) → true ≡ (form (declarator.Pointer at qualifiers inner)).derived
+derived_pointer at qualifiers inner = sym (ap (λ w. w.derived) (form-Pointer at qualifiers inner))
 
-pub height_array : (at : ℕ) (element : Declarator) (words : List ArrayWord) (length' : Option Expr) (h0 h1 h : ℕ) → h0 ≡ (form element).height → h1 ≡ height_of (option_map shape length') → h ≡ (max h0 h1) → h + 1 ≡ (form (declarator.Array at element words length')).height
-height_array at element words length' h0 h1 h e0 e1 g =
-    let s = ap (λ w. w.height) (form-Array at element words length') in
+pub height_array : (at : ℕ) (inner : Declarator) (words : List ArrayWord) (length' : Option Expr) (h0 h1 h : ℕ) → h0 ≡ (form inner).height → h1 ≡ height_of (option_map shape length') → h ≡ (max h0 h1) → h + 1 ≡ (form (declarator.Array at inner words length')).height
+height_array at inner words length' h0 h1 h e0 e1 g =
+    let s = ap (λ w. w.height) (form-Array at inner words length') in
     omega (arith, s)
 
-pub name_array : (at : ℕ) (element : Declarator) (words : List ArrayWord) (length' : Option Expr) (n : Option Name) → n ≡ (form element).name → n ≡ (form (declarator.Array at element words length')).name
-name_array at element words length' n e = e ∙ sym (ap (λ w. w.name) (form-Array at element words length'))
+pub name_array : (at : ℕ) (inner : Declarator) (words : List ArrayWord) (length' : Option Expr) (n : Option Name) → n ≡ (form inner).name → n ≡ (form (declarator.Array at inner words length')).name
+name_array at inner words length' n e = e ∙ sym (ap (λ w. w.name) (form-Array at inner words length'))
 
-pub derived_array : (at : ℕ) (element : Declarator) (words : List ArrayWord) (length' : Option Expr) → true ≡ (form (declarator.Array at element words length')).derived
-derived_array at element words length' = sym (ap (λ w. w.derived) (form-Array at element words length'))
+pub derived_array : (at : ℕ) (inner : Declarator) (words : List ArrayWord) (length' : Option Expr) → true ≡ (form (declarator.Array at inner words length')).derived
+derived_array at inner words length' = sym (ap (λ w. w.derived) (form-Array at inner words length'))
 
-pub height_function : (at : ℕ) (result : Declarator) (parameters : List Parameter) (variadic : Bool) (h0 h1 h : ℕ) → h0 ≡ (form result).height → h1 ≡ highest (map parameter_of parameters) → h ≡ (max h0 h1) → h + 1 ≡ (form (declarator.Function at result parameters variadic)).height
-height_function at result parameters variadic h0 h1 h e0 e1 g =
-    let s = ap (λ w. w.height) (form-Function at result parameters variadic) in
+pub height_function : (at : ℕ) (inner : Declarator) (parameters : List Parameter) (variadic : Bool) (h0 h1 h : ℕ) → h0 ≡ (form inner).height → h1 ≡ highest (map parameter_of parameters) → h ≡ (max h0 h1) → h + 1 ≡ (form (declarator.Function at inner parameters variadic)).height
+height_function at inner parameters variadic h0 h1 h e0 e1 g =
+    let s = ap (λ w. w.height) (form-Function at inner parameters variadic) in
     omega (arith, s)
 
-pub name_function : (at : ℕ) (result : Declarator) (parameters : List Parameter) (variadic : Bool) (n : Option Name) → n ≡ (form result).name → n ≡ (form (declarator.Function at result parameters variadic)).name
-name_function at result parameters variadic n e = e ∙ sym (ap (λ w. w.name) (form-Function at result parameters variadic))
+pub name_function : (at : ℕ) (inner : Declarator) (parameters : List Parameter) (variadic : Bool) (n : Option Name) → n ≡ (form inner).name → n ≡ (form (declarator.Function at inner parameters variadic)).name
+name_function at inner parameters variadic n e = e ∙ sym (ap (λ w. w.name) (form-Function at inner parameters variadic))
 
-pub derived_function : (at : ℕ) (result : Declarator) (parameters : List Parameter) (variadic : Bool) → true ≡ (form (declarator.Function at result parameters variadic)).derived
-derived_function at result parameters variadic = sym (ap (λ w. w.derived) (form-Function at result parameters variadic))
+pub derived_function : (at : ℕ) (inner : Declarator) (parameters : List Parameter) (variadic : Bool) → true ≡ (form (declarator.Function at inner parameters variadic)).derived
+derived_function at inner parameters variadic = sym (ap (λ w. w.derived) (form-Function at inner parameters variadic))
 
 pub height_parameter : (specifiers : List Specifier) (declarator : Declarator) (h0 h1 h : ℕ) → h0 ≡ highest_specifier (map specifier_of specifiers) → h1 ≡ (form declarator).height → h ≡ max h0 h1 → h ≡ (parameter_of (record { specifiers = specifiers; declarator = declarator })).height
 height_parameter specifiers declarator h0 h1 h e0 e1 g =

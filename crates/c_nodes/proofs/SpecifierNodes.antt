@@ -5,6 +5,7 @@ use Rattle.c_tree.specs.declared.expr.StorageClass.{StorageClass}
 use Rattle.c_tree.specs.declared.expr.Qualifier.{Qualifier}
 use Rattle.c_tree.specs.declared.expr.TypeWord.{TypeWord}
 use Rattle.c_tree.specs.declared.expr.AggregateKind.{AggregateKind}
+use Rattle.c_tree.specs.declared.expr.TagName.{TagName}
 use Rattle.c_tree.specs.declared.expr.MemberDeclaration.{MemberDeclaration}
 use Rattle.c_tree.specs.declared.expr.Enumerator.{Enumerator}
 use Rattle.c_tree.specs.declared.expr.Declarator.{Declarator}
@@ -25,16 +26,16 @@ height_typedef at name = sym (ap (λ w. w.height) (specifier-Typedef at name))
 pub kind_typedef : (at : ℕ) (name : List ℕ) → type_kind.Whole ≡ (specifier_of (specifier.Typedef at name)).kind
 kind_typedef at name = sym (ap (λ w. w.kind) (specifier-Typedef at name))
 
-pub height_tag : (at : ℕ) (kind : AggregateKind) (tag : List ℕ) → 1 ≡ (specifier_of (specifier.Tag at kind tag)).height
+pub height_tag : (at : ℕ) (kind : AggregateKind) (tag : TagName) → 1 ≡ (specifier_of (specifier.Tag at kind tag)).height
 height_tag at kind tag = sym (ap (λ w. w.height) (specifier-Tag at kind tag))
 
-pub kind_tag : (at : ℕ) (kind : AggregateKind) (tag : List ℕ) → type_kind.Whole ≡ (specifier_of (specifier.Tag at kind tag)).kind
+pub kind_tag : (at : ℕ) (kind : AggregateKind) (tag : TagName) → type_kind.Whole ≡ (specifier_of (specifier.Tag at kind tag)).kind
 kind_tag at kind tag = sym (ap (λ w. w.kind) (specifier-Tag at kind tag))
 
-pub height_enum_tag : (at : ℕ) (tag : List ℕ) → 1 ≡ (specifier_of (specifier.EnumTag at tag)).height
+pub height_enum_tag : (at : ℕ) (tag : TagName) → 1 ≡ (specifier_of (specifier.EnumTag at tag)).height
 height_enum_tag at tag = sym (ap (λ w. w.height) (specifier-EnumTag at tag))
 
-pub kind_enum_tag : (at : ℕ) (tag : List ℕ) → type_kind.Whole ≡ (specifier_of (specifier.EnumTag at tag)).kind
+pub kind_enum_tag : (at : ℕ) (tag : TagName) → type_kind.Whole ≡ (specifier_of (specifier.EnumTag at tag)).kind
 kind_enum_tag at tag = sym (ap (λ w. w.kind) (specifier-EnumTag at tag))
 
 pub height_storage : (at : ℕ) (class : StorageClass) → 1 ≡ (specifier_of (specifier.Storage at class)).height
@@ -61,20 +62,20 @@ height_word at word = sym (ap (λ w. w.height) (specifier-Word at word))
 pub kind_word : (at : ℕ) (word : TypeWord) → type_kind.Word word ≡ (specifier_of (specifier.Word at word)).kind
 kind_word at word = sym (ap (λ w. w.kind) (specifier-Word at word))
 
-pub height_aggregate : (at : ℕ) (kind : AggregateKind) (tag : Option (List ℕ)) (members : List MemberDeclaration) (h0 h : ℕ) → h0 ≡ highest (map member_of members) → h ≡ h0 → h + 1 ≡ (specifier_of (specifier.Aggregate at kind tag members)).height
+pub height_aggregate : (at : ℕ) (kind : AggregateKind) (tag : Option TagName) (members : List MemberDeclaration) (h0 h : ℕ) → h0 ≡ highest (map member_of members) → h ≡ h0 → h + 1 ≡ (specifier_of (specifier.Aggregate at kind tag members)).height
 height_aggregate at kind tag members h0 h e g =
     let s = ap (λ w. w.height) (specifier-Aggregate at kind tag members) in
     omega (arith, s)
 
-pub kind_aggregate : (at : ℕ) (kind : AggregateKind) (tag : Option (List ℕ)) (members : List MemberDeclaration) → type_kind.Whole ≡ (specifier_of (specifier.Aggregate at kind tag members)).kind
+pub kind_aggregate : (at : ℕ) (kind : AggregateKind) (tag : Option TagName) (members : List MemberDeclaration) → type_kind.Whole ≡ (specifier_of (specifier.Aggregate at kind tag members)).kind
 kind_aggregate at kind tag members = sym (ap (λ w. w.kind) (specifier-Aggregate at kind tag members))
 
-pub height_enumeration : (at : ℕ) (tag : Option (List ℕ)) (enumerators : List Enumerator) (trailing : Bool) (h0 h : ℕ) → h0 ≡ highest (map enumerator_of enumerators) → h ≡ h0 → h + 1 ≡ (specifier_of (specifier.Enumeration at tag enumerators trailing)).height
+pub height_enumeration : (at : ℕ) (tag : Option TagName) (enumerators : List Enumerator) (trailing : Bool) (h0 h : ℕ) → h0 ≡ highest (map enumerator_of enumerators) → h ≡ h0 → h + 1 ≡ (specifier_of (specifier.Enumeration at tag enumerators trailing)).height
 height_enumeration at tag enumerators trailing h0 h e g =
     let s = ap (λ w. w.height) (specifier-Enumeration at tag enumerators trailing) in
     omega (arith, s)
 
-pub kind_enumeration : (at : ℕ) (tag : Option (List ℕ)) (enumerators : List Enumerator) (trailing : Bool) → type_kind.Whole ≡ (specifier_of (specifier.Enumeration at tag enumerators trailing)).kind
+pub kind_enumeration : (at : ℕ) (tag : Option TagName) (enumerators : List Enumerator) (trailing : Bool) → type_kind.Whole ≡ (specifier_of (specifier.Enumeration at tag enumerators trailing)).kind
 kind_enumeration at tag enumerators trailing = sym (ap (λ w. w.kind) (specifier-Enumeration at tag enumerators trailing))
 
 pub height_type_name : (specifiers : List Specifier) (declarator : Declarator) (h0 h1 h : ℕ) → h0 ≡ highest_specifier (map specifier_of specifiers) → h1 ≡ (form declarator).height → h ≡ max h0 h1 → h ≡ (type_name_of (record { specifiers = specifiers; declarator = declarator })).height

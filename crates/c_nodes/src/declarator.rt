@@ -72,20 +72,20 @@ pub fn pointer(
     alloc: Global,
     at: u32,
     qualifiers: Items<Qualifier>,
-    target: FoundDeclarator,
+    inner: FoundDeclarator,
 ) -> Result<FoundDeclarator, AllocError>
-    requires low_target { target.height < 1000 }
-    ensures tree { IfOk result (λ f. f.tree ≡ declarator.Pointer at qualifiers target.tree) }
-    ensures height { IfOk result (λ f. f.height ≡ target.height + 1) }
+    requires low_inner { inner.height < 1000 }
+    ensures tree { IfOk result (λ f. f.tree ≡ declarator.Pointer at qualifiers inner.tree) }
+    ensures height { IfOk result (λ f. f.height ≡ inner.height + 1) }
 {
-    let height = target.height + 1;
-    let name = target.name;
-    let target = Shared::new(alloc, target.tree)?;
+    let height = inner.height + 1;
+    let name = inner.name;
+    let inner = Shared::new(alloc, inner.tree)?;
     Ok(FoundDeclarator {
         tree: Declarator::Pointer {
             at,
             qualifiers,
-            target,
+            inner,
         },
         height,
         name,
@@ -98,22 +98,22 @@ pub fn pointer(
 pub fn array(
     alloc: Global,
     at: u32,
-    element: FoundDeclarator,
+    inner: FoundDeclarator,
     words: Items<ArrayWord>,
     length: FoundOptional,
 ) -> Result<FoundDeclarator, AllocError>
-    requires low_element { element.height < 1000 }
+    requires low_inner { inner.height < 1000 }
     requires low_length { length.height < 1000 }
-    ensures tree { IfOk result (λ f. f.tree ≡ declarator.Array at element.tree words length.tree) }
-    ensures height { IfOk result (λ f. f.height ≡ (max element.height length.height) + 1) }
+    ensures tree { IfOk result (λ f. f.tree ≡ declarator.Array at inner.tree words length.tree) }
+    ensures height { IfOk result (λ f. f.height ≡ (max inner.height length.height) + 1) }
 {
-    let height = most(element.height, length.height) + 1;
-    let name = element.name;
-    let element = Shared::new(alloc, element.tree)?;
+    let height = most(inner.height, length.height) + 1;
+    let name = inner.name;
+    let inner = Shared::new(alloc, inner.tree)?;
     Ok(FoundDeclarator {
         tree: Declarator::Array {
             at,
-            element,
+            inner,
             words,
             length: length.tree,
         },
@@ -128,21 +128,21 @@ pub fn array(
 pub fn function(
     alloc: Global,
     at: u32,
-    returned: FoundDeclarator,
+    inner: FoundDeclarator,
     parameters: FoundParameters,
 ) -> Result<FoundDeclarator, AllocError>
-    requires low_returned { returned.height < 1000 }
+    requires low_inner { inner.height < 1000 }
     requires low_parameters { parameters.height < 1000 }
-    ensures tree { IfOk result (λ f. f.tree ≡ declarator.Function at returned.tree parameters.trees parameters.variadic) }
-    ensures height { IfOk result (λ f. f.height ≡ (max returned.height parameters.height) + 1) }
+    ensures tree { IfOk result (λ f. f.tree ≡ declarator.Function at inner.tree parameters.trees parameters.variadic) }
+    ensures height { IfOk result (λ f. f.height ≡ (max inner.height parameters.height) + 1) }
 {
-    let height = most(returned.height, parameters.height) + 1;
-    let name = returned.name;
-    let result = Shared::new(alloc, returned.tree)?;
+    let height = most(inner.height, parameters.height) + 1;
+    let name = inner.name;
+    let inner = Shared::new(alloc, inner.tree)?;
     Ok(FoundDeclarator {
         tree: Declarator::Function {
             at,
-            result,
+            inner,
             parameters: parameters.trees,
             variadic: parameters.variadic,
         },

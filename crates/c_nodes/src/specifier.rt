@@ -9,8 +9,8 @@ use crate::found::{FoundDeclarator, FoundSpecifier, FoundSpecifiers, FoundType};
 use c_grammar::{TypeKind, TypeWords};
 use c_lexer::Name;
 use c_tree::{
-    AggregateKind, Enumerator, MemberDeclaration, Qualifier, Specifier, StorageClass, TypeName,
-    TypeWord,
+    AggregateKind, Enumerator, MemberDeclaration, Qualifier, Specifier, StorageClass, TagName,
+    TypeName, TypeWord,
 };
 use plain_data::{Items, Shared};
 use std::alloc::{AllocError, Global};
@@ -30,7 +30,7 @@ pub fn typedef(at: u32, name: Name) -> FoundSpecifier
 
 /// `struct tag` or `union tag`.
 #[tactic(auto, using(crate::proofs::SpecifierNodes::height_tag, crate::proofs::SpecifierNodes::kind_tag))]
-pub fn tag(at: u32, kind: AggregateKind, tag: Name) -> FoundSpecifier
+pub fn tag(at: u32, kind: AggregateKind, tag: TagName) -> FoundSpecifier
     ensures tree { result.tree ≡ specifier.Tag at kind tag }
     ensures height { result.height ≡ 1 }
 {
@@ -43,7 +43,7 @@ pub fn tag(at: u32, kind: AggregateKind, tag: Name) -> FoundSpecifier
 
 /// `enum tag`.
 #[tactic(auto, using(crate::proofs::SpecifierNodes::height_enum_tag, crate::proofs::SpecifierNodes::kind_enum_tag))]
-pub fn enum_tag(at: u32, tag: Name) -> FoundSpecifier
+pub fn enum_tag(at: u32, tag: TagName) -> FoundSpecifier
     ensures tree { result.tree ≡ specifier.EnumTag at tag }
     ensures height { result.height ≡ 1 }
 {
@@ -111,7 +111,7 @@ pub fn word(at: u32, word: TypeWord) -> FoundSpecifier
 pub fn aggregate(
     at: u32,
     kind: AggregateKind,
-    tag: Option<Name>,
+    tag: Option<TagName>,
     members: Items<Shared<MemberDeclaration>>,
     highest: u32,
 ) -> FoundSpecifier
@@ -136,7 +136,7 @@ pub fn aggregate(
 #[tactic(auto, using(crate::proofs::SpecifierNodes::height_enumeration, crate::proofs::SpecifierNodes::kind_enumeration))]
 pub fn enumeration(
     at: u32,
-    tag: Option<Name>,
+    tag: Option<TagName>,
     enumerators: Items<Shared<Enumerator>>,
     trailing: bool,
     highest: u32,

@@ -5,4 +5,5 @@ use Rattle.c_heights.specs.Capped.{capped}
 use Rattle.c_heights.proofs.unit.+initializer.Given as goal
 
 abbrev pub invariant-highest_item-loop-item : goal.invariant-highest_item-loop-item
-invariant-highest_item-loop-item l = max l.most (capped (highest (map item_of (drop l.item-index l.items)))) ≡ capped (highest (map item_of l.items))
+invariant-highest_item-loop-item l =
+    max l.most (capped (highest (map item_of (drop l.item-index l.items)))) ≡ capped (highest (map item_of l.items))

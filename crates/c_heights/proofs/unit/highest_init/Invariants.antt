@@ -6,4 +6,6 @@ use Rattle.c_heights.specs.Capped.{capped}
 use Rattle.c_heights.proofs.unit.highest_init.Given as goal
 
 abbrev pub invariant-loop-item : goal.invariant-loop-item
-invariant-loop-item l = (is_type : Bool) → max l.most (capped (highest (map (init_piece is_type) (drop l.item-index l.items)))) ≡ capped (highest (map (init_piece is_type) l.items))
+invariant-loop-item l =
+    (is_type : Bool) → max l.most (capped (highest (map (init_piece is_type) (drop l.item-index l.items)))) ≡ capped
+    (highest (map (init_piece is_type) l.items))
