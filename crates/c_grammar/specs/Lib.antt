@@ -3,6 +3,7 @@ pub mod Operators
 pub mod Parts
 pub mod Reading
 pub mod Spelling
+pub mod TypeSpecifiers
 pub mod TypeWords
 pub mod UnitReading
 pub mod Units

@@ -14,10 +14,12 @@ const fn word(word: TypeWord) -> TypeKind {
     TypeKind::Word(word)
 }
 
-/// Rows of the standard's list (C99 6.7.2), and combinations that are not in it.
+/// Rows of the standard's list (C99 6.7.2) and of what headers declare, and combinations that are in neither.
 #[test]
 fn types_stand_together(rt: HostRuntime) -> Result<(), Fail> {
-    use TypeWord::{Char, Complex, Double, Float, Int, Long, Short, Signed, Unsigned, Void};
+    use TypeWord::{
+        Char, Complex, Double, Float, Float32, Float64, Int, Long, Short, Signed, Unsigned, Void,
+    };
     let allowed: [&[TypeKind]; 8] = [
         &[word(Void)],
         &[word(Signed), word(Char)],
@@ -26,7 +28,7 @@ fn types_stand_together(rt: HostRuntime) -> Result<(), Fail> {
         &[word(Unsigned)],
         &[TypeKind::NoType, TypeKind::Whole],
         &[word(Long), word(Double), word(Complex)],
-        &[word(Float)],
+        &[word(Float), word(Float32)],
     ];
     for kinds in allowed {
         assert!(rt; together(kinds));
@@ -38,7 +40,7 @@ fn types_stand_together(rt: HostRuntime) -> Result<(), Fail> {
         &[word(Long), word(Long), word(Long)],
         &[word(Signed), word(Unsigned)],
         &[TypeKind::Whole, word(Unsigned)],
-        &[word(Long), word(Long), word(Double)],
+        &[word(Float), word(Float64)],
     ];
     for kinds in refused {
         assert!(rt; !together(kinds));
