@@ -47,7 +47,7 @@ fn is_closing(kind: &TokenKind) -> bool
 }
 
 /// How many tokens a group has, or how many stand before the one at which its brackets stop matching.
-#[derive(Clone, Copy, Debug, PartialEq, Eq)]
+#[derive(Clone, Copy)]
 pub enum Extent {
     Closed(usize),
     Broken(usize),

@@ -40,6 +40,5 @@ pub fn declare(
 pub fn leave(source: &Source<'_>, c: &mut Cursor)
     ensures { here source.now c.new ≡ ((here source.now c.old).0, left (here source.now c.old).1) }
 {
-    let _source = *source;
     c.names.leave();
 }
