@@ -18,6 +18,7 @@ pub mod Spans
 pub mod SpecifiersComplete
 pub mod StmtComplete
 pub mod StmtSound
+pub mod Tables
 pub mod TypeSpecifiers
 pub mod UnitBegins
 pub mod UnitComplete

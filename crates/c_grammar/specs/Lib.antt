@@ -3,6 +3,7 @@ pub mod Operators
 pub mod Parts
 pub mod Reading
 pub mod Spelling
+pub mod Tables
 pub mod TypeSpecifiers
 pub mod TypeWords
 pub mod UnitReading

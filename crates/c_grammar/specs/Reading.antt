@@ -179,10 +179,8 @@ more_enumerators_at r zero s = None
 more_enumerators_at r (suc n) s = cond (begins mark.Comma s)
     (expect mark.Comma s >>= (λ c. cond (begins mark.RightBrace c.2)
     (Some (([], true), c.2))
-    (enumerator_at r c.2 >>= (λ x. more_enumerators_at r n x.1 >>= (λ more. Some (
-      (x.0 ∷ more.0.0, more.0.1),
-      more.1,
-    ))))))
+    (enumerator_at r c.2 >>= (λ x. more_enumerators_at r n x.1 >>=
+    (λ more. Some ((x.0 ∷ more.0.0, more.0.1), more.1))))))
     (Some (([], false), s))
 
 unfoldable pub enumeration_at : Rules → ℕ → Option TagName → State → Reading Specifier
@@ -322,10 +320,8 @@ more_parameters_at r zero s = None
 more_parameters_at r (suc n) s = cond (begins mark.Comma s)
     (expect mark.Comma s >>= (λ c. cond (begins mark.Ellipsis c.2)
     (expect mark.Ellipsis c.2 >>= (λ e. Some (([], true), e.2)))
-    (parameter_at r c.2 >>= (λ x. more_parameters_at r n x.1 >>= (λ more. Some (
-      (x.0 ∷ more.0.0, more.0.1),
-      more.1,
-    ))))))
+    (parameter_at r c.2 >>= (λ x. more_parameters_at r n x.1 >>=
+    (λ more. Some ((x.0 ∷ more.0.0, more.0.1), more.1))))))
     (Some (([], false), s))
 
 unfoldable pub parameters_at : Rules → State → Reading (List Parameter × Bool)

@@ -134,10 +134,8 @@ more_items_at r inside zero s = None
 more_items_at r inside (suc n) s = cond (begins mark.Comma s)
     (expect mark.Comma s >>= (λ c. cond (begins mark.RightBrace c.2)
     (Some (([], true), c.2))
-    (item_at r inside c.2 >>= (λ x. more_items_at r inside n x.1 >>= (λ more. Some (
-      (x.0 ∷ more.0.0, more.0.1),
-      more.1,
-    ))))))
+    (item_at r inside c.2 >>= (λ x. more_items_at r inside n x.1 >>=
+    (λ more. Some ((x.0 ∷ more.0.0, more.0.1), more.1))))))
     (Some (([], false), s))
 
 unfoldable pub items_at : Rules → Inside → State → Reading (List InitializerItem × Bool)
