@@ -1,5 +1,26 @@
 -- Operators of one rank behind an operand, one after the other.
-use Rattle.std.proofs.Common.{◌≡◌, ◌≤◌, ◌<◌, ℕ, suc, Some, None, Bool, true, false, refl, sym, ◌∙◌, arith, nat_le, nat_eq, cond, subst, Option, Result}
+use Rattle.std.proofs.Common.{
+  ◌≡◌,
+  ◌≤◌,
+  ◌<◌,
+  ℕ,
+  suc,
+  Some,
+  None,
+  Bool,
+  true,
+  false,
+  refl,
+  sym,
+  ◌∙◌,
+  arith,
+  nat_le,
+  nat_eq,
+  cond,
+  subst,
+  Option,
+  Result,
+}
 use Rattle.std.proofs.lemmas.Bool.Decides.{nat_tests}
 use Rattle.c_lexer.specs.declared.token.Punctuator.{Punctuator}
 use Rattle.c_lexer.specs.declared.token.Punctuator.TheVariants as mark
@@ -12,39 +33,55 @@ use Rattle.c_exprs.specs.declared.fault.ParseFault.{ParseFault}
 use Rattle.c_exprs.specs.declared.fault.ParseFault.TheVariants as fault
 use Rattle.c_exprs.specs.Cursor.{Fails, Gives}
 
-pub more_stop : (r : Rules) (m left limit rank : ℕ) (e : Expr) (s : State) (whole : Reading Expr) → left ≡ suc m → nat_eq (binds s) rank ≡ false → more_at r limit rank left e s ≡ whole → whole ≡ Some (e, s)
+pub more_stop : (r : Rules) (m left limit rank : ℕ) (e : Expr) (s : State) (whole : Reading Expr) →
+    left ≡ suc m → nat_eq (binds s) rank ≡ false → more_at r limit rank left e s ≡ whole → whole ≡ Some (e, s)
 unfolding more_at
 more_stop r m left limit rank e s whole is none reads = sym reads ∙ rw (is, none) refl
 
-fails_none : (r : Rules) (m left limit rank : ℕ) (e : Expr) (s : State) → left ≡ suc m → nat_eq (binds s) rank ≡ true → extend_in r e s.0 s.1 ≡ None → more_at r limit rank left e s ≡ None
+fails_none : (r : Rules) (m left limit rank : ℕ) (e : Expr) (s : State) → left ≡ suc m →
+    nat_eq (binds s) rank ≡ true → extend_in r e s.0 s.1 ≡ None → more_at r limit rank left e s ≡ None
 unfolding more_at
 fails_none r m left limit rank e s is goes none = rw (is, goes, none) refl
 
-pub more_fail : (r : Rules) (m left limit rank : ℕ) (e : Expr) (s : State) (whole : Reading Expr) (f : ParseFault) → left ≡ suc m → nat_eq (binds s) rank ≡ true → Fails f (extend_in r e s.0 s.1) → more_at r limit rank left e s ≡ whole → Fails f whole
+pub more_fail : (r : Rules) (m left limit rank : ℕ) (e : Expr) (s : State) (whole : Reading Expr)
+    (f : ParseFault) → left ≡ suc m → nat_eq (binds s) rank ≡ true → Fails f (extend_in r e s.0 s.1) →
+    more_at r limit rank left e s ≡ whole → Fails f whole
 more_fail r m left limit rank e s whole fault.Memory is goes none reads = tt
-more_fail r m left limit rank e s whole (fault.Syntax at) is goes none reads = sym reads ∙ fails_none r m left limit rank e s is goes none
-more_fail r m left limit rank e s whole (fault.TooDeep at) is goes none reads = sym reads ∙ fails_none r m left limit rank e s is goes none
+more_fail r m left limit rank e s whole (fault.Syntax at) is goes none reads = sym reads ∙ fails_none r m left
+    limit rank e s is goes none
+more_fail r m left limit rank e s whole (fault.TooDeep at) is goes none reads = sym reads ∙ fails_none r m left
+    limit rank e s is goes none
 
-goes_by : (r : Rules) (m left limit rank : ℕ) (e x : Expr) (s z : State) (low : Bool) → left ≡ suc m → nat_eq (binds s) rank ≡ true → extend_in r e s.0 s.1 ≡ Some (x, z) → nat_le (shape x).height limit ≡ low → more_at r limit rank left e s ≡ cond low (more_at r limit rank m x z) None
+goes_by : (r : Rules) (m left limit rank : ℕ) (e x : Expr) (s z : State) (low : Bool) → left ≡ suc m →
+    nat_eq (binds s) rank ≡ true → extend_in r e s.0 s.1 ≡ Some (x, z) → nat_le (shape x).height limit ≡ low →
+    more_at r limit rank left e s ≡ cond low (more_at r limit rank m x z) None
 unfolding more_at
 goes_by r m left limit rank e x s z low is goes took fits = rw (is, goes, took, fits) refl
 
-pub more_go : (r : Rules) (m left limit rank h : ℕ) (e x : Expr) (s z : State) (whole : Reading Expr) → left ≡ suc m → nat_eq (binds s) rank ≡ true → extend_in r e s.0 s.1 ≡ Some (x, z) → h ≡ (shape x).height → h ≤ limit → more_at r limit rank left e s ≡ whole → more_at r limit rank m x z ≡ whole
+pub more_go : (r : Rules) (m left limit rank h : ℕ) (e x : Expr) (s z : State) (whole : Reading Expr) →
+    left ≡ suc m → nat_eq (binds s) rank ≡ true → extend_in r e s.0 s.1 ≡ Some (x, z) → h ≡ (shape x).height →
+    h ≤ limit → more_at r limit rank left e s ≡ whole → more_at r limit rank m x z ≡ whole
 more_go r m left limit rank h e x s z whole is goes took height low reads =
     let fits : nat_le (shape x).height limit ≡ true = grind (arith, nat_tests, height, low) in
     sym (goes_by r m left limit rank e x s z true is goes took fits) ∙ reads
 
-pub more_high : (r : Rules) (m left limit rank h : ℕ) (e x : Expr) (s z : State) (whole : Reading Expr) → left ≡ suc m → nat_eq (binds s) rank ≡ true → extend_in r e s.0 s.1 ≡ Some (x, z) → h ≡ (shape x).height → limit < h → more_at r limit rank left e s ≡ whole → whole ≡ None
+pub more_high : (r : Rules) (m left limit rank h : ℕ) (e x : Expr) (s z : State) (whole : Reading Expr) →
+    left ≡ suc m → nat_eq (binds s) rank ≡ true → extend_in r e s.0 s.1 ≡ Some (x, z) → h ≡ (shape x).height →
+    limit < h → more_at r limit rank left e s ≡ whole → whole ≡ None
 more_high r m left limit rank h e x s z whole is goes took height high reads =
     let fits : nat_le (shape x).height limit ≡ false = grind (arith, nat_tests, height, high) in
     sym reads ∙ goes_by r m left limit rank e x s z false is goes took fits
 
-pub more_out : (r : Rules) (left limit rank : ℕ) (e : Expr) (s : State) (whole : Reading Expr) → left ≡ 0 → more_at r limit rank left e s ≡ whole → whole ≡ None
+pub more_out : (r : Rules) (left limit rank : ℕ) (e : Expr) (s : State) (whole : Reading Expr) → left ≡ 0 →
+    more_at r limit rank left e s ≡ whole → whole ≡ None
 unfolding more_at
 more_out r left limit rank e s whole is reads = sym reads ∙ rw is refl
 
 -- a punctuator that is none of the operators with a rule of their own
-pub others : (r : Rules) (e : Expr) (m : Punctuator) (at : ℕ) (s : State) → (m ≡ mark.LeftBracket → ⊥) → (m ≡ mark.LeftParen → ⊥) → (m ≡ mark.Dot → ⊥) → (m ≡ mark.Arrow → ⊥) → (m ≡ mark.PlusPlus → ⊥) → (m ≡ mark.MinusMinus → ⊥) → (m ≡ mark.Question → ⊥) → (m ≡ mark.Comma → ⊥) → extend_by r e m at s ≡ infix_at r at (infix_of m) e s
+pub others : (r : Rules) (e : Expr) (m : Punctuator) (at : ℕ) (s : State) → (m ≡ mark.LeftBracket → ⊥) →
+    (m ≡ mark.LeftParen → ⊥) → (m ≡ mark.Dot → ⊥) → (m ≡ mark.Arrow → ⊥) → (m ≡ mark.PlusPlus → ⊥) →
+    (m ≡ mark.MinusMinus → ⊥) → (m ≡ mark.Question → ⊥) → (m ≡ mark.Comma → ⊥) →
+    extend_by r e m at s ≡ infix_at r at (infix_of m) e s
 others r e mark.LeftBracket at s bracket paren dot arrow plus minus question comma = absurd (bracket refl)
 others r e mark.RightBracket at s bracket paren dot arrow plus minus question comma = refl
 others r e mark.LeftParen at s bracket paren dot arrow plus minus question comma = absurd (paren refl)
@@ -94,5 +131,6 @@ others r e mark.Comma at s bracket paren dot arrow plus minus question comma = a
 others r e mark.Hash at s bracket paren dot arrow plus minus question comma = refl
 others r e mark.HashHash at s bracket paren dot arrow plus minus question comma = refl
 
-pub gives_as : {X Y : Type 0} (view : X → Y) (result : Result X ParseFault) (a b : Option Y) → a ≡ b → Gives view result a → Gives view result b
+pub gives_as : {X Y : Type 0} (view : X → Y) (result : Result X ParseFault) (a b : Option Y) → a ≡ b →
+    Gives view result a → Gives view result b
 gives_as view result a b e gives = subst (λ x. Gives view result x) e gives

@@ -27,5 +27,6 @@ next_expr h m rank s e = ap (λ r. r.expr rank s) (rules_next h m e)
 pub next_specifier : (h m : ℕ) (s : State) → h ≡ suc m → (rules h).specifier s ≡ specifier_in (rules m) s.0 s.1
 next_specifier h m s e = ap (λ r. r.specifier s) (rules_next h m e)
 
-pub next_declarator : (h m : ℕ) (place : DeclaratorPlace) (s : State) → h ≡ suc m → (rules h).declarator place s ≡ declarator_by (rules m) (suc m) place s
+pub next_declarator : (h m : ℕ) (place : DeclaratorPlace) (s : State) → h ≡ suc m →
+    (rules h).declarator place s ≡ declarator_by (rules m) (suc m) place s
 next_declarator h m place s e = ap (λ r. r.declarator place s) (rules_next h m e)

@@ -39,7 +39,8 @@ pub record ReachesExpr {E : Type 0} (e : Reader ExprArguments FoundExpr E) (sour
       → ReadsExpr source old.now new.now r ((rules height).expr rank) height
 
 -- it reads specifiers
-pub record ReachesSpecifier {S : Type 0} (s : Reader SpecifierArguments FoundSpecifier S) (source : Source) (height : ℕ)
+pub record ReachesSpecifier {S : Type 0} (s : Reader SpecifierArguments FoundSpecifier S) (source : Source)
+    (height : ℕ)
     (f : S) : Type 0 where
   pub callable : (alloc : Global) (old : MutBor Cursor)
       → s.pre f (alloc, (source.tokens, (source.file, (old, (height, tt)))))

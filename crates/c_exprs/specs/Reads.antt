@@ -31,6 +31,7 @@ abbrev pub ReadsSpecifier : Source → Cursor → Cursor → Result FoundSpecifi
     → ℕ → Type 0
 ReadsSpecifier = ReadsLow (λ f. f.tree) (λ f. f.height)
 
-abbrev pub ReadsDeclarator : Source → Cursor → Cursor → Result FoundDeclarator ParseFault → (State → Reading Declarator)
+abbrev pub ReadsDeclarator : Source → Cursor → Cursor → Result FoundDeclarator ParseFault →
+    (State → Reading Declarator)
     → ℕ → Type 0
 ReadsDeclarator = ReadsLow (λ f. f.tree) (λ f. f.height)

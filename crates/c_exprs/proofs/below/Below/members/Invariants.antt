@@ -5,7 +5,8 @@ use Rattle.c_exprs.proofs.below.Below.members.Given as goal
 
 abbrev pub invariant-members : goal.invariant-members
 invariant-members g l = record {
-  reads : after l.all.trees (members_at (rules l.self.height) l.left (here l.self.source l.c)) ≡ members_at (rules l.self.height) (suc (length (here l.self.source l.fn.c).0)) (here l.self.source l.fn.c);
+  reads : after l.all.trees (members_at (rules l.self.height) l.left (here l.self.source l.c)) ≡ members_at
+      (rules l.self.height) (suc (length (here l.self.source l.fn.c).0)) (here l.self.source l.fn.c);
   low : l.all.height ≤ l.self.height;
 }
 

@@ -5,7 +5,9 @@ use Rattle.c_exprs.proofs.below.Below.more_arguments.Given as goal
 
 abbrev pub invariant-arguments : goal.invariant-arguments
 invariant-arguments g l = record {
-  reads : after l.all.trees (more_arguments_at (rules l.self.height) l.left (here l.self.source l.c)) ≡ after l.fn.first.trees (more_arguments_at (rules l.self.height) (suc (length (here l.self.source l.fn.c).0)) (here l.self.source l.fn.c));
+  reads : after l.all.trees (more_arguments_at (rules l.self.height) l.left (here l.self.source l.c)) ≡ after
+      l.fn.first.trees (more_arguments_at (rules l.self.height) (suc (length (here l.self.source l.fn.c).0))
+      (here l.self.source l.fn.c));
   low : l.all.height ≤ l.self.height;
 }
 

@@ -5,7 +5,9 @@ use Rattle.c_exprs.proofs.below.Below.more_fields.Given as goal
 
 abbrev pub invariant-fields : goal.invariant-fields
 invariant-fields g l = record {
-  reads : after l.all.trees (more_fields_at (rules l.self.height) l.left (here l.self.source l.c)) ≡ after l.fn.first.trees (more_fields_at (rules l.self.height) (suc (length (here l.self.source l.fn.c).0)) (here l.self.source l.fn.c));
+  reads : after l.all.trees (more_fields_at (rules l.self.height) l.left (here l.self.source l.c)) ≡ after
+      l.fn.first.trees (more_fields_at (rules l.self.height) (suc (length (here l.self.source l.fn.c).0))
+      (here l.self.source l.fn.c));
   low : l.all.height ≤ l.self.height;
 }
 

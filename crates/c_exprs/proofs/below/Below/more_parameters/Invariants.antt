@@ -5,7 +5,9 @@ use Rattle.c_exprs.proofs.below.Below.more_parameters.Given as goal
 
 abbrev pub invariant-parameters : goal.invariant-parameters
 invariant-parameters g l = record {
-  reads : behind l.all.trees (more_parameters_at (rules l.self.height) l.left (here l.self.source l.c)) ≡ behind l.fn.first.trees (more_parameters_at (rules l.self.height) (suc (length (here l.self.source l.fn.c).0)) (here l.self.source l.fn.c));
+  reads : behind l.all.trees (more_parameters_at (rules l.self.height) l.left (here l.self.source l.c)) ≡ behind
+      l.fn.first.trees (more_parameters_at (rules l.self.height) (suc (length (here l.self.source l.fn.c).0))
+      (here l.self.source l.fn.c));
   low : l.all.height ≤ l.self.height;
   fixed : l.all.variadic ≡ false;
 }

@@ -5,7 +5,9 @@ use Rattle.c_exprs.proofs.below.Below.specifiers.Given as goal
 
 abbrev pub invariant-specifiers : goal.invariant-specifiers
 invariant-specifiers g l = record {
-  reads : after l.all.trees (specifiers_at (rules l.self.height) l.left l.typed (here l.self.source l.c)) ≡ specifiers_at (rules l.self.height) (suc (length (here l.self.source l.fn.c).0)) false (here l.self.source l.fn.c);
+  reads : after l.all.trees (specifiers_at (rules l.self.height) l.left l.typed (here l.self.source l.c)) ≡
+      specifiers_at (rules l.self.height) (suc (length (here l.self.source l.fn.c).0)) false
+      (here l.self.source l.fn.c);
   low : l.all.height ≤ l.self.height;
 }
 

@@ -5,37 +5,72 @@ use Rattle.c_exprs.specs.Cursor.{here}
 use Rattle.c_exprs.proofs.Suffixing.{suffixes_go, suffixes_high, suffixes_fail, suffixes_stop, suffixes_out}
 use Rattle.c_exprs.proofs.below.Below.suffixes.Goals as goal
 
-pub returns-then-not-is_suffixed-clause-reads : goal.returns-then-not-is_suffixed-clause-reads
-returns-then-not-is_suffixed-clause-reads g c =
-    let s = here c.args.self.now.source c.suffixes.c in
+pub returns-then-not-is_suffixed : goal.returns-then-not-is_suffixed
+returns-then-not-is_suffixed g c =
+    let r = spec.rules c.args.self.now.height in
+    let source = c.args.self.now.source in
+    let l = c.suffixes in
+    let s = here source l.c in
     let none : spec.suffixed s.0 ≡ false = search rules in
-    suffixes_stop (spec.rules c.args.self.now.height) (c.suffixes.left - 1) c.suffixes.left (suc c.args.self.now.height) c.args.place c.suffixes.all.tree s _ (omega arith) none c.suffixes.invariant.reads
+    record {
+      reads = suffixes_stop r (l.left - 1) l.left (suc c.args.self.now.height) c.args.place l.all.tree s _
+          (omega arith) none l.invariant.reads;
+      low = l.invariant.low;
+    }
 
-pub returns-in_err-all-clause-reads : goal.returns-in_err-all-clause-reads
-returns-in_err-all-clause-reads g c =
-    let s = here c.args.self.now.source c.suffixes.c in
+pub returns-in_err-all : goal.returns-in_err-all
+returns-in_err-all g c =
+    let r = spec.rules c.args.self.now.height in
+    let source = c.args.self.now.source in
+    let l = c.suffixes in
+    let s = here source l.c in
     let goes : spec.suffixed s.0 ≡ true = search rules in
     let p = err_from_is_err_and c.from_residual.result c.from_residual.ensures.1 in
-    rw (p.1, p.2) (suffixes_fail (spec.rules c.args.self.now.height) (c.suffixes.left - 1) c.suffixes.left (suc c.args.self.now.height) c.args.place c.suffixes.all.tree s _ _ (omega arith) goes c.in_err-all.ensures.reads c.suffixes.invariant.reads)
+    record {
+      reads = rw (p.1, p.2) (suffixes_fail r (l.left - 1) l.left (suc c.args.self.now.height) c.args.place
+          l.all.tree s _ _ (omega arith) goes c.in_err-all.ensures.reads l.invariant.reads);
+      low = rw p.1 tt;
+    }
 
-pub returns-then-all-self-clause-reads : goal.returns-then-all-self-clause-reads
-returns-then-all-self-clause-reads g c =
-    let s = here c.args.self.now.source c.suffixes.c in
-    let z = here c.args.self.now.source c.suffix.new.c in
+pub returns-then-all-self : goal.returns-then-all-self
+returns-then-all-self g c =
+    let r = spec.rules c.args.self.now.height in
+    let source = c.args.self.now.source in
+    let l = c.suffixes in
+    let s = here source l.c in
+    let z = here source c.suffix.new.c in
     let goes : spec.suffixed s.0 ≡ true = search rules in
     let high : suc c.args.self.now.height < c.in_ok-all.all.height = omega (arith, c.if-all-self.true) in
-    suffixes_high (spec.rules c.args.self.now.height) (c.suffixes.left - 1) c.suffixes.left (suc c.args.self.now.height) c.in_ok-all.all.height c.args.place c.suffixes.all.tree c.in_ok-all.all.tree s z _ (omega arith) goes c.in_ok-all.ensures.reads c.in_ok-all.all.height_is high c.suffixes.invariant.reads
+    record {
+      reads = suffixes_high r (l.left - 1) l.left (suc c.args.self.now.height) c.in_ok-all.all.height
+          c.args.place l.all.tree c.in_ok-all.all.tree s z _ (omega arith) goes c.in_ok-all.ensures.reads
+          c.in_ok-all.all.height_is high l.invariant.reads;
+      low = tt;
+    }
 
 pub suffixes-preserved : goal.suffixes-preserved
 suffixes-preserved g c =
-    let s = here c.args.self.now.source c.suffixes.c in
-    let z = here c.args.self.now.source c.suffix.new.c in
+    let r = spec.rules c.args.self.now.height in
+    let source = c.args.self.now.source in
+    let l = c.suffixes in
+    let s = here source l.c in
+    let z = here source c.suffix.new.c in
     let goes : spec.suffixed s.0 ≡ true = search rules in
     let low : c.in_ok-all.all.height ≤ suc c.args.self.now.height = omega (arith, c.if-all-self.false) in
     record {
-      reads = suffixes_go (spec.rules c.args.self.now.height) (c.suffixes.left - 1) c.suffixes.left (suc c.args.self.now.height) c.in_ok-all.all.height c.args.place c.suffixes.all.tree c.in_ok-all.all.tree s z _ (omega arith) goes c.in_ok-all.ensures.reads c.in_ok-all.all.height_is low c.suffixes.invariant.reads;
+      reads = suffixes_go r (l.left - 1) l.left (suc c.args.self.now.height) c.in_ok-all.all.height c.args.place
+          l.all.tree c.in_ok-all.all.tree s z _ (omega arith) goes c.in_ok-all.ensures.reads
+          c.in_ok-all.all.height_is low l.invariant.reads;
       low = omega (arith, low);
     }
 
-pub returns-clause-reads : goal.returns-clause-reads
-returns-clause-reads g c = suffixes_out (spec.rules c.args.self.now.height) c.suffixes.left (suc c.args.self.now.height) c.args.place c.suffixes.all.tree (here c.args.self.now.source c.suffixes.c) _ (omega arith) c.suffixes.invariant.reads
+pub returns : goal.returns
+returns g c =
+    let r = spec.rules c.args.self.now.height in
+    let source = c.args.self.now.source in
+    let l = c.suffixes in
+    record {
+      reads = suffixes_out r l.left (suc c.args.self.now.height) c.args.place l.all.tree (here source l.c) _
+          (omega arith) l.invariant.reads;
+      low = tt;
+    }
