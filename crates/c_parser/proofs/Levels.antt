@@ -8,6 +8,7 @@ pub at_zero : (height rank : ℕ) (s : State) → height ≡ 0 → stmt_at heigh
 unfolding stmt_at
 at_zero height rank s e = rw e refl
 
-pub above : (m height rank : ℕ) (s : State) → height ≡ suc m → stmt_at height rank s ≡ stmt_by (stmt_at m) (rules m) (initializer_at m) rank s
+pub above : (m height rank : ℕ) (s : State) → height ≡ suc m
+    → stmt_at height rank s ≡ stmt_by (stmt_at m) (rules m) (initializer_at m) rank s
 unfolding stmt_at
 above m height rank s e = rw e refl

@@ -21,3 +21,6 @@ pub is_refused : (tokens : List Token) (f : ParseFault) → Fails f (read_unit t
 is_refused tokens fault.Memory none = tt
 is_refused tokens (fault.Syntax k) none = λ xs d. unit_none tokens xs none d
 is_refused tokens (fault.TooDeep k) none = λ xs d. unit_none tokens xs none d
+
+-- what a unit that was read, or none, says of the grammar
+pub ruleset says = (is_derived, is_only, is_refused)

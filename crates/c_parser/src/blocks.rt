@@ -1,12 +1,13 @@
 //! Labels and blocks (C99 6.8.1, 6.8.2), and statements that stand in others.
-ghost use Rattle.std.specs.Prelude.{◌≡◌, ◌≤◌, length, suc};
+ghost use Rattle.std.specs.Prelude.{◌≤◌, length, suc};
 ghost use Rattle.c_grammar.specs.Reading.{rules};
 ghost use Rattle.c_grammar.specs.UnitReading as spec;
 ghost use Rattle.c_grammar.specs.UnitReading.{stmt_at};
-ghost use Rattle.c_exprs.specs.Cursor.{here, Gives};
+ghost use Rattle.c_exprs.specs.Reads.{Reads};
 ghost use Rattle.c_parser.specs.Turns.{ReachesStatement};
 
 use crate::scopes::leave;
+use crate::shared::expr;
 use crate::turns::Turns;
 use c_exprs::{Cursor, ParseFault};
 use c_lexer::{Keyword, Punctuator, Token};
@@ -19,10 +20,11 @@ impl<
     'a,
     T: Fn(Global, &[Token], &FileNames, &mut Cursor, u32, u32) -> Result<Stmt, ParseFault>,
 > Turns<'a, T> {
-    /// Statements and declarations up to `}`.
+    /// `[ block-item-list ]` (C99 6.8.2): statements and declarations up to `}`.
     pub fn block_items(&self, c: &mut Cursor) -> Result<Items<Shared<Stmt>>, ParseFault>
-        requires reaches { ReachesStatement self.now.trees.source self.now.trees.height (T.pre self.now.statement) (T.post self.now.statement) }
-        ensures { Gives (λ xs. (xs, here self.now.trees.source c.new)) result (spec.block_items_at (stmt_at self.now.trees.height) (suc (length (here self.now.trees.source c.old).0)) (here self.now.trees.source c.old)) }
+        requires reaches { ReachesStatement T.Fn self.now }
+        ensures { Reads (λ xs. xs) self.now.trees.source c.old c.new result
+            (λ s. spec.block_items_at (stmt_at self.now.trees.height) (suc (length s.0)) s) }
     {
         let mut all = Items::new(self.trees.alloc);
         let mut left = self.trees.source.turns(c);
@@ -38,11 +40,12 @@ impl<
         Err(ParseFault::Syntax(c.position))
     }
 
-    /// After `{`.
+    /// `compound-statement: { [ block-item-list ] }` (C99 6.8.2), behind `{`.
     #[tactic(auto, unfolding(c_grammar::specs::UnitReading::block_at))]
     pub fn block(&self, c: &mut Cursor, at: u32) -> Result<Stmt, ParseFault>
-        requires reaches { ReachesStatement self.now.trees.source self.now.trees.height (T.pre self.now.statement) (T.post self.now.statement) }
-        ensures { Gives (λ x. (x, here self.now.trees.source c.new)) result (spec.block_at (stmt_at self.now.trees.height) at (here self.now.trees.source c.old)) }
+        requires reaches { ReachesStatement T.Fn self.now }
+        ensures { Reads (λ x. x) self.now.trees.source c.old c.new result
+            (spec.block_at (stmt_at self.now.trees.height) at) }
     {
         self.trees.source.enter(c)?;
         let items = self.block_items(c)?;
@@ -51,11 +54,12 @@ impl<
         Ok(Stmt::Block { at, items })
     }
 
-    /// A name, `:` and a statement.
+    /// `labeled-statement: identifier : statement` (C99 6.8.1).
     #[tactic(auto, unfolding(c_grammar::specs::UnitReading::label_at))]
     pub fn label(&self, c: &mut Cursor) -> Result<Stmt, ParseFault>
-        requires reaches { ReachesStatement self.now.trees.source self.now.trees.height (T.pre self.now.statement) (T.post self.now.statement) }
-        ensures { Gives (λ x. (x, here self.now.trees.source c.new)) result (spec.label_at (stmt_at self.now.trees.height) (here self.now.trees.source c.old)) }
+        requires reaches { ReachesStatement T.Fn self.now }
+        ensures { Reads (λ x. x) self.now.trees.source c.old c.new result
+            (spec.label_at (stmt_at self.now.trees.height)) }
     {
         let (name, at) = self.trees.source.name(c)?;
         self.trees.source.expect(c, Punctuator::Colon)?;
@@ -64,29 +68,27 @@ impl<
         Ok(Stmt::Label { at, name, body })
     }
 
-    /// After `case`.
+    /// `labeled-statement: case constant-expression : statement` (C99 6.8.1), behind `case`.
     #[tactic(auto, unfolding(c_grammar::specs::UnitReading::case_at))]
     pub fn case(&self, c: &mut Cursor, at: u32) -> Result<Stmt, ParseFault>
-        requires reaches { ReachesStatement self.now.trees.source self.now.trees.height (T.pre self.now.statement) (T.post self.now.statement) }
+        requires reaches { ReachesStatement T.Fn self.now }
         requires small { self.now.trees.height ≤ 256 }
-        ensures { Gives (λ x. (x, here self.now.trees.source c.new)) result (spec.case_at (stmt_at self.now.trees.height) (rules self.now.trees.height) at (here self.now.trees.source c.old)) }
+        ensures { Reads (λ x. x) self.now.trees.source c.old c.new result
+            (spec.case_at (stmt_at self.now.trees.height) (rules self.now.trees.height) at) }
     {
-        let value = self.trees.expr(c, 14)?;
+        let value = expr(&self.trees, c, 14)?;
         self.trees.source.expect(c, Punctuator::Colon)?;
         let body = self.statement(c, 0)?;
         let body = Shared::new(self.trees.alloc, body)?;
-        Ok(Stmt::Case {
-            at,
-            value: value.tree,
-            body,
-        })
+        Ok(Stmt::Case { at, value, body })
     }
 
-    /// After `default`.
+    /// `labeled-statement: default : statement` (C99 6.8.1), behind `default`.
     #[tactic(auto, unfolding(c_grammar::specs::UnitReading::default_at))]
     pub fn default(&self, c: &mut Cursor, at: u32) -> Result<Stmt, ParseFault>
-        requires reaches { ReachesStatement self.now.trees.source self.now.trees.height (T.pre self.now.statement) (T.post self.now.statement) }
-        ensures { Gives (λ x. (x, here self.now.trees.source c.new)) result (spec.default_at (stmt_at self.now.trees.height) at (here self.now.trees.source c.old)) }
+        requires reaches { ReachesStatement T.Fn self.now }
+        ensures { Reads (λ x. x) self.now.trees.source c.old c.new result
+            (spec.default_at (stmt_at self.now.trees.height) at) }
     {
         self.trees.source.expect(c, Punctuator::Colon)?;
         let body = self.statement(c, 0)?;
@@ -94,11 +96,12 @@ impl<
         Ok(Stmt::Default { at, body })
     }
 
-    /// A statement that is a block by itself (C99 6.8.4, 6.8.5).
+    /// `statement` that is a block by itself (C99 6.8.4, 6.8.5).
     #[tactic(auto, unfolding(c_grammar::specs::UnitReading::substatement_at))]
     pub fn substatement(&self, c: &mut Cursor) -> Result<Shared<Stmt>, ParseFault>
-        requires reaches { ReachesStatement self.now.trees.source self.now.trees.height (T.pre self.now.statement) (T.post self.now.statement) }
-        ensures { Gives (λ x. (x, here self.now.trees.source c.new)) result (spec.substatement_at (stmt_at self.now.trees.height) (here self.now.trees.source c.old)) }
+        requires reaches { ReachesStatement T.Fn self.now }
+        ensures { Reads (λ x. x) self.now.trees.source c.old c.new result
+            (spec.substatement_at (stmt_at self.now.trees.height)) }
     {
         self.trees.source.enter(c)?;
         let body = self.statement(c, 0)?;
@@ -106,11 +109,12 @@ impl<
         Ok(Shared::new(self.trees.alloc, body)?)
     }
 
-    /// `else` and a statement, where `else` comes next.
+    /// `[ else statement ]` (C99 6.8.4.1).
     #[tactic(auto, unfolding(c_grammar::specs::UnitReading::else_at))]
     pub fn negative(&self, c: &mut Cursor) -> Result<Option<Shared<Stmt>>, ParseFault>
-        requires reaches { ReachesStatement self.now.trees.source self.now.trees.height (T.pre self.now.statement) (T.post self.now.statement) }
-        ensures { Gives (λ x. (x, here self.now.trees.source c.new)) result (spec.else_at (stmt_at self.now.trees.height) (here self.now.trees.source c.old)) }
+        requires reaches { ReachesStatement T.Fn self.now }
+        ensures { Reads (λ x. x) self.now.trees.source c.old c.new result
+            (spec.else_at (stmt_at self.now.trees.height)) }
     {
         if !self.trees.source.begins_keyword(c, Keyword::Else) {
             return Ok(None);

@@ -1,8 +1,9 @@
 //! Function bodies (C99 6.9.1).
-ghost use Rattle.std.specs.Prelude.{◌≡◌, ◌≤◌, Some, drop, take, length};
+ghost use Rattle.std.specs.Prelude.{◌≡◌, ◌≤◌, Some, drop, take, length, IfOk};
 ghost use Rattle.c_grammar.specs.UnitReading as spec;
 ghost use Rattle.c_scope.specs.Local.{scope_of};
-ghost use Rattle.c_exprs.specs.Cursor.{here, state_of, Gives};
+ghost use Rattle.c_exprs.specs.Cursor.{state_of, Gives};
+ghost use Rattle.c_exprs.specs.Reads.{Reads};
 ghost use Rattle.c_parser.specs.Bodies.{body_of, found_by, unread_by};
 
 use crate::groups::{Extent, group};
@@ -11,7 +12,8 @@ use c_exprs::{Cursor, ParseFault, Source};
 use c_lexer::Token;
 use c_scope::{FileNames, Names};
 use c_tree::{Body, Stmt};
-use std::alloc::Global;
+use plain_data::Shared;
+use std::alloc::{AllocError, Global};
 
 /// The tokens from a position on.
 fn rest(tokens: &[Token], position: usize) -> &[Token]
@@ -52,15 +54,16 @@ pub fn is_at_end(tokens: &[Token], c: &Cursor) -> bool
     }
 }
 
-/// A block as a body, where it is the whole of its brace group.
-fn found(block: Stmt, is_whole: bool, at: u32) -> Body
-    ensures { result ≡ found_by is_whole block at }
+/// A block as a body, where it is the whole of its brace group. It fails for want of memory alone.
+fn found(alloc: Global, block: Stmt, is_whole: bool, at: u32) -> Result<Body, AllocError>
+    ensures { IfOk result (λ body. body ≡ found_by is_whole block at) }
 {
     if is_whole {
-        Body::Read { block }
+        let block = Shared::new(alloc, block)?;
+        Ok(Body::Read { block })
     } else {
         drop(block);
-        Body::Unread { at }
+        Ok(Body::Unread { at })
     }
 }
 
@@ -83,10 +86,11 @@ fn read_block(
     c: &mut Cursor,
     at: u32,
 ) -> Result<Body, ParseFault>
-    ensures { Gives (λ body. body) result (Some (body_of at (spec.stmt_at 256 0 (state_of group.now file.now c.old)))) }
+    ensures { Gives (λ body. body) result
+        (Some (body_of at (spec.stmt_at 256 0 (state_of group.now file.now c.old)))) }
 {
     match statement(alloc, group, file, c, 256, 0) {
-        Ok(block) => Ok(found(block, is_at_end(group, c), at)),
+        Ok(block) => Ok(found(alloc, block, is_at_end(group, c), at)?),
         Err(fault) => unread(fault, at),
     }
 }
@@ -98,16 +102,18 @@ fn read_group(
     file: &FileNames,
     names: Names,
 ) -> Result<Body, ParseFault>
-    ensures { Gives (λ body. body) result (Some (body_of (spec.start_of group.now) (spec.stmt_at 256 0 (group.now, scope_of file.now names)))) }
+    ensures { Gives (λ body. body) result
+        (Some (body_of (spec.start_of group.now) (spec.stmt_at 256 0 (group.now, scope_of file.now names)))) }
 {
     let mut c = Cursor { position: 0, names };
     read_block(alloc, group, file, &mut c, start_of(group))
 }
 
-/// The body of a function, in which its parameters are in scope. What it declares isn't in scope behind it.
+/// `function-definition: declaration-specifiers declarator compound-statement` (C99 6.9.1), behind the declarator: the
+/// body, in which the function's parameters are in scope. What it declares isn't in scope behind it.
 #[tactic(auto, unfolding(c_grammar::specs::UnitReading::body_at, crate::specs::Bodies::body_of))]
 pub fn body(alloc: Global, source: &Source<'_>, c: &mut Cursor) -> Result<Body, ParseFault>
-    ensures { Gives (λ body. (body, here source.now c.new)) result (spec.body_at (here source.now c.old)) }
+    ensures { Reads (λ body. body) source.now c.old c.new result spec.body_at }
 {
     let rest = rest(source.tokens, c.position);
     match group(alloc, rest)? {

@@ -1,9 +1,9 @@
 //! Selection and iteration statements (C99 6.8.4, 6.8.5).
-ghost use Rattle.std.specs.Prelude.{◌≡◌, ◌≤◌};
+ghost use Rattle.std.specs.Prelude.{◌≤◌};
 ghost use Rattle.c_grammar.specs.Reading.{rules};
 ghost use Rattle.c_grammar.specs.UnitReading as spec;
 ghost use Rattle.c_grammar.specs.UnitReading.{stmt_at};
-ghost use Rattle.c_exprs.specs.Cursor.{here, Gives};
+ghost use Rattle.c_exprs.specs.Reads.{Reads};
 ghost use Rattle.c_parser.specs.Control.{branches_at};
 ghost use Rattle.c_parser.specs.Turns.{ReachesStatement};
 
@@ -21,23 +21,25 @@ impl<
     'a,
     T: Fn(Global, &[Token], &FileNames, &mut Cursor, u32, u32) -> Result<Stmt, ParseFault>,
 > Turns<'a, T> {
-    /// The branches of an `if` statement.
+    /// `statement [ else statement ]` (C99 6.8.4.1): the branches of an `if` statement.
     #[tactic(auto, unfolding(crate::specs::Control::branches_at))]
     fn branches(&self, c: &mut Cursor) -> Result<(Shared<Stmt>, Option<Shared<Stmt>>), ParseFault>
-        requires reaches { ReachesStatement self.now.trees.source self.now.trees.height (T.pre self.now.statement) (T.post self.now.statement) }
-        ensures { Gives (λ x. (x, here self.now.trees.source c.new)) result (branches_at (stmt_at self.now.trees.height) (here self.now.trees.source c.old)) }
+        requires reaches { ReachesStatement T.Fn self.now }
+        ensures { Reads (λ x. x) self.now.trees.source c.old c.new result
+            (branches_at (stmt_at self.now.trees.height)) }
     {
         let positive = self.substatement(c)?;
         let negative = self.negative(c)?;
         Ok((positive, negative))
     }
 
-    /// After `if`.
+    /// `selection-statement: if ( expression ) statement [ else statement ]` (C99 6.8.4), behind `if`.
     #[tactic(auto, using(crate::proofs::Splits::if_is))]
     pub fn selection(&self, c: &mut Cursor, at: u32) -> Result<Stmt, ParseFault>
-        requires reaches { ReachesStatement self.now.trees.source self.now.trees.height (T.pre self.now.statement) (T.post self.now.statement) }
+        requires reaches { ReachesStatement T.Fn self.now }
         requires small { self.now.trees.height ≤ 256 }
-        ensures { Gives (λ x. (x, here self.now.trees.source c.new)) result (spec.if_at (stmt_at self.now.trees.height) (rules self.now.trees.height) at (here self.now.trees.source c.old)) }
+        ensures { Reads (λ x. x) self.now.trees.source c.old c.new result
+            (spec.if_at (stmt_at self.now.trees.height) (rules self.now.trees.height) at) }
     {
         self.trees.source.enter(c)?;
         let condition = condition(&self.trees, c)?;
@@ -51,12 +53,13 @@ impl<
         })
     }
 
-    /// After `switch`.
+    /// `selection-statement: switch ( expression ) statement` (C99 6.8.4), behind `switch`.
     #[tactic(auto, unfolding(c_grammar::specs::UnitReading::switch_at))]
     pub fn switch(&self, c: &mut Cursor, at: u32) -> Result<Stmt, ParseFault>
-        requires reaches { ReachesStatement self.now.trees.source self.now.trees.height (T.pre self.now.statement) (T.post self.now.statement) }
+        requires reaches { ReachesStatement T.Fn self.now }
         requires small { self.now.trees.height ≤ 256 }
-        ensures { Gives (λ x. (x, here self.now.trees.source c.new)) result (spec.switch_at (stmt_at self.now.trees.height) (rules self.now.trees.height) at (here self.now.trees.source c.old)) }
+        ensures { Reads (λ x. x) self.now.trees.source c.old c.new result
+            (spec.switch_at (stmt_at self.now.trees.height) (rules self.now.trees.height) at) }
     {
         self.trees.source.enter(c)?;
         let value = condition(&self.trees, c)?;
@@ -65,12 +68,13 @@ impl<
         Ok(Stmt::Switch { at, value, body })
     }
 
-    /// After `while`.
+    /// `iteration-statement: while ( expression ) statement` (C99 6.8.5), behind `while`.
     #[tactic(auto, unfolding(c_grammar::specs::UnitReading::while_at))]
     pub fn while_loop(&self, c: &mut Cursor, at: u32) -> Result<Stmt, ParseFault>
-        requires reaches { ReachesStatement self.now.trees.source self.now.trees.height (T.pre self.now.statement) (T.post self.now.statement) }
+        requires reaches { ReachesStatement T.Fn self.now }
         requires small { self.now.trees.height ≤ 256 }
-        ensures { Gives (λ x. (x, here self.now.trees.source c.new)) result (spec.while_at (stmt_at self.now.trees.height) (rules self.now.trees.height) at (here self.now.trees.source c.old)) }
+        ensures { Reads (λ x. x) self.now.trees.source c.old c.new result
+            (spec.while_at (stmt_at self.now.trees.height) (rules self.now.trees.height) at) }
     {
         self.trees.source.enter(c)?;
         let condition = condition(&self.trees, c)?;
@@ -83,12 +87,13 @@ impl<
         })
     }
 
-    /// After `do`.
+    /// `iteration-statement: do statement while ( expression ) ;` (C99 6.8.5), behind `do`.
     #[tactic(auto, unfolding(c_grammar::specs::UnitReading::do_at))]
     pub fn do_loop(&self, c: &mut Cursor, at: u32) -> Result<Stmt, ParseFault>
-        requires reaches { ReachesStatement self.now.trees.source self.now.trees.height (T.pre self.now.statement) (T.post self.now.statement) }
+        requires reaches { ReachesStatement T.Fn self.now }
         requires small { self.now.trees.height ≤ 256 }
-        ensures { Gives (λ x. (x, here self.now.trees.source c.new)) result (spec.do_at (stmt_at self.now.trees.height) (rules self.now.trees.height) at (here self.now.trees.source c.old)) }
+        ensures { Reads (λ x. x) self.now.trees.source c.old c.new result
+            (spec.do_at (stmt_at self.now.trees.height) (rules self.now.trees.height) at) }
     {
         self.trees.source.enter(c)?;
         let body = self.substatement(c)?;

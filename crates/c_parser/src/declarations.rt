@@ -4,10 +4,11 @@ ghost use Rattle.c_grammar.specs.Reading.{rules};
 ghost use Rattle.c_grammar.specs.Units as units;
 ghost use Rattle.c_grammar.specs.UnitReading as spec;
 ghost use Rattle.c_grammar.specs.UnitReading.{initializer_at, declaration_at};
-ghost use Rattle.c_exprs.specs.Cursor.{here, after, Gives};
+ghost use Rattle.c_exprs.specs.Cursor.{after};
+ghost use Rattle.c_exprs.specs.Reads.{Reads};
 
 use crate::initializers::initializer;
-use crate::names::{declare, forget};
+use crate::scopes::{declare, forget};
 use bit_words::Bytes;
 use c_exprs::{Cursor, ParseFault, Source, Trees};
 use c_grammar::DeclaratorPlace;
@@ -37,11 +38,11 @@ pub fn makes_types(specifiers: &[Shared<Specifier>]) -> bool
     false
 }
 
-/// A declarator, whose name is then in scope.
+/// `declarator` (C99 6.7.5), whose name is then in scope (C99 6.2.1).
 #[tactic(auto, unfolding(c_grammar::specs::UnitReading::declaring_at))]
 pub fn declaring(trees: &Trees<'_>, c: &mut Cursor, is_type: bool) -> Result<Declarator, ParseFault>
     requires small { trees.now.height ≤ 256 }
-    ensures { Gives (λ d. (d, here trees.now.source c.new)) result (spec.declaring_at (rules trees.now.height) is_type (here trees.now.source c.old)) }
+    ensures { Reads (λ d. d) trees.now.source c.old c.new result (spec.declaring_at (rules trees.now.height) is_type) }
 {
     forget(&trees.source, c);
     let found = trees.declarator(c, DeclaratorPlace::Declaration)?;
@@ -49,14 +50,14 @@ pub fn declaring(trees: &Trees<'_>, c: &mut Cursor, is_type: bool) -> Result<Dec
     Ok(found.tree)
 }
 
-/// The assembler's name, from its keyword on.
+/// `asm ( string-literal { string-literal } )`: the assembler's name, as compilers write it behind a declarator.
 #[tactic(auto, unfolding(c_grammar::specs::UnitReading::assembler_name_at))]
 fn assembler_name(
     alloc: Global,
     source: &Source<'_>,
     c: &mut Cursor,
 ) -> Result<Items<Shared<Bytes>>, ParseFault>
-    ensures { Gives (λ name. (name, here source.now c.new)) result (spec.assembler_name_at (here source.now c.old)) }
+    ensures { Reads (λ name. name) source.now c.old c.new result spec.assembler_name_at }
 {
     source.expect_keyword(c, Keyword::Asm)?;
     source.expect(c, Punctuator::LeftParen)?;
@@ -66,13 +67,13 @@ fn assembler_name(
     Ok(pieces)
 }
 
-/// The pieces of the assembler's name, if one is given.
+/// `[ asm ( string-literal { string-literal } ) ]`: the pieces of the assembler's name, if one is given.
 fn assembler(
     alloc: Global,
     source: &Source<'_>,
     c: &mut Cursor,
 ) -> Result<Items<Shared<Bytes>>, ParseFault>
-    ensures { Gives (λ name. (name, here source.now c.new)) result (spec.assembler_at (here source.now c.old)) }
+    ensures { Reads (λ name. name) source.now c.old c.new result spec.assembler_at }
 {
     if source.begins_keyword(c, Keyword::Asm) {
         return assembler_name(alloc, source, c);
@@ -80,11 +81,12 @@ fn assembler(
     Ok(Items::new(alloc))
 }
 
-/// The initializer behind `=`, if there is one.
+/// `[ = initializer ]` (C99 6.7).
 #[tactic(auto, unfolding(c_grammar::specs::UnitReading::initialized_at))]
 fn initialized(trees: &Trees<'_>, c: &mut Cursor) -> Result<Option<Initializer>, ParseFault>
     requires small { trees.now.height ≤ 256 }
-    ensures { Gives (λ x. (x, here trees.now.source c.new)) result (spec.initialized_at (initializer_at trees.now.height) (here trees.now.source c.old)) }
+    ensures { Reads (λ x. x) trees.now.source c.old c.new result
+        (spec.initialized_at (initializer_at trees.now.height)) }
 {
     if !trees.source.begins(c, Punctuator::Equal) {
         return Ok(None);
@@ -100,7 +102,7 @@ fn initialized(trees: &Trees<'_>, c: &mut Cursor) -> Result<Option<Initializer>,
     Ok(Some(value))
 }
 
-/// What follows a declarator.
+/// `init-declarator: declarator [ = initializer ]` (C99 6.7), behind the declarator.
 #[tactic(auto, unfolding(c_grammar::specs::UnitReading::rest_at))]
 fn rest(
     trees: &Trees<'_>,
@@ -108,7 +110,8 @@ fn rest(
     declarator: Declarator,
 ) -> Result<InitDeclarator, ParseFault>
     requires small { trees.now.height ≤ 256 }
-    ensures { Gives (λ x. (x, here trees.now.source c.new)) result (spec.rest_at (initializer_at trees.now.height) declarator (here trees.now.source c.old)) }
+    ensures { Reads (λ x. x) trees.now.source c.old c.new result
+        (spec.rest_at (initializer_at trees.now.height) declarator) }
 {
     let assembler_name = assembler(trees.alloc, &trees.source, c)?;
     let initializer = initialized(trees, c)?;
@@ -119,17 +122,19 @@ fn rest(
     })
 }
 
-/// A declarator, and what follows it.
+/// `init-declarator: declarator [ = initializer ]` (C99 6.7).
 #[tactic(auto, unfolding(c_grammar::specs::UnitReading::init_at))]
 fn init(trees: &Trees<'_>, c: &mut Cursor, is_type: bool) -> Result<InitDeclarator, ParseFault>
     requires small { trees.now.height ≤ 256 }
-    ensures { Gives (λ x. (x, here trees.now.source c.new)) result (spec.init_at (rules trees.now.height) (initializer_at trees.now.height) is_type (here trees.now.source c.old)) }
+    ensures { Reads (λ x. x) trees.now.source c.old c.new result
+        (spec.init_at (rules trees.now.height) (initializer_at trees.now.height) is_type) }
 {
     let declarator = declaring(trees, c, is_type)?;
     rest(trees, c, declarator)
 }
 
-/// These declarators, and those behind a comma.
+/// `init-declarator-list: init-declarator { , init-declarator }` (C99 6.7), behind the first: these declarators, and
+/// those behind a comma.
 fn more_inits(
     trees: &Trees<'_>,
     c: &mut Cursor,
@@ -137,7 +142,9 @@ fn more_inits(
     first: Items<InitDeclarator>,
 ) -> Result<Items<InitDeclarator>, ParseFault>
     requires small { trees.now.height ≤ 256 }
-    ensures { Gives (λ xs. (xs, here trees.now.source c.new)) result (after first (spec.more_inits_at (rules trees.now.height) (initializer_at trees.now.height) is_type (suc (length (here trees.now.source c.old).0)) (here trees.now.source c.old))) }
+    ensures { Reads (λ xs. xs) trees.now.source c.old c.new result
+        (λ s. after first (spec.more_inits_at (rules trees.now.height) (initializer_at trees.now.height) is_type
+        (suc (length s.0)) s)) }
 {
     let mut all = first;
     let mut left = trees.source.turns(c);
@@ -153,7 +160,7 @@ fn more_inits(
     Err(ParseFault::Syntax(c.position))
 }
 
-/// A declaration whose specifiers and first declarator were read.
+/// `declaration: declaration-specifiers init-declarator-list ;` (C99 6.7), behind its first declarator.
 #[tactic(auto, unfolding(c_grammar::specs::UnitReading::declaration_behind_at))]
 pub fn declaration_behind(
     trees: &Trees<'_>,
@@ -162,7 +169,8 @@ pub fn declaration_behind(
     declarator: Declarator,
 ) -> Result<Declaration, ParseFault>
     requires small { trees.now.height ≤ 256 }
-    ensures { Gives (λ d. (d, here trees.now.source c.new)) result (spec.declaration_behind_at (rules trees.now.height) (initializer_at trees.now.height) specifiers declarator (here trees.now.source c.old)) }
+    ensures { Reads (λ d. d) trees.now.source c.old c.new result
+        (spec.declaration_behind_at (rules trees.now.height) (initializer_at trees.now.height) specifiers declarator) }
 {
     let is_type = makes_types(specifiers.as_slice());
     let mut declarators = Items::new(trees.alloc);
@@ -175,11 +183,12 @@ pub fn declaration_behind(
     })
 }
 
-/// A declaration.
+/// `declaration: declaration-specifiers [ init-declarator-list ] ;` (C99 6.7).
 #[tactic(auto, unfolding(c_grammar::specs::UnitReading::declaration_at))]
 pub fn declaration(trees: &Trees<'_>, c: &mut Cursor) -> Result<Declaration, ParseFault>
     requires small { trees.now.height ≤ 256 }
-    ensures { Gives (λ d. (d, here trees.now.source c.new)) result (declaration_at (rules trees.now.height) (initializer_at trees.now.height) (here trees.now.source c.old)) }
+    ensures { Reads (λ d. d) trees.now.source c.old c.new result
+        (declaration_at (rules trees.now.height) (initializer_at trees.now.height)) }
 {
     let specifiers = trees.specification(c)?.trees;
     if trees.source.begins(c, Punctuator::Semicolon) {

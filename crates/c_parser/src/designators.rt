@@ -2,8 +2,10 @@
 ghost use Rattle.std.specs.Prelude.{◌≡◌, ◌≤◌, length, suc};
 ghost use Rattle.c_grammar.specs.Reading.{rules};
 ghost use Rattle.c_grammar.specs.UnitReading as spec;
-ghost use Rattle.c_exprs.specs.Cursor.{here, Gives};
+ghost use Rattle.c_exprs.specs.Cursor.{here};
+ghost use Rattle.c_exprs.specs.Reads.{Reads};
 
+use crate::shared::expr;
 use c_exprs::{Cursor, ParseFault, Source, Trees};
 use c_lexer::{Punctuator, TokenKind};
 use c_tree::Designator;
@@ -32,32 +34,32 @@ pub fn is_designated(source: &Source<'_>, c: &Cursor) -> bool
     }
 }
 
-/// A member's designator, after `.`.
+/// `designator: . identifier` (C99 6.7.8), behind `.`.
 #[tactic(auto, unfolding(c_grammar::specs::UnitReading::member_designator_at))]
 fn member(source: &Source<'_>, c: &mut Cursor, at: u32) -> Result<Designator, ParseFault>
-    ensures { Gives (λ d. (d, here source.now c.new)) result (spec.member_designator_at at (here source.now c.old)) }
+    ensures { Reads (λ d. d) source.now c.old c.new result (spec.member_designator_at at) }
 {
     let (member, _) = source.name(c)?;
     Ok(Designator::Member { at, member })
 }
 
-/// An element's designator, after `[`.
+/// `designator: [ constant-expression ]` (C99 6.7.8), behind `[`.
 #[tactic(auto, unfolding(c_grammar::specs::UnitReading::element_designator_at))]
 fn element(trees: &Trees<'_>, c: &mut Cursor, at: u32) -> Result<Designator, ParseFault>
     requires small { trees.now.height ≤ 256 }
-    ensures { Gives (λ d. (d, here trees.now.source c.new)) result (spec.element_designator_at (rules trees.now.height) at (here trees.now.source c.old)) }
+    ensures { Reads (λ d. d) trees.now.source c.old c.new result
+        (spec.element_designator_at (rules trees.now.height) at) }
 {
-    let index = trees.expr(c, 14)?;
+    let index = expr(trees, c, 14)?;
     trees.source.expect(c, Punctuator::RightBracket)?;
-    Ok(Designator::Element {
-        at,
-        index: index.tree,
-    })
+    Ok(Designator::Element { at, index })
 }
 
+/// `designator: [ constant-expression ] | . identifier` (C99 6.7.8).
 fn designator(trees: &Trees<'_>, c: &mut Cursor) -> Result<Designator, ParseFault>
     requires small { trees.now.height ≤ 256 }
-    ensures { Gives (λ d. (d, here trees.now.source c.new)) result (spec.designator_in (rules trees.now.height) (here trees.now.source c.old).0 (here trees.now.source c.old).1) }
+    ensures { Reads (λ d. d) trees.now.source c.old c.new result
+        (λ s. spec.designator_in (rules trees.now.height) s.0 s.1) }
 {
     match trees.source.tokens.get(c.position) {
         Some(token) => match &token.kind {
@@ -75,10 +77,11 @@ fn designator(trees: &Trees<'_>, c: &mut Cursor) -> Result<Designator, ParseFaul
     }
 }
 
-/// As many designators as there are.
+/// `[ designator-list ]` (C99 6.7.8): as many designators as there are.
 pub fn designators(trees: &Trees<'_>, c: &mut Cursor) -> Result<Items<Designator>, ParseFault>
     requires small { trees.now.height ≤ 256 }
-    ensures { Gives (λ ds. (ds, here trees.now.source c.new)) result (spec.designators_at (rules trees.now.height) (suc (length (here trees.now.source c.old).0)) (here trees.now.source c.old)) }
+    ensures { Reads (λ ds. ds) trees.now.source c.old c.new result
+        (λ s. spec.designators_at (rules trees.now.height) (suc (length s.0)) s) }
 {
     let mut all = Items::new(trees.alloc);
     let mut left = trees.source.turns(c);

@@ -3,7 +3,8 @@ ghost use Rattle.std.specs.Prelude.{◌≡◌, ◌≤◌, drop};
 ghost use Rattle.c_grammar.specs.Reading.{rules};
 ghost use Rattle.c_grammar.specs.UnitReading as spec;
 ghost use Rattle.c_grammar.specs.UnitReading.{stmt_at, initializer_at};
-ghost use Rattle.c_exprs.specs.Cursor.{here, Gives};
+ghost use Rattle.c_exprs.specs.Cursor.{here};
+ghost use Rattle.c_exprs.specs.Reads.{Reads};
 ghost use Rattle.c_parser.specs.Turns.{ReachesStatement};
 
 use crate::declarations::declaration;
@@ -41,11 +42,12 @@ fn is_labelled(source: &Source<'_>, c: &Cursor) -> bool
     }
 }
 
-/// A declaration, where it may stand: at rank 1.
+/// `block-item: declaration` (C99 6.8.2), where it may stand: at rank 1.
 #[tactic(auto, unfolding(c_grammar::specs::UnitReading::declared_statement_at))]
 fn declared(trees: &Trees<'_>, c: &mut Cursor, rank: u32) -> Result<Stmt, ParseFault>
     requires small { trees.now.height ≤ 256 }
-    ensures { Gives (λ x. (x, here trees.now.source c.new)) result (spec.declared_by (rules trees.now.height) (initializer_at trees.now.height) rank (here trees.now.source c.old)) }
+    ensures { Reads (λ x. x) trees.now.source c.old c.new result
+        (spec.declared_by (rules trees.now.height) (initializer_at trees.now.height) rank) }
 {
     if rank < 1 {
         return Err(ParseFault::Syntax(c.position));
@@ -58,8 +60,9 @@ impl<
     'a,
     T: Fn(Global, &[Token], &FileNames, &mut Cursor, u32, u32) -> Result<Stmt, ParseFault>,
 > Turns<'a, T> {
-    /// A statement by the keyword that comes next, or an expression statement; `at` is the keyword's offset, and
-    /// `behind` the number of the token behind it.
+    /// `labeled-statement | selection-statement | iteration-statement | jump-statement` (C99 6.8) by the keyword that
+    /// comes next, or an expression statement; `at` is the keyword's offset, and `behind` the number of the token
+    /// behind it.
     fn worded(
         &self,
         c: &mut Cursor,
@@ -67,9 +70,12 @@ impl<
         at: u32,
         behind: usize,
     ) -> Result<Stmt, ParseFault>
-        requires reaches { ReachesStatement self.now.trees.source self.now.trees.height (T.pre self.now.statement) (T.post self.now.statement) }
+        requires reaches { ReachesStatement T.Fn self.now }
         requires small { self.now.trees.height ≤ 256 }
-        ensures { Gives (λ x. (x, here self.now.trees.source c.new)) result (spec.keyword_statement (stmt_at self.now.trees.height) (rules self.now.trees.height) (initializer_at self.now.trees.height) keyword at (drop behind self.now.trees.source.tokens.now, (here self.now.trees.source c.old).1) (here self.now.trees.source c.old)) }
+        ensures { Reads (λ x. x) self.now.trees.source c.old c.new result
+            (λ s. spec.keyword_statement (stmt_at self.now.trees.height) (rules self.now.trees.height)
+            (initializer_at self.now.trees.height) keyword at
+            (drop behind self.now.trees.source.tokens.now, s.1) s) }
     {
         let whole = c.position;
         c.position = behind;
@@ -92,11 +98,13 @@ impl<
         }
     }
 
-    /// A statement by the token that comes next.
+    /// `statement` (C99 6.8) that no label begins, by the token that comes next.
     fn plain(&self, c: &mut Cursor) -> Result<Stmt, ParseFault>
-        requires reaches { ReachesStatement self.now.trees.source self.now.trees.height (T.pre self.now.statement) (T.post self.now.statement) }
+        requires reaches { ReachesStatement T.Fn self.now }
         requires small { self.now.trees.height ≤ 256 }
-        ensures { Gives (λ x. (x, here self.now.trees.source c.new)) result (spec.plain_in (stmt_at self.now.trees.height) (rules self.now.trees.height) (initializer_at self.now.trees.height) (here self.now.trees.source c.old).0 (here self.now.trees.source c.old).1) }
+        ensures { Reads (λ x. x) self.now.trees.source c.old c.new result
+            (λ s. spec.plain_in (stmt_at self.now.trees.height) (rules self.now.trees.height)
+            (initializer_at self.now.trees.height) s.0 s.1) }
     {
         match self.trees.source.tokens.get(c.position) {
             Some(token) => match &token.kind {
@@ -116,12 +124,15 @@ impl<
         }
     }
 
-    /// A statement of at most the height above that of its parts; at rank 1 a declaration too.
+    /// `statement` (C99 6.8) of at most the height above that of its parts, and at rank 1 `declaration | statement`
+    /// (C99 6.8.2).
     #[tactic(auto, unfolding(c_grammar::specs::UnitReading::stmt_by))]
     pub fn read_statement(&self, c: &mut Cursor, rank: u32) -> Result<Stmt, ParseFault>
-        requires reaches { ReachesStatement self.now.trees.source self.now.trees.height (T.pre self.now.statement) (T.post self.now.statement) }
+        requires reaches { ReachesStatement T.Fn self.now }
         requires small { self.now.trees.height ≤ 256 }
-        ensures { Gives (λ x. (x, here self.now.trees.source c.new)) result (spec.stmt_by (stmt_at self.now.trees.height) (rules self.now.trees.height) (initializer_at self.now.trees.height) rank (here self.now.trees.source c.old)) }
+        ensures { Reads (λ x. x) self.now.trees.source c.old c.new result
+            (spec.stmt_by (stmt_at self.now.trees.height) (rules self.now.trees.height)
+            (initializer_at self.now.trees.height) rank) }
     {
         if is_labelled(&self.trees.source, c) {
             return self.label(c);

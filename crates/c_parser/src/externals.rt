@@ -1,7 +1,8 @@
 //! External declarations (C99 6.9).
 ghost use Rattle.std.specs.Prelude.{◌≡◌, drop, length, suc};
 ghost use Rattle.c_grammar.specs.UnitReading as spec;
-ghost use Rattle.c_exprs.specs.Cursor.{here, state_of, Gives};
+ghost use Rattle.c_exprs.specs.Cursor.{state_of, Gives};
+ghost use Rattle.c_exprs.specs.Reads.{Reads};
 
 use crate::bodies::{body, is_at_end};
 use crate::declarations::{declaration_behind, declaring, makes_types};
@@ -12,7 +13,7 @@ use c_tree::{Declaration, Declarator, External, Specifier};
 use plain_data::{Items, Shared};
 use std::alloc::Global;
 
-/// What follows the first declarator: a function's body, or the rest of a declaration.
+/// `compound-statement | [ = initializer ] { , init-declarator } ;` (C99 6.7, 6.9.1), behind the first declarator.
 fn behind_declarator(
     trees: &Trees<'_>,
     c: &mut Cursor,
@@ -20,7 +21,7 @@ fn behind_declarator(
     declarator: Declarator,
 ) -> Result<External, ParseFault>
     requires whole { trees.now.height ≡ 256 }
-    ensures { Gives (λ x. (x, here trees.now.source c.new)) result (spec.behind_declarator_at specifiers declarator (here trees.now.source c.old)) }
+    ensures { Reads (λ x. x) trees.now.source c.old c.new result (spec.behind_declarator_at specifiers declarator) }
 {
     if trees.source.begins(c, Punctuator::LeftBrace) {
         let body = body(trees.alloc, &trees.source, c)?;
@@ -34,11 +35,11 @@ fn behind_declarator(
     Ok(External::Declared { declaration })
 }
 
-/// A function definition or a declaration.
+/// `external-declaration: function-definition | declaration` (C99 6.9).
 #[tactic(auto, unfolding(c_grammar::specs::UnitReading::declared_external_at))]
 fn declared_external(trees: &Trees<'_>, c: &mut Cursor) -> Result<External, ParseFault>
     requires whole { trees.now.height ≡ 256 }
-    ensures { Gives (λ x. (x, here trees.now.source c.new)) result (spec.declared_external_at (here trees.now.source c.old)) }
+    ensures { Reads (λ x. x) trees.now.source c.old c.new result spec.declared_external_at }
 {
     let specifiers = trees.specification(c)?.trees;
     if trees.source.begins(c, Punctuator::Semicolon) {
@@ -54,10 +55,10 @@ fn declared_external(trees: &Trees<'_>, c: &mut Cursor) -> Result<External, Pars
     behind_declarator(trees, c, specifiers, declarator)
 }
 
-/// An external declaration, or a `;` that stands alone.
+/// `external-declaration: function-definition | declaration` (C99 6.9), or a `;` that stands alone.
 #[tactic(auto, unfolding(c_grammar::specs::UnitReading::external_at))]
 fn external(alloc: Global, source: &Source<'_>, c: &mut Cursor) -> Result<External, ParseFault>
-    ensures { Gives (λ x. (x, here source.now c.new)) result (spec.external_at (here source.now c.old)) }
+    ensures { Reads (λ x. x) source.now c.old c.new result spec.external_at }
 {
     if source.begins(c, Punctuator::Semicolon) {
         let at = source.expect(c, Punctuator::Semicolon)?;
@@ -71,38 +72,34 @@ fn external(alloc: Global, source: &Source<'_>, c: &mut Cursor) -> Result<Extern
     declared_external(&trees, c)
 }
 
-/// The next external declaration. The file takes the names that were declared before it first, so that a body's copy of the
-/// names in scope is small.
+/// The next external declaration. The file takes the names that were declared before it first, so that a body's copy of
+/// the names in scope is small.
 fn next_external(
     alloc: Global,
     tokens: &[Token],
     file: &mut FileNames,
     c: &mut Cursor,
-) -> Result<External, ParseFault>
-    ensures { Gives (λ x. (x, state_of tokens.now file.new c.new)) result (spec.external_at (state_of tokens.now file.old c.old)) }
+) -> Result<Shared<External>, ParseFault>
+    ensures { Gives (λ x. (x, state_of tokens.now file.new c.new)) result
+        (spec.external_at (state_of tokens.now file.old c.old)) }
 {
     file.absorb(&mut c.names)?;
-    external(alloc, &Source { tokens, file }, c)
+    let found = external(alloc, &Source { tokens, file }, c)?;
+    Ok(Shared::new(alloc, found)?)
 }
 
-/// How many tokens are left, and one more.
-fn turns(tokens: &[Token], c: &Cursor) -> usize
-    ensures { result ≡ suc (length (drop c.now.position tokens.now)) }
-{
-    tokens.len().saturating_sub(c.position) + 1
-}
-
-/// External declarations up to the end of the tokens.
+/// `{ external-declaration }` (C99 6.9): external declarations up to the end of the tokens.
 fn externals(
     alloc: Global,
     tokens: &[Token],
     file: &mut FileNames,
     c: &mut Cursor,
-) -> Result<Items<External>, ParseFault>
-    ensures { Gives (λ xs. xs) result (spec.externals_at (suc (length (drop c.old.position tokens.now))) (state_of tokens.now file.old c.old)) }
+) -> Result<Items<Shared<External>>, ParseFault>
+    ensures { Gives (λ xs. xs) result
+        (spec.externals_at (suc (length (drop c.old.position tokens.now))) (state_of tokens.now file.old c.old)) }
 {
     let mut all = Items::new(alloc);
-    let mut left = turns(tokens, c);
+    let mut left = Source { tokens, file }.turns(c);
     'externals: while left > 0 {
         left -= 1;
         if is_at_end(tokens, c) {
@@ -114,8 +111,8 @@ fn externals(
     Err(ParseFault::Syntax(c.position))
 }
 
-/// The external declarations that the tokens of a source are.
-pub fn read_unit(alloc: Global, tokens: &[Token]) -> Result<Items<External>, ParseFault>
+/// `translation-unit: { external-declaration }` (C99 6.9): the external declarations that the tokens of a source are.
+pub fn read_unit(alloc: Global, tokens: &[Token]) -> Result<Items<Shared<External>>, ParseFault>
     ensures { Gives (λ xs. xs) result (spec.read_unit tokens.now) }
 {
     let mut c = Cursor {

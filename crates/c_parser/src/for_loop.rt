@@ -1,9 +1,9 @@
 //! The `for` statement (C99 6.8.5.3).
-ghost use Rattle.std.specs.Prelude.{◌≡◌, ◌≤◌};
+ghost use Rattle.std.specs.Prelude.{◌≤◌};
 ghost use Rattle.c_grammar.specs.Reading.{rules};
 ghost use Rattle.c_grammar.specs.UnitReading as spec;
 ghost use Rattle.c_grammar.specs.UnitReading.{stmt_at, initializer_at};
-ghost use Rattle.c_exprs.specs.Cursor.{here, Gives};
+ghost use Rattle.c_exprs.specs.Reads.{Reads};
 ghost use Rattle.c_parser.specs.Control.{turning_at, heading_at};
 ghost use Rattle.c_parser.specs.Turns.{ReachesStatement};
 
@@ -15,32 +15,36 @@ use c_exprs::{Cursor, ParseFault, Trees};
 use c_lexer::{Punctuator, Token};
 use c_scope::FileNames;
 use c_tree::{Expr, ForStart, Stmt};
+use plain_data::Shared;
 use std::alloc::Global;
 
-/// A declaration that a `for` statement begins with.
+/// `declaration` that a `for` statement begins with (C99 6.8.5).
 #[tactic(auto, unfolding(c_grammar::specs::UnitReading::for_declaration_at))]
 fn declared_start(trees: &Trees<'_>, c: &mut Cursor) -> Result<ForStart, ParseFault>
     requires small { trees.now.height ≤ 256 }
-    ensures { Gives (λ x. (x, here trees.now.source c.new)) result (spec.for_declaration_at (rules trees.now.height) (initializer_at trees.now.height) (here trees.now.source c.old)) }
+    ensures { Reads (λ x. x) trees.now.source c.old c.new result
+        (spec.for_declaration_at (rules trees.now.height) (initializer_at trees.now.height)) }
 {
     let declaration = declaration(trees, c)?;
     Ok(ForStart::Declared { declaration })
 }
 
-/// An expression that a `for` statement begins with, or none, and the `;` behind it.
+/// `[ expression ] ;` that a `for` statement begins with (C99 6.8.5).
 #[tactic(auto, unfolding(c_grammar::specs::UnitReading::for_value_at))]
 fn value_start(trees: &Trees<'_>, c: &mut Cursor) -> Result<ForStart, ParseFault>
     requires small { trees.now.height ≤ 256 }
-    ensures { Gives (λ x. (x, here trees.now.source c.new)) result (spec.for_value_at (rules trees.now.height) (here trees.now.source c.old)) }
+    ensures { Reads (λ x. x) trees.now.source c.old c.new result (spec.for_value_at (rules trees.now.height)) }
 {
     let value = optional(trees, c, Punctuator::Semicolon)?;
     trees.source.expect(c, Punctuator::Semicolon)?;
     Ok(ForStart::Value { value })
 }
 
+/// `declaration | [ expression ] ;` (C99 6.8.5): what a `for` statement begins with.
 fn start(trees: &Trees<'_>, c: &mut Cursor) -> Result<ForStart, ParseFault>
     requires small { trees.now.height ≤ 256 }
-    ensures { Gives (λ x. (x, here trees.now.source c.new)) result (spec.for_start_at (rules trees.now.height) (initializer_at trees.now.height) (here trees.now.source c.old)) }
+    ensures { Reads (λ x. x) trees.now.source c.old c.new result
+        (spec.for_start_at (rules trees.now.height) (initializer_at trees.now.height)) }
 {
     if trees.source.specifies(c, false) {
         declared_start(trees, c)
@@ -49,11 +53,14 @@ fn start(trees: &Trees<'_>, c: &mut Cursor) -> Result<ForStart, ParseFault>
     }
 }
 
-/// The condition and the step, to `)`.
+/// `[ expression ] ; [ expression ] )` (C99 6.8.5): the condition and the step.
 #[tactic(auto, unfolding(crate::specs::Control::turning_at))]
-fn turning(trees: &Trees<'_>, c: &mut Cursor) -> Result<(Option<Expr>, Option<Expr>), ParseFault>
+fn turning(
+    trees: &Trees<'_>,
+    c: &mut Cursor,
+) -> Result<(Option<Shared<Expr>>, Option<Shared<Expr>>), ParseFault>
     requires small { trees.now.height ≤ 256 }
-    ensures { Gives (λ x. (x, here trees.now.source c.new)) result (turning_at (rules trees.now.height) (here trees.now.source c.old)) }
+    ensures { Reads (λ x. x) trees.now.source c.old c.new result (turning_at (rules trees.now.height)) }
 {
     let condition = optional(trees, c, Punctuator::Semicolon)?;
     trees.source.expect(c, Punctuator::Semicolon)?;
@@ -62,14 +69,15 @@ fn turning(trees: &Trees<'_>, c: &mut Cursor) -> Result<(Option<Expr>, Option<Ex
     Ok((condition, step))
 }
 
-/// What stands in parentheses, and these.
+/// `( ( declaration | [ expression ] ; ) [ expression ] ; [ expression ] )` (C99 6.8.5).
 #[tactic(auto, unfolding(crate::specs::Control::heading_at))]
 fn heading(
     trees: &Trees<'_>,
     c: &mut Cursor,
-) -> Result<(ForStart, Option<Expr>, Option<Expr>), ParseFault>
+) -> Result<(ForStart, Option<Shared<Expr>>, Option<Shared<Expr>>), ParseFault>
     requires small { trees.now.height ≤ 256 }
-    ensures { Gives (λ x. (x, here trees.now.source c.new)) result (heading_at (rules trees.now.height) (initializer_at trees.now.height) (here trees.now.source c.old)) }
+    ensures { Reads (λ x. x) trees.now.source c.old c.new result
+        (heading_at (rules trees.now.height) (initializer_at trees.now.height)) }
 {
     trees.source.expect(c, Punctuator::LeftParen)?;
     let start = start(trees, c)?;
@@ -81,12 +89,14 @@ impl<
     'a,
     T: Fn(Global, &[Token], &FileNames, &mut Cursor, u32, u32) -> Result<Stmt, ParseFault>,
 > Turns<'a, T> {
-    /// After `for`.
+    /// `iteration-statement: for ( .. ; .. ; .. ) statement` (C99 6.8.5), behind `for`.
     #[tactic(auto, using(crate::proofs::Splits::for_is))]
     pub fn for_loop(&self, c: &mut Cursor, at: u32) -> Result<Stmt, ParseFault>
-        requires reaches { ReachesStatement self.now.trees.source self.now.trees.height (T.pre self.now.statement) (T.post self.now.statement) }
+        requires reaches { ReachesStatement T.Fn self.now }
         requires small { self.now.trees.height ≤ 256 }
-        ensures { Gives (λ x. (x, here self.now.trees.source c.new)) result (spec.for_at (stmt_at self.now.trees.height) (rules self.now.trees.height) (initializer_at self.now.trees.height) at (here self.now.trees.source c.old)) }
+        ensures { Reads (λ x. x) self.now.trees.source c.old c.new result
+            (spec.for_at (stmt_at self.now.trees.height) (rules self.now.trees.height)
+            (initializer_at self.now.trees.height) at) }
     {
         self.trees.source.enter(c)?;
         let (start, condition, step) = heading(&self.trees, c)?;

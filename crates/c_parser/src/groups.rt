@@ -47,7 +47,7 @@ fn is_closing(kind: &TokenKind) -> bool
 }
 
 /// How many tokens a group has, or how many stand before the one at which its brackets stop matching.
-#[derive(Clone, Copy, Debug, PartialEq, Eq)]
+#[derive(Clone, Copy)]
 pub enum Extent {
     Closed(usize),
     Broken(usize),
@@ -119,7 +119,9 @@ impl Wanted {
 
 /// How far the brace group goes that begins before the tokens. It fails for want of memory alone.
 fn cut(alloc: Global, tokens: &[Token]) -> Result<Extent, AllocError>
-    ensures cut { IfOk result (λ extent. spec.cut tokens.now (mark.RightBrace ∷ []) ≡ parted (closed extent) tokens.now) }
+    ensures cut { IfOk result (λ extent.
+        spec.cut tokens.now (mark.RightBrace ∷ []) ≡ parted (closed extent) tokens.now
+        ) }
     ensures within { IfOk result (λ extent. reach extent ≤ length tokens.now) }
 {
     let mut wanted = Wanted::new(alloc);

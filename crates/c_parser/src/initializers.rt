@@ -1,13 +1,15 @@
-//! Initializers (C99 6.7.8). One level is read by functions to which the reader of the level below is handed in, and the
-//! recursion stands in one place.
-ghost use Rattle.std.specs.Prelude.{◌≡◌, ◌≤◌, length, suc};
+//! Initializers (C99 6.7.8). One level is read by functions to which the reader of the level below is handed in, and
+//! the recursion stands in one place.
+ghost use Rattle.std.specs.Prelude.{◌≤◌, length, suc};
 ghost use Rattle.c_grammar.specs.Reading.{rules};
 ghost use Rattle.c_grammar.specs.UnitReading as spec;
 ghost use Rattle.c_grammar.specs.UnitReading.{initializer_at};
-ghost use Rattle.c_exprs.specs.Cursor.{here, state_of, behind, Gives};
+ghost use Rattle.c_exprs.specs.Cursor.{behind, source_of};
+ghost use Rattle.c_exprs.specs.Reads.{Reads};
 ghost use Rattle.c_parser.specs.Inside.{ReachesInitializer};
 
 use crate::designators::{designators, is_designated};
+use crate::shared::expr;
 use c_exprs::{Cursor, ParseFault, Source, Trees};
 use c_lexer::{Punctuator, Token};
 use c_scope::FileNames;
@@ -15,8 +17,8 @@ use c_tree::{Initializer, InitializerItem};
 use plain_data::{Items, Shared};
 use std::alloc::Global;
 
-/// What reads the parts of an initializer: the trees of at most a height, and a function for the initializers of at most
-/// that height, which is handed the allocator, the tokens, the names of the file, the cursor and the height.
+/// What reads the parts of an initializer: the trees of at most a height, and a function for the initializers of at
+/// most that height, which is handed the allocator, the tokens, the names of the file, the cursor and the height.
 #[derive(Clone, Copy)]
 pub struct Inside<'a, I> {
     pub trees: Trees<'a>,
@@ -34,10 +36,10 @@ impl<
     'a,
     I: Fn(Global, &[Token], &FileNames, &mut Cursor, u32) -> Result<Initializer, ParseFault>,
 > Inside<'a, I> {
-    /// An initializer that stands inside.
+    /// `initializer` (C99 6.7.8) that stands inside, by the function that is handed in.
     pub fn inner(&self, c: &mut Cursor) -> Result<Initializer, ParseFault>
-        requires initializers { ReachesInitializer self.now.trees.source self.now.trees.height (I.pre self.now.initializer) (I.post self.now.initializer) }
-        ensures { Gives (λ x. (x, here self.now.trees.source c.new)) result (initializer_at self.now.trees.height (here self.now.trees.source c.old)) }
+        requires reaches { ReachesInitializer I.Fn self.now }
+        ensures { Reads (λ x. x) self.now.trees.source c.old c.new result (initializer_at self.now.trees.height) }
     {
         (self.initializer)(
             self.trees.alloc,
@@ -48,12 +50,13 @@ impl<
         )
     }
 
-    /// An item with designators.
+    /// `designator-list = initializer` (C99 6.7.8).
     #[tactic(auto, unfolding(c_grammar::specs::UnitReading::designated_item_at))]
     pub fn designated_item(&self, c: &mut Cursor) -> Result<InitializerItem, ParseFault>
-        requires initializers { ReachesInitializer self.now.trees.source self.now.trees.height (I.pre self.now.initializer) (I.post self.now.initializer) }
+        requires reaches { ReachesInitializer I.Fn self.now }
         requires small { self.now.trees.height ≤ 256 }
-        ensures { Gives (λ x. (x, here self.now.trees.source c.new)) result (spec.designated_item_at (rules self.now.trees.height) (initializer_at self.now.trees.height) (here self.now.trees.source c.old)) }
+        ensures { Reads (λ x. x) self.now.trees.source c.old c.new result
+            (spec.designated_item_at (rules self.now.trees.height) (initializer_at self.now.trees.height)) }
     {
         let designators = designators(&self.trees, c)?;
         self.trees.source.expect(c, Punctuator::Equal)?;
@@ -64,11 +67,12 @@ impl<
         })
     }
 
-    /// An item without designators.
+    /// `initializer` (C99 6.7.8) in a list, without designators.
     #[tactic(auto, unfolding(c_grammar::specs::UnitReading::plain_item_at))]
     pub fn plain_item(&self, c: &mut Cursor) -> Result<InitializerItem, ParseFault>
-        requires initializers { ReachesInitializer self.now.trees.source self.now.trees.height (I.pre self.now.initializer) (I.post self.now.initializer) }
-        ensures { Gives (λ x. (x, here self.now.trees.source c.new)) result (spec.plain_item_at (initializer_at self.now.trees.height) (here self.now.trees.source c.old)) }
+        requires reaches { ReachesInitializer I.Fn self.now }
+        ensures { Reads (λ x. x) self.now.trees.source c.old c.new result
+            (spec.plain_item_at (initializer_at self.now.trees.height)) }
     {
         let value = self.inner(c)?;
         Ok(InitializerItem {
@@ -77,11 +81,12 @@ impl<
         })
     }
 
-    /// An item of a braced list.
+    /// `[ designator-list = ] initializer` (C99 6.7.8): an item of a braced list.
     pub fn item(&self, c: &mut Cursor) -> Result<InitializerItem, ParseFault>
-        requires initializers { ReachesInitializer self.now.trees.source self.now.trees.height (I.pre self.now.initializer) (I.post self.now.initializer) }
+        requires reaches { ReachesInitializer I.Fn self.now }
         requires small { self.now.trees.height ≤ 256 }
-        ensures { Gives (λ x. (x, here self.now.trees.source c.new)) result (spec.item_at (rules self.now.trees.height) (initializer_at self.now.trees.height) (here self.now.trees.source c.old)) }
+        ensures { Reads (λ x. x) self.now.trees.source c.old c.new result
+            (spec.item_at (rules self.now.trees.height) (initializer_at self.now.trees.height)) }
     {
         if is_designated(&self.trees.source, c) {
             self.designated_item(c)
@@ -90,15 +95,17 @@ impl<
         }
     }
 
-    /// These items, and those behind a comma.
+    /// `initializer-list: item { , item }` (C99 6.7.8), behind the first: these items, and those behind a comma.
     pub fn more_items(
         &self,
         c: &mut Cursor,
         first: Items<Shared<InitializerItem>>,
     ) -> Result<FoundItems, ParseFault>
-        requires initializers { ReachesInitializer self.now.trees.source self.now.trees.height (I.pre self.now.initializer) (I.post self.now.initializer) }
+        requires reaches { ReachesInitializer I.Fn self.now }
         requires small { self.now.trees.height ≤ 256 }
-        ensures { Gives (λ f. ((f.items, f.trailing), here self.now.trees.source c.new)) result (behind first (spec.more_items_at (rules self.now.trees.height) (initializer_at self.now.trees.height) (suc (length (here self.now.trees.source c.old).0)) (here self.now.trees.source c.old))) }
+        ensures { Reads (λ f. (f.items, f.trailing)) self.now.trees.source c.old c.new result
+            (λ s. behind first (spec.more_items_at (rules self.now.trees.height)
+            (initializer_at self.now.trees.height) (suc (length s.0)) s)) }
     {
         let mut all = first;
         let mut left = self.trees.source.turns(c);
@@ -123,12 +130,13 @@ impl<
         Err(ParseFault::Syntax(c.position))
     }
 
-    /// The items of a braced list, or none.
+    /// `[ initializer-list [ , ] ]` (C99 6.7.8): the items of a braced list, or none.
     #[tactic(auto, unfolding(c_grammar::specs::UnitReading::items_at))]
     pub fn items(&self, c: &mut Cursor) -> Result<FoundItems, ParseFault>
-        requires initializers { ReachesInitializer self.now.trees.source self.now.trees.height (I.pre self.now.initializer) (I.post self.now.initializer) }
+        requires reaches { ReachesInitializer I.Fn self.now }
         requires small { self.now.trees.height ≤ 256 }
-        ensures { Gives (λ f. ((f.items, f.trailing), here self.now.trees.source c.new)) result (spec.items_at (rules self.now.trees.height) (initializer_at self.now.trees.height) (here self.now.trees.source c.old)) }
+        ensures { Reads (λ f. (f.items, f.trailing)) self.now.trees.source c.old c.new result
+            (spec.items_at (rules self.now.trees.height) (initializer_at self.now.trees.height)) }
     {
         let mut all = Items::new(self.trees.alloc);
         if self.trees.source.begins(c, Punctuator::RightBrace) {
@@ -142,12 +150,13 @@ impl<
         self.more_items(c, all)
     }
 
-    /// A braced list.
+    /// `initializer: { [ initializer-list [ , ] ] }` (C99 6.7.8).
     #[tactic(auto, unfolding(c_grammar::specs::UnitReading::initializer_list_at))]
     pub fn list(&self, c: &mut Cursor) -> Result<Initializer, ParseFault>
-        requires initializers { ReachesInitializer self.now.trees.source self.now.trees.height (I.pre self.now.initializer) (I.post self.now.initializer) }
+        requires reaches { ReachesInitializer I.Fn self.now }
         requires small { self.now.trees.height ≤ 256 }
-        ensures { Gives (λ x. (x, here self.now.trees.source c.new)) result (spec.initializer_list_at (rules self.now.trees.height) (initializer_at self.now.trees.height) (here self.now.trees.source c.old)) }
+        ensures { Reads (λ x. x) self.now.trees.source c.old c.new result
+            (spec.initializer_list_at (rules self.now.trees.height) (initializer_at self.now.trees.height)) }
     {
         let at = self.trees.source.expect(c, Punctuator::LeftBrace)?;
         let found = self.items(c)?;
@@ -159,22 +168,24 @@ impl<
         })
     }
 
-    /// An initializer, of at most the height above that of its parts.
+    /// `initializer: assignment-expression | { [ initializer-list [ , ] ] }` (C99 6.7.8), of at most the height above
+    /// that of its parts.
     #[tactic(auto, unfolding(c_grammar::specs::UnitReading::initializer_by))]
     pub fn read(&self, c: &mut Cursor) -> Result<Initializer, ParseFault>
-        requires initializers { ReachesInitializer self.now.trees.source self.now.trees.height (I.pre self.now.initializer) (I.post self.now.initializer) }
+        requires reaches { ReachesInitializer I.Fn self.now }
         requires small { self.now.trees.height ≤ 256 }
-        ensures { Gives (λ x. (x, here self.now.trees.source c.new)) result (spec.initializer_by (rules self.now.trees.height) (initializer_at self.now.trees.height) (here self.now.trees.source c.old)) }
+        ensures { Reads (λ x. x) self.now.trees.source c.old c.new result
+            (spec.initializer_by (rules self.now.trees.height) (initializer_at self.now.trees.height)) }
     {
         if self.trees.source.begins(c, Punctuator::LeftBrace) {
             return self.list(c);
         }
-        let value = self.trees.expr(c, 15)?;
-        Ok(Initializer::Value { value: value.tree })
+        let value = expr(&self.trees, c, 15)?;
+        Ok(Initializer::Value { value })
     }
 }
 
-/// An initializer of at most this height.
+/// `initializer` (C99 6.7.8) of at most this height.
 #[tactic(auto, unfolding(c_grammar::specs::UnitReading::initializer_at))]
 pub fn initializer(
     alloc: Global,
@@ -184,7 +195,7 @@ pub fn initializer(
     height: u32,
 ) -> Result<Initializer, ParseFault>
     requires small { height ≤ 256 }
-    ensures { Gives (λ x. (x, state_of tokens.now file.now c.new)) result (initializer_at height (state_of tokens.now file.now c.old)) }
+    ensures { Reads (λ x. x) (source_of tokens.entry file.entry) c.old c.new result (initializer_at height) }
 {
     if height == 0 {
         return Err(ParseFault::TooDeep(c.position));

@@ -12,10 +12,11 @@ mod for_loop;
 mod groups;
 mod initializers;
 mod jumps;
-mod names;
 mod scopes;
+mod shared;
 mod statements;
 mod turns;
 pub mod unit;
 
 pub use c_exprs::ParseFault;
+pub use unit::parse;

@@ -1,14 +1,44 @@
-//! Blocks of names that statements leave (C99 6.2.1).
-ghost use Rattle.std.specs.Prelude.{◌≡◌};
-ghost use Rattle.c_grammar.specs.Parts.{left};
+//! Names and blocks of names at declarations and statements (C99 6.2.1).
+ghost use Rattle.std.specs.Prelude.{◌≡◌, OnOk};
+ghost use Rattle.c_grammar.specs.Parts.{declared, forgetting, left};
+ghost use Rattle.c_grammar.specs.Grammar.{form};
+ghost use Rattle.c_grammar.specs.Units.{name_of};
 ghost use Rattle.c_exprs.specs.Cursor.{here};
 
 use c_exprs::{Cursor, Source};
+use c_nodes::FoundDeclarator;
+use plain_data::{Items, Shared};
+use std::alloc::{AllocError, Global};
+
+/// Forgets the parameters of the function whose declarator was read last.
+pub fn forget(source: &Source<'_>, c: &mut Cursor)
+    ensures { here source.now c.new ≡ ((here source.now c.old).0, forgetting (here source.now c.old).1) }
+{
+    c.names.forget();
+}
+
+/// Declares the name of a declarator, as a typedef name or as another. It fails for want of memory alone.
+pub fn declare(
+    alloc: Global,
+    source: &Source<'_>,
+    c: &mut Cursor,
+    found: &FoundDeclarator,
+    is_type: bool,
+) -> Result<(), AllocError>
+    ensures { OnOk result (here source.now c.new
+        ≡ ((here source.now c.old).0, declared (name_of (form found.now.tree)) is_type (here source.now c.old).1)) }
+{
+    match &found.name {
+        Some(name) => c.names.declare(name, is_type),
+        None => c
+            .names
+            .declare(&Shared::new(alloc, Items::new(alloc))?, is_type),
+    }
+}
 
 /// Leaves the innermost block of names.
 pub fn leave(source: &Source<'_>, c: &mut Cursor)
     ensures { here source.now c.new ≡ ((here source.now c.old).0, left (here source.now c.old).1) }
 {
-    let _source = *source;
     c.names.leave();
 }

@@ -1,7 +1,8 @@
 //! Statements (C99 6.8).
-ghost use Rattle.std.specs.Prelude.{◌≡◌, ◌≤◌};
+ghost use Rattle.std.specs.Prelude.{◌≤◌};
 ghost use Rattle.c_grammar.specs.UnitReading.{stmt_at};
-ghost use Rattle.c_exprs.specs.Cursor.{state_of, Gives};
+ghost use Rattle.c_exprs.specs.Cursor.{source_of};
+ghost use Rattle.c_exprs.specs.Reads.{Reads};
 
 use crate::turns::Turns;
 use c_exprs::{Cursor, ParseFault, Source, Trees};
@@ -10,7 +11,7 @@ use c_scope::FileNames;
 use c_tree::Stmt;
 use std::alloc::Global;
 
-/// A statement of at most this height; at rank 1 a declaration too.
+/// `statement` (C99 6.8) of at most this height, and at rank 1 `block-item: declaration | statement` (C99 6.8.2).
 #[cycle(statement)]
 pub fn statement(
     alloc: Global,
@@ -21,7 +22,7 @@ pub fn statement(
     rank: u32,
 ) -> Result<Stmt, ParseFault>
     requires small { height ≤ 256 }
-    ensures { Gives (λ x. (x, state_of tokens.now file.now c.new)) result (stmt_at height rank (state_of tokens.now file.now c.old)) }
+    ensures { Reads (λ x. x) (source_of tokens.entry file.entry) c.old c.new result (stmt_at height rank) }
 {
     if height == 0 {
         return Err(ParseFault::TooDeep(c.position));

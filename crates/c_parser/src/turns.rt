@@ -1,8 +1,8 @@
 //! Reading one level of a statement, whose substatements are read by a function that is handed in. So the recursion
 //! stands in one place, and each rule is a function by itself.
-ghost use Rattle.std.specs.Prelude.{◌≡◌, ◌≤◌};
+ghost use Rattle.std.specs.Prelude.{◌≤◌};
 ghost use Rattle.c_grammar.specs.UnitReading.{stmt_at};
-ghost use Rattle.c_exprs.specs.Cursor.{here, Gives};
+ghost use Rattle.c_exprs.specs.Reads.{Reads};
 ghost use Rattle.c_parser.specs.Turns.{ReachesStatement};
 
 use c_exprs::{Cursor, ParseFault, Trees};
@@ -24,11 +24,12 @@ impl<
     'a,
     T: Fn(Global, &[Token], &FileNames, &mut Cursor, u32, u32) -> Result<Stmt, ParseFault>,
 > Turns<'a, T> {
-    /// A statement that stands inside; at rank 1 a declaration too.
+    /// `statement` (C99 6.8), and at rank 1 `block-item: declaration | statement` (C99 6.8.2), by the function that is
+    /// handed in.
     pub fn statement(&self, c: &mut Cursor, rank: u32) -> Result<Stmt, ParseFault>
-        requires reaches { ReachesStatement self.now.trees.source self.now.trees.height (T.pre self.now.statement) (T.post self.now.statement) }
+        requires reaches { ReachesStatement T.Fn self.now }
         requires known { rank ≤ 1 }
-        ensures { Gives (λ x. (x, here self.now.trees.source c.new)) result (stmt_at self.now.trees.height rank (here self.now.trees.source c.old)) }
+        ensures { Reads (λ x. x) self.now.trees.source c.old c.new result (stmt_at self.now.trees.height rank) }
     {
         (self.statement)(
             self.trees.alloc,

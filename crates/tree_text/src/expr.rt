@@ -188,12 +188,12 @@ fn simple_specifier(text: &mut Text, s: &Specifier) -> Result<(), AllocError> {
         }
         Specifier::Tag { at, kind, tag } => {
             text.open_at(spelling::aggregate(*kind), *at)?;
-            text.name(tag)?;
+            text.tag(tag)?;
             text.close()
         }
         Specifier::EnumTag { at, tag } => {
             text.open_at("enum", *at)?;
-            text.name(tag)?;
+            text.tag(tag)?;
             text.close()
         }
         _ => Ok(()),
@@ -210,7 +210,7 @@ fn specifier(text: &mut Text, s: &Specifier) -> Result<(), AllocError> {
             members: listed,
         } => {
             text.open_at(spelling::aggregate(*kind), *at)?;
-            text.optional_name(tag)?;
+            text.optional_tag(tag)?;
             members(text, listed.as_slice())?;
             text.close()
         }
@@ -221,7 +221,7 @@ fn specifier(text: &mut Text, s: &Specifier) -> Result<(), AllocError> {
             trailing,
         } => {
             text.open_at("enum", *at)?;
-            text.optional_name(tag)?;
+            text.optional_tag(tag)?;
             enumerators(text, listed.as_slice())?;
             if *trailing {
                 text.word("trailing")?;
@@ -312,20 +312,20 @@ pub fn declarator(text: &mut Text, d: &Declarator) -> Result<(), AllocError> {
         Declarator::Pointer {
             at,
             qualifiers: words,
-            target,
+            inner,
         } => {
             text.open_at("pointer", *at)?;
             qualifiers(text, words.as_slice())?;
-            declarator(text, target.get())?;
+            declarator(text, inner.get())?;
         }
         Declarator::Array {
             at,
-            element,
+            inner,
             words,
             length,
         } => {
             text.open_at("array", *at)?;
-            declarator(text, element.get())?;
+            declarator(text, inner.get())?;
             array_words(text, words.as_slice())?;
             if let Some(length) = length {
                 expr(text, length.get())?;
@@ -333,12 +333,12 @@ pub fn declarator(text: &mut Text, d: &Declarator) -> Result<(), AllocError> {
         }
         Declarator::Function {
             at,
-            result: of,
+            inner,
             parameters: listed,
             variadic,
         } => {
             text.open_at("function", *at)?;
-            declarator(text, of.get())?;
+            declarator(text, inner.get())?;
             text.open("parameters")?;
             parameters(text, listed.as_slice())?;
             if *variadic {

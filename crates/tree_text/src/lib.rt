@@ -22,7 +22,8 @@
 //!             | (array DECLARATOR WORD.. [EXPR]) | (function DECLARATOR (parameters PARAMETER.. [...]))
 //! parameter   = (parameter SPECIFIERS DECLARATOR)
 //! type        = (type SPECIFIERS DECLARATOR)
-//! stmt        = (block STMT..) | DECLARATION | (expression [EXPR]) | (label NAME STMT) | (case EXPR STMT) | (default STMT)
+//! stmt        = (block STMT..) | DECLARATION | (expression [EXPR]) | (label NAME STMT) | (case EXPR STMT)
+//!             | (default STMT)
 //!             | (if EXPR STMT [STMT]) | (switch EXPR STMT) | (while EXPR STMT) | (do STMT EXPR)
 //!             | (for START CONDITION STEP STMT) | (goto NAME) | (continue) | (break) | (return [EXPR])
 //! start       = DECLARATION | EXPR | none
@@ -37,14 +38,15 @@
 //!
 //! - Operators are spelled as in C, and so are the words of types, qualifiers and storage classes; the operator of a
 //!   compound assignment stands without its `=`.
-//! - Names are their bytes as they stand. A literal stands in quotes, where each byte that isn't printable, the quote and
-//!   the backslash are `\xHH` with two lowercase hexadecimal digits.
+//! - Names are their bytes as they stand. A literal stands in quotes, where each byte that isn't printable, the quote
+//!   and the backslash are `\xHH` with two lowercase hexadecimal digits.
 //! - The type of an integer constant, where it isn't `int`, is `unsigned`, `long`, `unsigned-long`, `long-long` or
 //!   `unsigned-long-long`.
 //! - A declarator nests as it is written: `*f(void)` is `(pointer (function (name f) (parameters ..)))`.
 //! - `trailing` stands for a comma before the closing brace, and `...` for a variadic function.
 //!
-//! A text with places has `@N` behind the first word of each node that has an offset, where N is that offset in bytes.
+//! A text with places has `@N` behind the first word of each node that has an offset, and behind each tag, where N is
+//! that offset in bytes: the specifier of `struct S x;` is `(struct@0 S@7)`.
 #![tactic(auto)]
 
 mod expr;

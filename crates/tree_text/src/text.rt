@@ -1,5 +1,6 @@
 use bit_words::Bytes;
 use c_lexer::Name;
+use c_tree::TagName;
 use plain_data::Shared;
 use std::alloc::{AllocError, Global};
 
@@ -100,10 +101,17 @@ impl Text {
         self.bytes.extend_from_slice(name.get().as_slice())
     }
 
-    pub fn optional_name(&mut self, name: &Option<Name>) -> Result<(), AllocError> {
-        match name {
+    /// A tag, with its own offset.
+    pub fn tag(&mut self, tag: &TagName) -> Result<(), AllocError> {
+        self.name(&tag.name)?;
+        self.place(tag.at)
+    }
+
+    /// A tag, where there is one.
+    pub fn optional_tag(&mut self, tag: &Option<TagName>) -> Result<(), AllocError> {
+        match tag {
             None => Ok(()),
-            Some(name) => self.name(name),
+            Some(tag) => self.tag(tag),
         }
     }
 

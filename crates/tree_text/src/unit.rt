@@ -19,7 +19,7 @@ fn designators(text: &mut Text, items: &[Designator]) -> Result<(), AllocError> 
             }
             Designator::Element { at, index } => {
                 text.open_at("element", *at)?;
-                expr(text, index)?;
+                expr(text, index.get())?;
                 text.close()?;
             }
         }
@@ -30,7 +30,7 @@ fn designators(text: &mut Text, items: &[Designator]) -> Result<(), AllocError> 
 #[cycle(initializer)]
 fn initializer(text: &mut Text, i: &Initializer) -> Result<(), AllocError> {
     match i {
-        Initializer::Value { value } => expr(text, value),
+        Initializer::Value { value } => expr(text, value.get()),
         Initializer::List {
             at,
             items,
@@ -87,17 +87,17 @@ fn declaration(text: &mut Text, d: &Declaration) -> Result<(), AllocError> {
     text.close()
 }
 
-fn optional_expr(text: &mut Text, e: &Option<Expr>) -> Result<(), AllocError> {
+fn optional_expr(text: &mut Text, e: &Option<Shared<Expr>>) -> Result<(), AllocError> {
     match e {
         None => Ok(()),
-        Some(e) => expr(text, e),
+        Some(e) => expr(text, e.get()),
     }
 }
 
-fn expr_or_none(text: &mut Text, e: &Option<Expr>) -> Result<(), AllocError> {
+fn expr_or_none(text: &mut Text, e: &Option<Shared<Expr>>) -> Result<(), AllocError> {
     match e {
         None => text.word("none"),
-        Some(e) => expr(text, e),
+        Some(e) => expr(text, e.get()),
     }
 }
 
@@ -137,11 +137,11 @@ fn head(text: &mut Text, s: &Stmt) -> Result<(), AllocError> {
             text.open_at("label", *at)?;
             text.name(name)
         }
-        Stmt::Case { at, value, .. } => with_expr(text, "case", *at, value),
+        Stmt::Case { at, value, .. } => with_expr(text, "case", *at, value.get()),
         Stmt::Default { at, .. } => text.open_at("default", *at),
-        Stmt::If { at, condition, .. } => with_expr(text, "if", *at, condition),
-        Stmt::Switch { at, value, .. } => with_expr(text, "switch", *at, value),
-        Stmt::While { at, condition, .. } => with_expr(text, "while", *at, condition),
+        Stmt::If { at, condition, .. } => with_expr(text, "if", *at, condition.get()),
+        Stmt::Switch { at, value, .. } => with_expr(text, "switch", *at, value.get()),
+        Stmt::While { at, condition, .. } => with_expr(text, "while", *at, condition.get()),
         Stmt::Do { at, .. } => text.open_at("do", *at),
         Stmt::For {
             at,
@@ -192,7 +192,7 @@ fn stmt(text: &mut Text, s: &Stmt) -> Result<(), AllocError> {
             ..
         } => {
             stmt(text, body.get())?;
-            expr(text, condition)?;
+            expr(text, condition.get())?;
         }
         _ => (),
     }
@@ -209,7 +209,7 @@ fn stmts(text: &mut Text, items: &[Shared<Stmt>]) -> Result<(), AllocError> {
 
 fn body(text: &mut Text, b: &Body) -> Result<(), AllocError> {
     match b {
-        Body::Read { block } => stmt(text, block),
+        Body::Read { block } => stmt(text, block.get()),
         Body::Unread { at } => {
             text.open_at("unread", *at)?;
             text.close()
@@ -238,20 +238,20 @@ fn external(text: &mut Text, e: &External) -> Result<(), AllocError> {
     }
 }
 
-fn lines(mut text: Text, externals: &[External]) -> Result<Bytes, AllocError> {
+fn lines(mut text: Text, externals: &[Shared<External>]) -> Result<Bytes, AllocError> {
     for item in externals {
-        external(&mut text, item)?;
+        external(&mut text, item.get())?;
         text.end_line()?;
     }
     Ok(text.into_bytes())
 }
 
 /// External declarations as text, a line each, without offsets. It fails for want of memory alone.
-pub fn unit_text(alloc: Global, externals: &[External]) -> Result<Bytes, AllocError> {
+pub fn unit_text(alloc: Global, externals: &[Shared<External>]) -> Result<Bytes, AllocError> {
     lines(Text::new(alloc, false), externals)
 }
 
 /// External declarations as text, a line each, with the offsets of their nodes. It fails for want of memory alone.
-pub fn placed_text(alloc: Global, externals: &[External]) -> Result<Bytes, AllocError> {
+pub fn placed_text(alloc: Global, externals: &[Shared<External>]) -> Result<Bytes, AllocError> {
     lines(Text::new(alloc, true), externals)
 }

@@ -12,7 +12,8 @@ returns-then-not-begins c =
     let height = c.args.trees.now.height in
     let s = here c.args.trees.now.source c.inits.c in
     let none : spec.begins mark.Comma s ≡ false = search rules in
-    inits_stop (spec.rules height) (initializer_at height) c.args.is_type (c.inits.left - 1) c.inits.left c.inits.all s _ (omega arith) none c.inits.invariant
+    inits_stop (spec.rules height) (initializer_at height) c.args.is_type (c.inits.left - 1) c.inits.left c.inits.all
+    s _ (omega arith) none c.inits.invariant
 
 pub returns-in_err-found : goal.returns-in_err-found
 returns-in_err-found c =
@@ -21,7 +22,9 @@ returns-in_err-found c =
     let z = here c.args.trees.now.source c.expect.new.c in
     let goes : spec.begins mark.Comma s ≡ true = search rules in
     let p = err_from_is_err_and c.from_residual-in_err-found.result c.from_residual-in_err-found.ensures.1 in
-    rw (p.1, p.2) (inits_fail (spec.rules height) (initializer_at height) c.args.is_type (c.inits.left - 1) c.inits.left c.in_ok-expect.field-0 c.inits.all s z _ _ (omega arith) goes c.in_ok-expect.ensures c.in_err-found.ensures c.inits.invariant)
+    rw (p.1, p.2) (inits_fail (spec.rules height) (initializer_at height) c.args.is_type (c.inits.left - 1)
+    c.inits.left c.in_ok-expect.field-0 c.inits.all s z _ _ (omega arith) goes c.in_ok-expect.ensures
+    c.in_err-found.ensures c.inits.invariant)
 
 pub inits-preserved : goal.inits-preserved
 inits-preserved c =
@@ -29,9 +32,13 @@ inits-preserved c =
     let s = here c.args.trees.now.source c.inits.c in
     let z = here c.args.trees.now.source c.expect.new.c in
     let goes : spec.begins mark.Comma s ≡ true = search rules in
-    inits_next (spec.rules height) (initializer_at height) c.args.is_type (c.inits.left - 1) c.inits.left c.in_ok-expect.field-0 c.inits.all c.push.new.self c.in_ok-found.found s z (here c.args.trees.now.source c.init.new.c) _ (omega arith) goes c.in_ok-expect.ensures c.in_ok-found.ensures c.in_ok-push.ensures.ok c.inits.invariant
+    inits_next (spec.rules height) (initializer_at height) c.args.is_type (c.inits.left - 1) c.inits.left
+    c.in_ok-expect.field-0 c.inits.all c.push.new.self c.in_ok-found.found s z
+    (here c.args.trees.now.source c.init.new.c) _ (omega arith) goes c.in_ok-expect.ensures c.in_ok-found.ensures
+    c.in_ok-push.ensures.ok c.inits.invariant
 
 pub returns : goal.returns
 returns c =
     let height = c.args.trees.now.height in
-    inits_out (spec.rules height) (initializer_at height) c.args.is_type c.inits.left c.inits.all (here c.args.trees.now.source c.inits.c) _ (omega arith) c.inits.invariant
+    inits_out (spec.rules height) (initializer_at height) c.args.is_type c.inits.left c.inits.all
+    (here c.args.trees.now.source c.inits.c) _ (omega arith) c.inits.invariant

@@ -16,14 +16,18 @@ returns-in_err-found c =
     let s = state_of c.args.tokens.now c.externals.file c.externals.c in
     let more : spec.is_end s.0 ≡ false = search rules in
     let p = err_from_is_err_and c.from_residual.result c.from_residual.ensures.1 in
-    rw (p.1, p.2) (externals_fail (c.externals.left - 1) c.externals.left c.externals.all s _ _ (omega arith) more c.in_err-found.ensures c.externals.invariant)
+    rw (p.1, p.2) (externals_fail (c.externals.left - 1) c.externals.left c.externals.all s _ _ (omega arith) more
+    c.in_err-found.ensures c.externals.invariant)
 
 pub externals-preserved : goal.externals-preserved
 externals-preserved c =
     let s = state_of c.args.tokens.now c.externals.file c.externals.c in
     let more : spec.is_end s.0 ≡ false = search rules in
-    externals_next (c.externals.left - 1) c.externals.left c.externals.all c.push.new.self c.in_ok-found.found s (state_of c.args.tokens.now c.next_external.new.file c.next_external.new.c) _ (omega arith) more c.in_ok-found.ensures c.in_ok-push.ensures.ok c.externals.invariant
+    externals_next (c.externals.left - 1) c.externals.left c.externals.all c.push.new.self c.in_ok-found.found s
+    (state_of c.args.tokens.now c.next_external.new.file c.next_external.new.c) _ (omega arith) more
+    c.in_ok-found.ensures c.in_ok-push.ensures.ok c.externals.invariant
 
 pub returns : goal.returns
 returns c =
-    externals_out c.externals.left c.externals.all (state_of c.args.tokens.now c.externals.file c.externals.c) _ (omega arith) c.externals.invariant
+    externals_out c.externals.left c.externals.all (state_of c.args.tokens.now c.externals.file c.externals.c) _
+    (omega arith) c.externals.invariant

@@ -8,7 +8,8 @@ returns-then-not-branch-clause-cut c =
     let wants : wants_none c.cut.wanted ≡ false = search rules in
     let within : c.cut.index < length c.args.tokens.now = omega (arith, c.in-Some.ensures.lookup.3.0) in
     let none : Changes (wanted_behind c.in-Some.token.now.kind c.cut.wanted) false c.take.new.self = search rules in
-    cut_lost c.args.tokens.now c.cut.index c.in-Some.token.now c.cut.wanted c.take.new.self _ within c.in-Some.ensures.lookup.1 wants none c.cut.invariant.reads
+    cut_lost c.args.tokens.now c.cut.index c.in-Some.token.now c.cut.wanted c.take.new.self _ within
+    c.in-Some.ensures.lookup.1 wants none c.cut.invariant.reads
 
 pub cut-preserved : goal.cut-preserved
 cut-preserved c =
@@ -16,7 +17,8 @@ cut-preserved c =
     let within : c.cut.index < length c.args.tokens.now = omega (arith, c.in-Some.ensures.lookup.3.0) in
     let then : Changes (wanted_behind c.in-Some.token.now.kind c.cut.wanted) true c.take.new.self = search rules in
     record {
-      reads = cut_next c.args.tokens.now c.cut.index c.in-Some.token.now c.cut.wanted c.take.new.self _ within c.in-Some.ensures.lookup.1 wants then c.cut.invariant.reads;
+      reads = cut_next c.args.tokens.now c.cut.index c.in-Some.token.now c.cut.wanted c.take.new.self _ within
+          c.in-Some.ensures.lookup.1 wants then c.cut.invariant.reads;
       within = search rules;
     }
 

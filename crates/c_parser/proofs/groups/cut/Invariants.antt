@@ -6,7 +6,8 @@ use Rattle.c_parser.proofs.groups.cut.Given as goal
 
 abbrev pub invariant-cut : goal.invariant-cut
 invariant-cut l = record {
-  reads : fronted (take l.index l.tokens) (spec.cut (drop l.index l.tokens) l.wanted) ≡ spec.cut l.tokens (mark.RightBrace ∷ []);
+  reads : fronted (take l.index l.tokens) (spec.cut (drop l.index l.tokens) l.wanted)
+      ≡ spec.cut l.tokens (mark.RightBrace ∷ []);
   within : l.index ≤ length l.tokens;
 }
 

@@ -12,7 +12,8 @@ returns-then-not-begins g c =
     let height = c.args.self.now.trees.height in
     let s = here c.args.self.now.trees.source c.items.c in
     let none : spec.begins mark.Comma s ≡ false = search rules in
-    items_stop (spec.rules height) (initializer_at height) (c.items.left - 1) c.items.left c.items.all s _ (omega arith) none c.items.invariant
+    items_stop (spec.rules height) (initializer_at height) (c.items.left - 1) c.items.left c.items.all s _
+    (omega arith) none c.items.invariant
 
 pub returns-then-begins : goal.returns-then-begins
 returns-then-begins g c =
@@ -21,7 +22,8 @@ returns-then-begins g c =
     let z = here c.args.self.now.trees.source c.expect.new.c in
     let goes : spec.begins mark.Comma s ≡ true = search rules in
     let last : spec.begins mark.RightBrace z ≡ true = search rules in
-    items_close (spec.rules height) (initializer_at height) (c.items.left - 1) c.items.left c.in_ok-expect.field-0 c.items.all s z _ (omega arith) goes c.in_ok-expect.ensures last c.items.invariant
+    items_close (spec.rules height) (initializer_at height) (c.items.left - 1) c.items.left c.in_ok-expect.field-0
+    c.items.all s z _ (omega arith) goes c.in_ok-expect.ensures last c.items.invariant
 
 pub returns-in_err-found : goal.returns-in_err-found
 returns-in_err-found g c =
@@ -31,7 +33,9 @@ returns-in_err-found g c =
     let goes : spec.begins mark.Comma s ≡ true = search rules in
     let more : spec.begins mark.RightBrace z ≡ false = search rules in
     let p = err_from_is_err_and c.from_residual-in_err-found.result c.from_residual-in_err-found.ensures.1 in
-    rw (p.1, p.2) (items_fail (spec.rules height) (initializer_at height) (c.items.left - 1) c.items.left c.in_ok-expect.field-0 c.items.all s z _ _ (omega arith) goes c.in_ok-expect.ensures more c.in_err-found.ensures c.items.invariant)
+    rw (p.1, p.2) (items_fail (spec.rules height) (initializer_at height) (c.items.left - 1) c.items.left
+    c.in_ok-expect.field-0 c.items.all s z _ _ (omega arith) goes c.in_ok-expect.ensures more
+    c.in_err-found.ensures c.items.invariant)
 
 pub items-preserved : goal.items-preserved
 items-preserved g c =
@@ -40,9 +44,13 @@ items-preserved g c =
     let z = here c.args.self.now.trees.source c.expect.new.c in
     let goes : spec.begins mark.Comma s ≡ true = search rules in
     let more : spec.begins mark.RightBrace z ≡ false = search rules in
-    items_next (spec.rules height) (initializer_at height) (c.items.left - 1) c.items.left c.in_ok-expect.field-0 c.items.all c.push.new.self c.in_ok-found.found c.in_ok-new.field-0 s z (here c.args.self.now.trees.source c.item.new.c) _ (omega arith) goes c.in_ok-expect.ensures more c.in_ok-found.ensures c.in_ok-new.ensures c.in_ok-push.ensures.ok c.items.invariant
+    items_next (spec.rules height) (initializer_at height) (c.items.left - 1) c.items.left c.in_ok-expect.field-0
+    c.items.all c.push.new.self c.in_ok-found.found c.in_ok-new.field-0 s z
+    (here c.args.self.now.trees.source c.item.new.c) _ (omega arith) goes c.in_ok-expect.ensures more
+    c.in_ok-found.ensures c.in_ok-new.ensures c.in_ok-push.ensures.ok c.items.invariant
 
 pub returns : goal.returns
 returns g c =
     let height = c.args.self.now.trees.height in
-    items_out (spec.rules height) (initializer_at height) c.items.left c.items.all (here c.args.self.now.trees.source c.items.c) _ (omega arith) c.items.invariant
+    items_out (spec.rules height) (initializer_at height) c.items.left c.items.all
+    (here c.args.self.now.trees.source c.items.c) _ (omega arith) c.items.invariant
