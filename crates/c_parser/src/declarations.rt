@@ -17,6 +17,7 @@ use c_tree::{Declaration, Declarator, InitDeclarator, Initializer, Specifier, St
 use plain_data::{Items, Shared};
 use std::alloc::Global;
 
+/// Whether a specifier is `typedef` (C99 6.7.1).
 fn is_typedef_word(specifier: &Specifier) -> bool
     ensures { result ≡ units.is_typedef_word specifier.now }
 {

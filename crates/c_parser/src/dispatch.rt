@@ -8,6 +8,7 @@ ghost use Rattle.c_exprs.specs.Reads.{Reads};
 ghost use Rattle.c_parser.specs.Turns.{ReachesStatement};
 
 use crate::declarations::declaration;
+use crate::groups::is_mark;
 use crate::jumps::{break_statement, continue_statement, goto, return_statement, value_statement};
 use crate::turns::Turns;
 use c_exprs::{Cursor, ParseFault, Source, Trees};
@@ -21,10 +22,7 @@ fn is_colon(tokens: &[Token], index: usize) -> bool
     ensures { result ≡ spec.next_colon (drop index tokens.now) }
 {
     match tokens.get(index) {
-        Some(token) => match &token.kind {
-            TokenKind::Punctuator(mark) => *mark == Punctuator::Colon,
-            _ => false,
-        },
+        Some(token) => is_mark(&token.kind, Punctuator::Colon),
         None => false,
     }
 }

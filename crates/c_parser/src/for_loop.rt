@@ -89,7 +89,8 @@ impl<
     'a,
     T: Fn(Global, &[Token], &FileNames, &mut Cursor, u32, u32) -> Result<Stmt, ParseFault>,
 > Turns<'a, T> {
-    /// `iteration-statement: for ( .. ; .. ; .. ) statement` (C99 6.8.5), behind `for`.
+    /// `iteration-statement: for ( ( declaration | [ expression ] ; ) [ expression ] ; [ expression ] ) statement`
+    /// (C99 6.8.5), behind `for`.
     #[tactic(auto, using(crate::proofs::Splits::for_is))]
     pub fn for_loop(&self, c: &mut Cursor, at: u32) -> Result<Stmt, ParseFault>
         requires reaches { ReachesStatement T.Fn self.now }

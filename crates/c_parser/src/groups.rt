@@ -10,7 +10,8 @@ use c_lexer::{Punctuator, Token, TokenKind};
 use std::alloc::{AllocError, Global};
 use std::marker::Model;
 
-fn is_mark(kind: &TokenKind, wanted: Punctuator) -> bool
+/// Whether a token is this punctuator.
+pub fn is_mark(kind: &TokenKind, wanted: Punctuator) -> bool
     ensures { result ≡ is_punctuator wanted kind.now }
 {
     match kind {
@@ -34,6 +35,7 @@ fn closer(kind: &TokenKind) -> Option<Punctuator>
     }
 }
 
+/// Whether a token is a closing bracket.
 fn is_closing(kind: &TokenKind) -> bool
     ensures { result ≡ units.closing kind.now }
 {
