@@ -1,6 +1,7 @@
 #!/usr/bin/env bash
-# The standard headers of the machine's C library, preprocessed, and the sources of examples/ are lexed and derived
-# with no fault: each is reported on, or refused as NotYetRead alone. Skipped where there is no C compiler.
+# The standard headers of the machine's C library, preprocessed by each compiler that is installed, as they are and as a
+# release build has them, and the sources of examples/ are lexed and derived with no fault: each is reported on, or
+# refused as NotYetRead alone. Skipped where there is no C compiler.
 set -u
 cd "$(dirname "$0")/.." || exit 2
 if ! command -v cc > /dev/null; then
@@ -32,16 +33,40 @@ derives() {
     fi
 }
 
-for header in $headers; do
-    printf '#include <%s>\nint main(void) { return 0; }\n' "$header" > "$folder/one.c"
-    cc -E -o "$folder/one.i" "$folder/one.c" 2> /dev/null || continue
-    printf '#include <%s>\n' "$header" >> "$folder/all.h"
-    if derives "$folder/one.i" "$header"; then derived=$((derived + 1)); else failed=1; fi
+# Preprocesses a source of these headers by a compiler with its flags, and derives it.
+preprocessed() {
+    local name=$1
+    shift
+    "$@" -E -I "$folder" -o "$folder/one.i" "$folder/one.c" 2> /dev/null || return 0
+    if derives "$folder/one.i" "$name ($*)"; then derived=$((derived + 1)); else failed=1; fi
+}
+
+# Each header by itself, four that most sources have together, and all that the compiler has; but clang's tgmath.h has
+# functions whose only parameter is `...`, which C99 does not derive.
+headers_by() {
+    local header
+    : > "$folder/all.h"
+    for header in $headers; do
+        [ "$1 $header" != 'clang tgmath.h' ] || continue
+        printf '#include <%s>\nint main(void) { return 0; }\n' "$header" > "$folder/one.c"
+        "$@" -E -o /dev/null "$folder/one.c" 2> /dev/null || continue
+        printf '#include <%s>\n' "$header" >> "$folder/all.h"
+        preprocessed "$header" "$@"
+    done
+    printf '#include <%s>\n' stdio.h stdlib.h math.h wchar.h > "$folder/one.c"
+    preprocessed 'four headers' "$@"
+    printf '#include "all.h"\nint main(void) { return 0; }\n' > "$folder/one.c"
+    preprocessed 'all headers' "$@"
+}
+
+for compiler in cc clang; do
+    if ! command -v "$compiler" > /dev/null; then
+        echo "headers: skipped, there is no $compiler"
+        continue
+    fi
+    headers_by "$compiler"
+    headers_by "$compiler" -O2 -D_FORTIFY_SOURCE=2
 done
-printf '#include "all.h"\nint main(void) { return 0; }\n' > "$folder/all.c"
-if cc -E -o "$folder/all.i" "$folder/all.c" 2> /dev/null; then
-    if derives "$folder/all.i" "all headers"; then derived=$((derived + 1)); else failed=1; fi
-fi
 for source in examples/*.c; do
     if derives "$source" "$source"; then derived=$((derived + 1)); else failed=1; fi
 done

@@ -49,9 +49,7 @@ fn refusal_of(alloc: Global, name: &str, bytes: &[u8], fault: LexFault) -> Refus
 /// The byte at which a token begins, by its number, or the end of the source.
 fn start_of(bytes: &[u8], tokens: &[Token], number: usize) -> u32
     requires short { length bytes.now ≤ MAX_SOURCE }
-    requires stands { StandInOrder 0 (length bytes.now) tokens.now }
-    ensures exact { result ≡ start_at bytes.now tokens.now number }
-    ensures within { result ≤ length bytes.now }
+    ensures { result ≡ start_at bytes.now tokens.now number }
 {
     match tokens.get(number) {
         Some(token) => token.start,
