@@ -29,16 +29,37 @@ fn computed(op: &str, a: &str, b: &str, width: &str) -> Option<u64> {
     let a = wrap(i128::from(a.parse::<u64>().ok()?), width);
     let count = b.parse::<u32>().unwrap_or(0);
     let b = wrap(i128::from(b.parse::<u64>().ok()?), width);
+    summed(op, a, b, width)
+        .or(compared(op, a, b, width))
+        .or(shifted(op, a, count, width))
+        .or(divided(op, a, b, width))
+}
+
+/// The answer to a sum, a difference or a product.
+fn summed(op: &str, a: u64, b: u64, width: Width) -> Option<u64>
+    requires a_in { a < 2 ^ bits width }
+    requires b_in { b < 2 ^ bits width }
+{
     match op {
         "add" => Some(add(a, b, width)),
         "sub" => Some(sub(a, b, width)),
         "mul" => Some(mul(a, b, width)),
+        _ => None,
+    }
+}
+
+/// The answer to a comparison, or to the question whether a signed result is out of the type, 1 for yes.
+fn compared(op: &str, a: u64, b: u64, width: Width) -> Option<u64>
+    requires a_in { a < 2 ^ bits width }
+    requires b_in { b < 2 ^ bits width }
+{
+    match op {
         "ult" => Some(u64::from(ult(a, b, width))),
         "slt" => Some(u64::from(slt(a, b, width))),
         "add_over" => Some(u64::from(add_over(a, b, width))),
         "sub_over" => Some(u64::from(sub_over(a, b, width))),
         "mul_over" => Some(u64::from(mul_over(a, b, width))),
-        _ => shifted(op, a, count, width).or(divided(op, a, b, width)),
+        _ => None,
     }
 }
 
