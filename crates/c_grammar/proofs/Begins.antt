@@ -48,7 +48,21 @@ use Rattle.c_tree.specs.declared.expr.Expr.{Expr}
 use Rattle.c_tree.specs.declared.expr.Specifier.{Specifier}
 use Rattle.c_tree.specs.declared.expr.Declarator.{Declarator}
 use Rattle.c_grammar.specs.declared.declarator_place.DeclaratorPlace.{DeclaratorPlace}
-use Rattle.c_grammar.specs.Parts.{Name, Part, takes_at, holds, typedef_name, Scope, State, Takes, Spans, is_typedef, begins_type, specifies_by, specifies_in}
+use Rattle.c_grammar.specs.Parts.{
+  Name,
+  Part,
+  takes_at,
+  holds,
+  typedef_name,
+  Scope,
+  State,
+  Takes,
+  Spans,
+  is_typedef,
+  begins_type,
+  specifies_by,
+  specifies_in,
+}
 use Rattle.c_grammar.specs.Spelling.{
   unary_mark,
   postfix_mark,

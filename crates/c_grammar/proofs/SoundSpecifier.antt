@@ -60,7 +60,18 @@ use Rattle.c_grammar.specs.Operators.{
   stored,
   word_specifier,
 }
-use Rattle.c_grammar.specs.Parts.{Part, declares, declared, Scope, State, Takes, Spans, is_typedef, specifies_by, specifies_in}
+use Rattle.c_grammar.specs.Parts.{
+  Part,
+  declares,
+  declared,
+  Scope,
+  State,
+  Takes,
+  Spans,
+  is_typedef,
+  specifies_by,
+  specifies_in,
+}
 use Rattle.c_grammar.specs.Grammar.{
   shape,
   form,

@@ -1,13 +1,60 @@
 -- The counts of words allow exactly the type specifiers that are listed. One computation compares the two on every
 -- beginning of a listed type and on one word more; behind that, neither allows anything.
-use Rattle.std.proofs.Common.{◌≡◌, ℕ, zero, suc, List, [], ◌∷◌, Bool, true, false, ◌||◌, ◌&&◌, not, length, refl, sym, subst, ap, ◌∙◌, Option, Some, None, arith, rules, nat_eq, nat_le, inl, inr}
+use Rattle.std.proofs.Common.{
+  ◌≡◌,
+  ℕ,
+  zero,
+  suc,
+  List,
+  [],
+  ◌∷◌,
+  Bool,
+  true,
+  false,
+  ◌||◌,
+  ◌&&◌,
+  not,
+  length,
+  refl,
+  sym,
+  subst,
+  ap,
+  ◌∙◌,
+  Option,
+  Some,
+  None,
+  arith,
+  rules,
+  nat_eq,
+  nat_le,
+  inl,
+  inr,
+}
 use Rattle.std.proofs.Math.Bool.{or-true}
 use Rattle.std.proofs.lemmas.Bool.{or_cases}
 use Rattle.c_tree.specs.declared.expr.TypeWord.TheVariants as word
 use Rattle.c_grammar.specs.declared.type_words.TypeKind.{TypeKind}
 use Rattle.c_grammar.specs.declared.type_words.TypeKind.TheVariants as kind
 use Rattle.c_grammar.specs.declared.type_words.TypeWords.{TypeWords}
-use Rattle.c_grammar.specs.TypeWords.{none, more, with_kind, words_from, is_allowed, are_allowed, is_type, is_whole, is_char, is_integer, is_floating, is_standard, is_interchange, is_declared, has_no_integer, has_no_floating, has_no_interchange}
+use Rattle.c_grammar.specs.TypeWords.{
+  none,
+  more,
+  with_kind,
+  words_from,
+  is_allowed,
+  are_allowed,
+  is_type,
+  is_whole,
+  is_char,
+  is_integer,
+  is_floating,
+  is_standard,
+  is_interchange,
+  is_declared,
+  has_no_integer,
+  has_no_floating,
+  has_no_interchange,
+}
 use Rattle.c_grammar.specs.TypeSpecifiers.{types, without, same_in_any_order, is_among, type_specifiers, are_listed}
 use Rattle.c_grammar.proofs.Spans.{both, nat_eq_true, nat_le_true}
 
@@ -166,7 +213,8 @@ counted w (kind.Word word.Float128) = refl
 
 none_follows : (w : TypeWords) (k : TypeKind) → may_follow w ≡ false → may_follow (with_kind w k) ≡ false
 none_follows w k h =
-    subst (λ l. within_any l greatest ≡ false) (sym (counted w k)) (raised_beyond_any (index k) (counts w) greatest refl h)
+    subst (λ l. within_any l greatest ≡ false) (sym (counted w k)) (raised_beyond_any (index k) (counts w) greatest
+    refl h)
 
 -- ---- what is allowed is within a group
 
@@ -358,14 +406,30 @@ long_within w h x =
       f.others.float128,
     ) refl
 
-float_within : (w : TypeWords) → (nat_eq w.alone 0 && has_no_integer w) ≡ true → nat_le w.complex 1 ≡ true → Interchange w 0 0 0 0 →
+float_within : (w : TypeWords) → (nat_eq w.alone 0 && has_no_integer w) ≡ true → nat_le w.complex 1 ≡ true →
+    Interchange w 0 0 0 0 →
     Real w 1 0 0 → within (counts w) (group 4 greatest) ≡ true
 float_within w a c o r =
     let b = both (nat_eq w.alone 0) (has_no_integer w) a in
     let n = no_integer w b.1 in
-    rw (nat_eq_true w.alone 0 b.0, n.char, n.short, n.int, n.sign, r.float, r.double, r.long, c, o.float32, o.float64, o.float64x, o.float128) refl
+    rw (
+      nat_eq_true w.alone 0 b.0,
+      n.char,
+      n.short,
+      n.int,
+      n.sign,
+      r.float,
+      r.double,
+      r.long,
+      c,
+      o.float32,
+      o.float64,
+      o.float64x,
+      o.float128,
+    ) refl
 
-double_within : (w : TypeWords) → (nat_eq w.alone 0 && has_no_integer w) ≡ true → nat_le w.complex 1 ≡ true → Interchange w 0 0 0 0 →
+double_within : (w : TypeWords) → (nat_eq w.alone 0 && has_no_integer w) ≡ true → nat_le w.complex 1 ≡ true →
+    Interchange w 0 0 0 0 →
     (nat_eq w.float 0 && nat_eq w.double 1 && nat_le w.long 1) ≡ true → within (counts w) (group 5 greatest) ≡ true
 double_within w a c o x =
     let b = both (nat_eq w.alone 0) (has_no_integer w) a in
@@ -387,54 +451,157 @@ double_within w a c o x =
       o.float128,
     ) refl
 
-float32_within : (w : TypeWords) → (nat_eq w.alone 0 && has_no_integer w) ≡ true → nat_le w.complex 1 ≡ true → Real w 0 0 0 →
+float32_within : (w : TypeWords) → (nat_eq w.alone 0 && has_no_integer w) ≡ true → nat_le w.complex 1 ≡ true →
+    Real w 0 0 0 →
     Interchange w 1 0 0 0 → within (counts w) (group 6 greatest) ≡ true
 float32_within w a c r o =
     let b = both (nat_eq w.alone 0) (has_no_integer w) a in
     let n = no_integer w b.1 in
-    rw (nat_eq_true w.alone 0 b.0, n.char, n.short, n.int, n.sign, r.float, r.double, r.long, c, o.float32, o.float64, o.float64x, o.float128) refl
+    rw (
+      nat_eq_true w.alone 0 b.0,
+      n.char,
+      n.short,
+      n.int,
+      n.sign,
+      r.float,
+      r.double,
+      r.long,
+      c,
+      o.float32,
+      o.float64,
+      o.float64x,
+      o.float128,
+    ) refl
 
-float64_within : (w : TypeWords) → (nat_eq w.alone 0 && has_no_integer w) ≡ true → nat_le w.complex 1 ≡ true → Real w 0 0 0 →
+float64_within : (w : TypeWords) → (nat_eq w.alone 0 && has_no_integer w) ≡ true → nat_le w.complex 1 ≡ true →
+    Real w 0 0 0 →
     Interchange w 0 1 0 0 → within (counts w) (group 7 greatest) ≡ true
 float64_within w a c r o =
     let b = both (nat_eq w.alone 0) (has_no_integer w) a in
     let n = no_integer w b.1 in
-    rw (nat_eq_true w.alone 0 b.0, n.char, n.short, n.int, n.sign, r.float, r.double, r.long, c, o.float32, o.float64, o.float64x, o.float128) refl
+    rw (
+      nat_eq_true w.alone 0 b.0,
+      n.char,
+      n.short,
+      n.int,
+      n.sign,
+      r.float,
+      r.double,
+      r.long,
+      c,
+      o.float32,
+      o.float64,
+      o.float64x,
+      o.float128,
+    ) refl
 
-float64x_within : (w : TypeWords) → (nat_eq w.alone 0 && has_no_integer w) ≡ true → nat_le w.complex 1 ≡ true → Real w 0 0 0 →
+float64x_within : (w : TypeWords) → (nat_eq w.alone 0 && has_no_integer w) ≡ true → nat_le w.complex 1 ≡ true →
+    Real w 0 0 0 →
     Interchange w 0 0 1 0 → within (counts w) (group 8 greatest) ≡ true
 float64x_within w a c r o =
     let b = both (nat_eq w.alone 0) (has_no_integer w) a in
     let n = no_integer w b.1 in
-    rw (nat_eq_true w.alone 0 b.0, n.char, n.short, n.int, n.sign, r.float, r.double, r.long, c, o.float32, o.float64, o.float64x, o.float128) refl
+    rw (
+      nat_eq_true w.alone 0 b.0,
+      n.char,
+      n.short,
+      n.int,
+      n.sign,
+      r.float,
+      r.double,
+      r.long,
+      c,
+      o.float32,
+      o.float64,
+      o.float64x,
+      o.float128,
+    ) refl
 
-float128_within : (w : TypeWords) → (nat_eq w.alone 0 && has_no_integer w) ≡ true → nat_le w.complex 1 ≡ true → Real w 0 0 0 →
+float128_within : (w : TypeWords) → (nat_eq w.alone 0 && has_no_integer w) ≡ true → nat_le w.complex 1 ≡ true →
+    Real w 0 0 0 →
     Interchange w 0 0 0 1 → within (counts w) (group 9 greatest) ≡ true
 float128_within w a c r o =
     let b = both (nat_eq w.alone 0) (has_no_integer w) a in
     let n = no_integer w b.1 in
-    rw (nat_eq_true w.alone 0 b.0, n.char, n.short, n.int, n.sign, r.float, r.double, r.long, c, o.float32, o.float64, o.float64x, o.float128) refl
+    rw (
+      nat_eq_true w.alone 0 b.0,
+      n.char,
+      n.short,
+      n.int,
+      n.sign,
+      r.float,
+      r.double,
+      r.long,
+      c,
+      o.float32,
+      o.float64,
+      o.float64x,
+      o.float128,
+    ) refl
 
 as_float_within : (w : TypeWords) → (nat_eq w.alone 0 && has_no_integer w) ≡ true → w.complex ≡ 0 → Real w 1 0 0 →
     Interchange w 1 0 0 0 → within (counts w) (group 10 greatest) ≡ true
 as_float_within w a c r o =
     let b = both (nat_eq w.alone 0) (has_no_integer w) a in
     let n = no_integer w b.1 in
-    rw (nat_eq_true w.alone 0 b.0, n.char, n.short, n.int, n.sign, r.float, r.double, r.long, c, o.float32, o.float64, o.float64x, o.float128) refl
+    rw (
+      nat_eq_true w.alone 0 b.0,
+      n.char,
+      n.short,
+      n.int,
+      n.sign,
+      r.float,
+      r.double,
+      r.long,
+      c,
+      o.float32,
+      o.float64,
+      o.float64x,
+      o.float128,
+    ) refl
 
 as_double_within : (w : TypeWords) → (nat_eq w.alone 0 && has_no_integer w) ≡ true → w.complex ≡ 0 → Real w 0 1 0 →
     Interchange w 0 1 0 0 → within (counts w) (group 11 greatest) ≡ true
 as_double_within w a c r o =
     let b = both (nat_eq w.alone 0) (has_no_integer w) a in
     let n = no_integer w b.1 in
-    rw (nat_eq_true w.alone 0 b.0, n.char, n.short, n.int, n.sign, r.float, r.double, r.long, c, o.float32, o.float64, o.float64x, o.float128) refl
+    rw (
+      nat_eq_true w.alone 0 b.0,
+      n.char,
+      n.short,
+      n.int,
+      n.sign,
+      r.float,
+      r.double,
+      r.long,
+      c,
+      o.float32,
+      o.float64,
+      o.float64x,
+      o.float128,
+    ) refl
 
-as_long_double_within : (w : TypeWords) → (nat_eq w.alone 0 && has_no_integer w) ≡ true → w.complex ≡ 0 → Real w 0 1 1 →
+as_long_double_within : (w : TypeWords) → (nat_eq w.alone 0 && has_no_integer w) ≡ true → w.complex ≡ 0 →
+    Real w 0 1 1 →
     Interchange w 0 0 1 0 → within (counts w) (group 12 greatest) ≡ true
 as_long_double_within w a c r o =
     let b = both (nat_eq w.alone 0) (has_no_integer w) a in
     let n = no_integer w b.1 in
-    rw (nat_eq_true w.alone 0 b.0, n.char, n.short, n.int, n.sign, r.float, r.double, r.long, c, o.float32, o.float64, o.float64x, o.float128) refl
+    rw (
+      nat_eq_true w.alone 0 b.0,
+      n.char,
+      n.short,
+      n.int,
+      n.sign,
+      r.float,
+      r.double,
+      r.long,
+      c,
+      o.float32,
+      o.float64,
+      o.float64x,
+      o.float128,
+    ) refl
 
 -- the words of a declared type of TS 18661-3
 declared : (w : TypeWords) (a b c d e f : ℕ) → nat_eq w.float128 0 ≡ true →
@@ -466,7 +633,8 @@ standard_follows : (w : TypeWords) → (nat_eq w.alone 0 && has_no_integer w) �
 standard_follows w a c h =
     let p = both _ _ h in
     elim (or_cases _ _ p.1) [
-      | inl x ↦ within_group 4 (counts w) greatest refl (float_within w a c (interchange w 0 0 0 0 p.0) (real w 1 0 0 x))
+      | inl x ↦ within_group 4 (counts w) greatest refl (float_within w a c (interchange w 0 0 0 0 p.0)
+          (real w 1 0 0 x))
       | inr x ↦ within_group 5 (counts w) greatest refl (double_within w a c (interchange w 0 0 0 0 p.0) x)
     ]
 
@@ -477,12 +645,16 @@ interchange_follows w a c h =
     elim (or_cases _ _ p.1) [
       | inl q ↦ elim (or_cases _ _ q) [
         | inl r ↦ elim (or_cases _ _ r) [
-          | inl x ↦ within_group 6 (counts w) greatest refl (float32_within w a c (real w 0 0 0 p.0) (interchange w 1 0 0 0 x))
-          | inr x ↦ within_group 7 (counts w) greatest refl (float64_within w a c (real w 0 0 0 p.0) (interchange w 0 1 0 0 x))
+          | inl x ↦ within_group 6 (counts w) greatest refl (float32_within w a c (real w 0 0 0 p.0)
+              (interchange w 1 0 0 0 x))
+          | inr x ↦ within_group 7 (counts w) greatest refl (float64_within w a c (real w 0 0 0 p.0)
+              (interchange w 0 1 0 0 x))
         ]
-        | inr x ↦ within_group 8 (counts w) greatest refl (float64x_within w a c (real w 0 0 0 p.0) (interchange w 0 0 1 0 x))
+        | inr x ↦ within_group 8 (counts w) greatest refl (float64x_within w a c (real w 0 0 0 p.0)
+            (interchange w 0 0 1 0 x))
       ]
-      | inr x ↦ within_group 9 (counts w) greatest refl (float128_within w a c (real w 0 0 0 p.0) (interchange w 0 0 0 1 x))
+      | inr x ↦ within_group 9 (counts w) greatest refl (float128_within w a c (real w 0 0 0 p.0)
+          (interchange w 0 0 0 1 x))
     ]
 
 declared_follows : (w : TypeWords) → (nat_eq w.alone 0 && has_no_integer w) ≡ true → is_declared w ≡ true →
@@ -492,10 +664,16 @@ declared_follows w a h =
     let c = both (nat_eq w.complex 0) (nat_eq w.float128 0) p.0 in
     elim (or_cases _ _ p.1) [
       | inl q ↦ elim (or_cases _ _ q) [
-        | inl x ↦ within_group 10 (counts w) greatest refl (let y = declared w 1 0 0 1 0 0 c.1 x in as_float_within w a (nat_eq_true w.complex 0 c.0) y.0 y.1)
-        | inr x ↦ within_group 11 (counts w) greatest refl (let y = declared w 0 1 0 0 1 0 c.1 x in as_double_within w a (nat_eq_true w.complex 0 c.0) y.0 y.1)
+        | inl x ↦ let y = declared w 1 0 0 1 0 0 c.1 x in
+            within_group 10 (counts w) greatest refl
+            (as_float_within w a (nat_eq_true w.complex 0 c.0) y.0 y.1)
+        | inr x ↦ let y = declared w 0 1 0 0 1 0 c.1 x in
+            within_group 11 (counts w) greatest refl
+            (as_double_within w a (nat_eq_true w.complex 0 c.0) y.0 y.1)
       ]
-      | inr x ↦ within_group 12 (counts w) greatest refl (let y = declared w 0 1 1 0 0 1 c.1 x in as_long_double_within w a (nat_eq_true w.complex 0 c.0) y.0 y.1)
+      | inr x ↦ let y = declared w 0 1 1 0 0 1 c.1 x in
+          within_group 12 (counts w) greatest refl
+          (as_long_double_within w a (nat_eq_true w.complex 0 c.0) y.0 y.1)
     ]
 
 floating_follows : (w : TypeWords) → is_floating w ≡ true → may_follow w ≡ true

@@ -360,8 +360,8 @@ formed (open_.Function at inner parameters variadic) =
     record {
       parts =
           λ where_. at_most inner.rank 1 ∷ (inner.parts where_ ++ takes_mark_at at mark.LeftParen ∷ opens ∷
-          (parameter_parts parameters variadic ++ closing_parts where_ inner.derived ∷ takes_mark mark.RightParen
-          ∷ []));
+          (parameter_parts parameters variadic ++ closing_parts where_ inner.derived
+          ∷ takes_mark mark.RightParen ∷ []));
       rank = 1;
       height = suc (max inner.height (highest parameters));
       name = inner.name;
@@ -451,43 +451,47 @@ spelled (open_.Identifier at name) = leaf (ordinary name ∷ takes_at at (kind.I
 spelled (open_.Parenthesized at inner) =
     node 0 inner.height (takes_mark_at at mark.LeftParen ∷ (inner.parts ++ takes_mark mark.RightParen ∷ []))
 spelled (open_.Subscript at array index) =
-    node 1 (max array.height index.height) (at_most array.rank 1 ∷ (array.parts ++ takes_mark_at at mark.LeftBracket ∷
-    (index.parts ++ takes_mark mark.RightBracket ∷ [])))
+    node 1 (max array.height index.height)
+    (at_most array.rank 1 ∷ (array.parts
+    ++ takes_mark_at at mark.LeftBracket ∷ (index.parts ++ takes_mark mark.RightBracket ∷ [])))
 spelled (open_.Call at callee arguments) =
-    node 1 (max callee.height (highest_shape arguments)) (at_most callee.rank 1 ∷
-    (callee.parts ++ takes_mark_at at mark.LeftParen ∷ (argument_parts arguments ++ takes_mark mark.RightParen ∷ [])))
+    node 1 (max callee.height (highest_shape arguments))
+    (at_most callee.rank 1 ∷ (callee.parts
+    ++ takes_mark_at at mark.LeftParen ∷ (argument_parts arguments ++ takes_mark mark.RightParen ∷ [])))
 spelled (open_.Member at object member) =
-    node 1 object.height (at_most object.rank 1 ∷ (object.parts ++ takes_mark_at at mark.Dot ∷
-    takes (kind.Identifier member) ∷ []))
+    node 1 object.height
+    (at_most object.rank 1 ∷ (object.parts ++ takes_mark_at at mark.Dot ∷ takes (kind.Identifier member) ∷ []))
 spelled (open_.Arrow at pointer member) =
-    node 1 pointer.height (at_most pointer.rank 1 ∷ (pointer.parts ++ takes_mark_at at mark.Arrow ∷
-    takes (kind.Identifier member) ∷ []))
+    node 1 pointer.height
+    (at_most pointer.rank 1 ∷ (pointer.parts ++ takes_mark_at at mark.Arrow ∷ takes (kind.Identifier member) ∷ []))
 spelled (open_.Postfix at operator operand) =
-    node 1 operand.height (at_most operand.rank 1 ∷ (operand.parts ++ takes_mark_at at (postfix_mark operator) ∷ []))
+    node 1 operand.height
+    (at_most operand.rank 1 ∷ (operand.parts ++ takes_mark_at at (postfix_mark operator) ∷ []))
 spelled (open_.Unary at operator operand) =
-    node 2 operand.height (at_most operand.rank (operand_rank operator) ∷ takes_mark_at at (unary_mark operator) ∷
-    operand.parts)
+    node 2 operand.height
+    (at_most operand.rank (operand_rank operator) ∷ takes_mark_at at (unary_mark operator) ∷ operand.parts)
 spelled (open_.SizeofExpr at operand) =
     node 2 operand.height (at_most operand.rank 2 ∷ takes_keyword_at at keyword.Sizeof ∷ operand.parts)
 spelled (open_.SizeofType at type_name) =
     node 2 type_name.height (takes_keyword_at at keyword.Sizeof ∷ in_parens type_name.parts)
 spelled (open_.Cast at type_name operand) =
-    node 3 (max type_name.height operand.height) (at_most operand.rank 3 ∷ takes_mark_at at mark.LeftParen ∷
-    (type_name.parts ++ takes_mark mark.RightParen ∷ operand.parts))
+    node 3 (max type_name.height operand.height)
+    (at_most operand.rank 3
+    ∷ takes_mark_at at mark.LeftParen ∷ (type_name.parts ++ takes_mark mark.RightParen ∷ operand.parts))
 spelled (open_.Binary at operator left right) =
-    node (rank_of operator) (max left.height right.height) (at_most left.rank (rank_of operator) ∷
-    at_most (suc right.rank) (rank_of operator) ∷ (left.parts ++ takes_mark_at at (binary_mark operator) ∷
-    right.parts))
+    node (rank_of operator) (max left.height right.height)
+    (at_most left.rank (rank_of operator) ∷ at_most (suc right.rank) (rank_of operator)
+    ∷ (left.parts ++ takes_mark_at at (binary_mark operator) ∷ right.parts))
 spelled (open_.Conditional at condition positive negative) =
-    node 14 (max condition.height (max positive.height negative.height)) (at_most condition.rank 13 ∷
-    at_most negative.rank 14 ∷ (condition.parts ++ takes_mark_at at mark.Question ∷
-    (positive.parts ++ takes_mark mark.Colon ∷ negative.parts)))
+    node 14 (max condition.height (max positive.height negative.height))
+    (at_most condition.rank 13 ∷ at_most negative.rank 14
+    ∷ (condition.parts ++ takes_mark_at at mark.Question ∷ (positive.parts ++ takes_mark mark.Colon ∷ negative.parts)))
 spelled (open_.Assign at operator target value) =
-    node 15 (max target.height value.height) (at_most target.rank 2 ∷ at_most value.rank 15 ∷
-    (target.parts ++ (assign_parts at operator ++ value.parts)))
+    node 15 (max target.height value.height)
+    (at_most target.rank 2 ∷ at_most value.rank 15 ∷ (target.parts ++ (assign_parts at operator ++ value.parts)))
 spelled (open_.Comma at left right) =
-    node 16 (max left.height right.height) (at_most right.rank 15 ∷ (left.parts ++ takes_mark_at at mark.Comma ∷
-    right.parts))
+    node 16 (max left.height right.height)
+    (at_most right.rank 15 ∷ (left.parts ++ takes_mark_at at mark.Comma ∷ right.parts))
 
 -- ---- trees
 

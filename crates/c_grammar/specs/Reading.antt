@@ -363,8 +363,8 @@ suffix_in r where_ d (t ∷ rest) scope = suffix_by r where_ d t.kind t.start (r
 unfoldable pub suffixes_at : Rules → ℕ → DeclaratorPlace → ℕ → Declarator → State → Reading Declarator
 suffixes_at r limit where_ zero d s = None
 suffixes_at r limit where_ (suc n) d s = cond (suffixed s.0)
-    (suffix_in r where_ d s.0 s.1 >>= (λ x. cond (nat_le (form x.0).height limit) (suffixes_at r limit where_ n x.0
-    x.1) None))
+    (suffix_in r where_ d s.0 s.1 >>=
+    (λ x. cond (nat_le (form x.0).height limit) (suffixes_at r limit where_ n x.0 x.1) None))
     (Some (d, s))
 
 unfoldable pub grouped_declarator_at : Rules → DeclaratorPlace → ℕ → State → Reading Declarator
@@ -388,8 +388,9 @@ named_declarator_at _ at name rest s = Some (declarator.Name at name, rest)
 abbrev pub direct_by : Rules → DeclaratorPlace → TokenKind → ℕ → State → State → Reading Declarator
 direct_by r where_ (kind.Identifier name) at rest s = named_declarator_at where_ at name rest s
 direct_by r where_ (kind.Punctuator mark.LeftParen) at rest s =
-    cond (may_omit where_ && begins_parameters rest) (Some (declarator.Omitted, s)) (grouped_declarator_at r where_ at
-    rest)
+    cond (may_omit where_ && begins_parameters rest)
+    (Some (declarator.Omitted, s))
+    (grouped_declarator_at r where_ at rest)
 direct_by r where_ _ at rest s = omitted_at where_ s
 
 abbrev pub direct_in : Rules → DeclaratorPlace → List Token → Scope → Reading Declarator

@@ -116,7 +116,8 @@ without k (x ∷ xs) = cond (same_kind k x) (Some xs) (option_map (λ ys. x ∷ 
 abbrev pub same_in_any_order : List TypeKind → List TypeKind → Bool
 same_in_any_order [] [] = true
 same_in_any_order [] (y ∷ ys) = false
-same_in_any_order (x ∷ xs) ys = elim (without x ys) as (λ _. Bool) [ None ↦ false | Some rest ↦ same_in_any_order xs rest ]
+same_in_any_order (x ∷ xs) ys =
+    elim (without x ys) as (λ _. Bool) [ None ↦ false | Some rest ↦ same_in_any_order xs rest ]
 
 abbrev pub is_among : List TypeKind → List (List TypeKind) → Bool
 is_among ks [] = false

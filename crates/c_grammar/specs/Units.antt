@@ -147,8 +147,8 @@ name_of d = elim d.name as (λ _. Name) [ None ↦ [] | Some name ↦ name ]
 -- a declarator of a declaration; its name is in scope from its end on (6.2.1)
 abbrev pub declaring_parts : Bool → Declarator → List Part
 declaring_parts is_type d =
-    forgets ∷ holds (is_named (form d)) ∷ ((form d).parts place.Declaration ++ declares (name_of (form d)) is_type ∷
-    [])
+    forgets ∷ holds (is_named (form d))
+    ∷ ((form d).parts place.Declaration ++ declares (name_of (form d)) is_type ∷ [])
 
 abbrev pub assembler_parts : List (List ℕ) → List Part
 assembler_parts [] = []
@@ -184,8 +184,8 @@ init_pieces d = map (init_piece (makes_types d.specifiers)) d.declarators
 unfoldable pub declaration_of : Declaration → Piece
 declaration_of d = record {
   parts =
-      specification (all_specified d.specifiers) ++ (init_list_parts (init_pieces d) ++ takes_mark mark.Semicolon ∷
-      []);
+      specification (all_specified d.specifiers)
+      ++ (init_list_parts (init_pieces d) ++ takes_mark mark.Semicolon ∷ []);
   height = max (highest_specifier (all_specified d.specifiers)) (highest (init_pieces d));
 }
 
@@ -244,8 +244,8 @@ condition_parts e = in_parens (shape e).parts
 
 abbrev pub stated : stmt.Stmt-F Shape → Shape
 stated (stmt.Block at items) =
-    statement (highest_stmt items) (takes_mark_at at mark.LeftBrace ∷ opens ∷ (joined_shapes items ++ closes ∷
-    takes_mark mark.RightBrace ∷ []))
+    statement (highest_stmt items)
+    (takes_mark_at at mark.LeftBrace ∷ opens ∷ (joined_shapes items ++ closes ∷ takes_mark mark.RightBrace ∷ []))
 stated (stmt.Declared declaration) =
     record { parts = (declaration_of declaration).parts; rank = 1; height = suc (declaration_of declaration).height }
 stated (stmt.Value at value) =
@@ -253,36 +253,38 @@ stated (stmt.Value at value) =
 stated (stmt.Label at name body) =
     statement body.height (takes_at at (kind.Identifier name) ∷ takes_mark mark.Colon ∷ only_statement body)
 stated (stmt.Case at value body) =
-    statement (max (shape value).height body.height) (takes_keyword_at at keyword.Case ∷ (of_rank 14 (shape value) ++
-    takes_mark mark.Colon ∷ only_statement body))
+    statement (max (shape value).height body.height)
+    (takes_keyword_at at keyword.Case ∷ (of_rank 14 (shape value) ++ takes_mark mark.Colon ∷ only_statement body))
 stated (stmt.Default at body) =
     statement body.height (takes_keyword_at at keyword.Default ∷ takes_mark mark.Colon ∷ only_statement body)
 stated (stmt.If at condition positive negative) =
     statement (max (shape condition).height (max positive.height (else_height negative)))
-    (takes_keyword_at at keyword.If ∷ as_block (condition_parts condition ++ (substatement positive ++
-    else_parts negative)))
+    (takes_keyword_at at keyword.If
+    ∷ as_block (condition_parts condition ++ (substatement positive ++ else_parts negative)))
 stated (stmt.Switch at value body) =
-    statement (max (shape value).height body.height) (takes_keyword_at at keyword.Switch ∷
-    as_block (condition_parts value ++ substatement body))
+    statement (max (shape value).height body.height)
+    (takes_keyword_at at keyword.Switch ∷ as_block (condition_parts value ++ substatement body))
 stated (stmt.While at condition body) =
-    statement (max (shape condition).height body.height) (takes_keyword_at at keyword.While ∷
-    as_block (condition_parts condition ++ substatement body))
+    statement (max (shape condition).height body.height)
+    (takes_keyword_at at keyword.While ∷ as_block (condition_parts condition ++ substatement body))
 stated (stmt.Do at body condition) =
     statement (max body.height (shape condition).height)
-    (takes_keyword_at at keyword.Do ∷ as_block (substatement body ++ takes (kind.Keyword keyword.While) ∷
-    (condition_parts condition ++ takes_mark mark.Semicolon ∷ [])))
+    (takes_keyword_at at keyword.Do
+    ∷ as_block (substatement body
+    ++ takes (kind.Keyword keyword.While) ∷ (condition_parts condition ++ takes_mark mark.Semicolon ∷ [])))
 stated (stmt.For at start condition step body) =
     statement (max (for_start_height start) (max (value_height condition) (max (value_height step) body.height)))
-    (takes_keyword_at at keyword.For ∷ as_block (takes_mark mark.LeftParen ∷ (for_start_parts start ++
-    (value_parts condition ++ takes_mark mark.Semicolon ∷ (value_parts step ++ takes_mark mark.RightParen ∷
-    substatement body)))))
+    (takes_keyword_at at keyword.For
+    ∷ as_block (takes_mark mark.LeftParen ∷ (for_start_parts start
+    ++ (value_parts condition ++ takes_mark mark.Semicolon
+    ∷ (value_parts step ++ takes_mark mark.RightParen ∷ substatement body)))))
 stated (stmt.Goto at name) =
     statement 0 (takes_keyword_at at keyword.Goto ∷ takes (kind.Identifier name) ∷ takes_mark mark.Semicolon ∷ [])
 stated (stmt.Continue at) = statement 0 (takes_keyword_at at keyword.Continue ∷ takes_mark mark.Semicolon ∷ [])
 stated (stmt.Break at) = statement 0 (takes_keyword_at at keyword.Break ∷ takes_mark mark.Semicolon ∷ [])
 stated (stmt.Return at value) =
-    statement (value_height value) (takes_keyword_at at keyword.Return ∷
-    (value_parts value ++ takes_mark mark.Semicolon ∷ []))
+    statement (value_height value)
+    (takes_keyword_at at keyword.Return ∷ (value_parts value ++ takes_mark mark.Semicolon ∷ []))
 
 unfoldable pub stmt_shape : Stmt → Shape
 stmt_shape x = fold-Stmt Shape stated x
