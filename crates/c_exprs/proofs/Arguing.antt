@@ -36,7 +36,7 @@ argument_none r m left s e none = rw (e, none) refl
 argument_step : (r : Rules) (m left at : ℕ) (s z : State) (read : Reading Expr) → left ≡ suc m →
     begins mark.Comma s ≡ true → expect mark.Comma s ≡ Some (tt, at, z) → r.expr 15 z ≡ read
     → more_arguments_at r left s ≡ (read >>= (λ x. more_arguments_at r m x.1 >>=
-        (λ more. Some (x.0 ∷ more.0, more.1))))
+    (λ more. Some (x.0 ∷ more.0, more.1))))
 unfolding more_arguments_at
 argument_step r m left at s z read e goes is reads = rw (e, goes, is, reads) refl
 
@@ -65,7 +65,7 @@ pub arguments_next : (r : Rules) (m left at : ℕ) (front all : List Expr) (x : 
     after front (more_arguments_at r left s) ≡ whole → after all (more_arguments_at r m w) ≡ whole
 arguments_next r m left at front all x s z w whole e goes is took appended reads =
     ap (λ l. after l (more_arguments_at r m w)) appended ∙ turned front x (more_arguments_at r left s)
-        (more_arguments_at r m w) whole (argument_step r m left at s z (Some (x, w)) e goes is took) reads
+    (more_arguments_at r m w) whole (argument_step r m left at s z (Some (x, w)) e goes is took) reads
 
 pub arguments_out : (r : Rules) (left : ℕ) (front : List Expr) (s : State) (whole : Reading (List Expr)) →
     left ≡ 0 → after front (more_arguments_at r left s) ≡ whole → whole ≡ None

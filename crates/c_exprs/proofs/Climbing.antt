@@ -61,10 +61,10 @@ skips zero r limit m n s z x h e none is =
 skips (suc d) r limit m n s z x h e none is =
     let p : n ≡ suc (d + m) = omega (arith, e) in
     let before : expr_by r limit (d + m) s ≡ Some (x, z) = skips d r limit m (d + m) s z x h refl
-        (λ k. λ low. λ high. none k low (omega (arith, high, p))) is in
+    (λ k. λ low. λ high. none k low (omega (arith, high, p))) is in
     let q : nat_eq (binds z) (suc (d + m)) ≡ false = none (suc (d + m)) (omega arith) (omega (arith, p)) in
     ap (λ k. expr_by r limit k s) p ∙ step_some r limit (d + m) s z x (omega (arith, h)) before ∙ other r limit
-        (suc (d + m)) (length z.0) x z q
+    (suc (d + m)) (length z.0) x z q
 
 stays_none : (d : ℕ) (r : Rules) (limit m n : ℕ) (s : State) → 3 ≤ m → n ≡ d + m → expr_by r limit m s ≡ None →
     expr_by r limit n s ≡ None
@@ -74,7 +74,7 @@ stays_none zero r limit m n s h e none =
 stays_none (suc d) r limit m n s h e none =
     let p : n ≡ suc (d + m) = omega (arith, e) in
     ap (λ k. expr_by r limit k s) p ∙ step_none r limit (d + m) s (omega (arith, h))
-        (stays_none d r limit m (d + m) s h refl none)
+    (stays_none d r limit m (d + m) s h refl none)
 
 low_other : (b m k : ℕ) → b ≤ m → m < k → nat_eq b k ≡ false
 low_other b m k low above = grind (arith, nat_tests, low, above)
@@ -87,14 +87,14 @@ ends_low : (r : Rules) (limit m n b : ℕ) (s z : State) (x : Expr) → 3 ≤ m 
     expr_by r limit m s ≡ Some (x, z) → expr_by r limit n s ≡ Some (x, z)
 ends_low r limit m n b s z x h within e low is =
     skips (n - m) r limit m n s z x h (omega (arith, within))
-        (λ k. λ above. λ below. low_other (binds z) m k (omega (arith, e, low)) above) is
+    (λ k. λ above. λ below. low_other (binds z) m k (omega (arith, e, low)) above) is
 
 -- it binds more loosely than is wanted
 ends_high : (r : Rules) (limit m n b : ℕ) (s z : State) (x : Expr) → 3 ≤ m → m ≤ n → b ≡ binds z → n < b →
     expr_by r limit m s ≡ Some (x, z) → expr_by r limit n s ≡ Some (x, z)
 ends_high r limit m n b s z x h within e high is =
     skips (n - m) r limit m n s z x h (omega (arith, within))
-        (λ k. λ above. λ below. high_other (binds z) n k (omega (arith, e, high)) below) is
+    (λ k. λ above. λ below. high_other (binds z) n k (omega (arith, e, high)) below) is
 
 -- one of both
 pub ends : {A : Type 0} (r : Rules) (limit m n b : ℕ) (s z : State) (x : Expr) → 3 ≤ m → m ≤ n → b ≡ binds z →
@@ -107,9 +107,9 @@ jumps : (r : Rules) (limit m p b : ℕ) (s z : State) (x : Expr) → 3 ≤ m →
     expr_by r limit m s ≡ Some (x, z) → expr_by r limit b s ≡ more_at r limit b (suc (length z.0)) x z
 jumps r limit m p b s z x h within after_ e is =
     let before : expr_by r limit p s ≡ Some (x, z) = ends_high r limit m p b s z x h within e
-        (omega (arith, after_)) is in
+    (omega (arith, after_)) is in
     ap (λ k. expr_by r limit k s) after_ ∙ step_some r limit p s z x (omega (arith, h, within)) before ∙ ap
-        (λ k. more_at r limit k (suc (length z.0)) x z) (sym after_)
+    (λ k. more_at r limit k (suc (length z.0)) x z) (sym after_)
 
 pub climbs : (r : Rules) (limit m b : ℕ) (s z w : State) (x y : Expr) → 3 ≤ m → m < b → b ≡ binds z →
     expr_by r limit m s ≡ Some (x, z) → more_at r limit b (suc (length z.0)) x z ≡ Some (y, w) →
@@ -121,7 +121,7 @@ fails_from : (r : Rules) (limit m b n : ℕ) (s z : State) (x : Expr) → 3 ≤ 
     expr_by r limit m s ≡ Some (x, z) → more_at r limit b (suc (length z.0)) x z ≡ None → expr_by r limit n s ≡ None
 fails_from r limit m b n s z x h above within e is none =
     stays_none (n - b) r limit b n s (omega (arith, h, above)) (omega (arith, within))
-        (jumps r limit m (b - 1) b s z x h (omega (arith, above)) (omega (arith, above)) e is ∙ none)
+    (jumps r limit m (b - 1) b s z x h (omega (arith, above)) (omega (arith, above)) e is ∙ none)
 
 pub climbs_not : (r : Rules) (limit m b n : ℕ) (s z : State) (x : Expr) (f : ParseFault) → 3 ≤ m → m < b →
     b ≤ n → b ≡ binds z → expr_by r limit m s ≡ Some (x, z) →

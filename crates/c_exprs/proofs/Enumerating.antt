@@ -65,7 +65,7 @@ enumerator_step : (r : Rules) (m left at : ℕ) (s z : State) (read : Reading En
     begins mark.Comma s ≡ true → expect mark.Comma s ≡ Some (tt, at, z) → begins mark.RightBrace z ≡ false →
     enumerator_at r z ≡ read
     → more_enumerators_at r left s ≡ (read >>= (λ x. more_enumerators_at r m x.1 >>=
-        (λ more. Some ((x.0 ∷ more.0.0, more.0.1), more.1))))
+    (λ more. Some ((x.0 ∷ more.0.0, more.0.1), more.1))))
 unfolding more_enumerators_at
 enumerator_step r m left at s z read e goes is ends reads = rw (e, goes, is, ends, reads) refl
 
@@ -78,7 +78,7 @@ pub enumerators_close : (r : Rules) (m left : ℕ) (front : List Enumerator) (b 
     behind front (more_enumerators_at r left s) ≡ whole → whole ≡ Some ((front, b), s)
 enumerators_close r m left front b s whole e none bare reads =
     stopped front false (more_enumerators_at r left s) whole s (no_comma r m left s e none) reads ∙ ap
-        (λ v. Some ((front, v), s)) (sym bare)
+    (λ v. Some ((front, v), s)) (sym bare)
 
 pub enumerators_comma : (r : Rules) (m left at : ℕ) (front all : List Enumerator) (b : Bool) (s z : State)
     (whole : Reading Enumerators) → left ≡ suc m → begins mark.Comma s ≡ true →
@@ -86,7 +86,7 @@ pub enumerators_comma : (r : Rules) (m left at : ℕ) (front all : List Enumerat
     behind front (more_enumerators_at r left s) ≡ whole → whole ≡ Some ((all, b), z)
 enumerators_comma r m left at front all b s z whole e goes is ends same comma reads =
     stopped front true (more_enumerators_at r left s) whole z (trailing_comma r m left at s z e goes is ends)
-        reads ∙ ap (λ v. Some ((front, v), z)) (sym comma) ∙ ap (λ l. Some ((l, b), z)) (sym same)
+    reads ∙ ap (λ v. Some ((front, v), z)) (sym comma) ∙ ap (λ l. Some ((l, b), z)) (sym same)
 
 pub enumerators_fail : (r : Rules) (m left at : ℕ) (front : List Enumerator) (s z : State)
     (whole : Reading Enumerators) (f : ParseFault) → left ≡ suc m → begins mark.Comma s ≡ true →
@@ -106,7 +106,7 @@ pub enumerators_next : (r : Rules) (m left at : ℕ) (front all : List Enumerato
 enumerators_next r m left at front all x s z w whole e goes is ends took appended reads =
     ap (λ l. behind l (more_enumerators_at r m w)) appended
     ∙ turned front x (more_enumerators_at r left s) (more_enumerators_at r m w) whole
-        (enumerator_step r m left at s z (Some (x, w)) e goes is ends took) reads
+    (enumerator_step r m left at s z (Some (x, w)) e goes is ends took) reads
 
 pub enumerators_out : (r : Rules) (left : ℕ) (front : List Enumerator) (s : State) (whole : Reading Enumerators)
     → left ≡ 0 → behind front (more_enumerators_at r left s) ≡ whole → whole ≡ None

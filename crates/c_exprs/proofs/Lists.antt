@@ -104,7 +104,7 @@ pub run_goes : {A : Type 0} (wanted : TokenKind → Option A) (m left : ℕ) (fr
     after front (run_at wanted left s) ≡ whole → after (front ++ a ∷ []) (run_at wanted m z) ≡ whole
 run_goes wanted m left front a s z whole e takes reads =
     turned front a (run_at wanted left s) (run_at wanted m z) whole
-        (ap (λ k. run_at wanted k s) e ∙ begun wanted s.0 s.1 a z takes m) reads
+    (ap (λ k. run_at wanted k s) e ∙ begun wanted s.0 s.1 a z takes m) reads
 
 run_none : {A : Type 0} (wanted : TokenKind → Option A) (m : ℕ) (s : State) → begins_by wanted s.0 ≡ false →
     run_at wanted (suc m) s ≡ Some ([], s)
@@ -116,7 +116,7 @@ pub run_stops : {A : Type 0} (wanted : TokenKind → Option A) (m left : ℕ) (f
     after front (run_at wanted left s) ≡ whole → whole ≡ Some (front, z)
 run_stops wanted m left front s z whole e takes reads =
     stopped front (run_at wanted left s) whole s (ap (λ k. run_at wanted k s) e ∙ run_none wanted m s takes.0)
-        reads ∙ ap (λ w. Some (front, w)) takes.1
+    reads ∙ ap (λ w. Some (front, w)) takes.1
 
 run_zero : {A : Type 0} (wanted : TokenKind → Option A) (s : State) → run_at wanted zero s ≡ None
 unfolding run_at
@@ -132,7 +132,7 @@ run_out wanted left front s whole e reads = failed front (run_at wanted left s) 
 specifier_step : (r : Rules) (m left : ℕ) (typed : Bool) (s : State) (read : Reading Specifier) → left ≡ suc m →
     specifies_in typed s.0 s.1 ≡ true → r.specifier s ≡ read
     → specifiers_at r left typed s ≡ (read >>= (λ x. specifiers_at r m (typed || is_type (kind_of x.0)) x.1 >>=
-        (λ more. Some (x.0 ∷ more.0, more.1))))
+    (λ more. Some (x.0 ∷ more.0, more.1))))
 unfolding specifiers_at
 specifier_step r m left typed s read e goes is = rw (e, goes, is) refl
 
@@ -149,10 +149,10 @@ pub specifiers_go : (r : Rules) (m left : ℕ) (typed : Bool) (front : List Spec
     (s z : State) (whole : Reading (List Specifier)) → left ≡ suc m → specifies_in typed s.0 s.1 ≡ true →
     r.specifier s ≡ Some (x, z)
     → after front (specifiers_at r left typed s) ≡ whole →
-        after (front ++ x ∷ []) (specifiers_at r m (typed || is_type (kind_of x)) z) ≡ whole
+    after (front ++ x ∷ []) (specifiers_at r m (typed || is_type (kind_of x)) z) ≡ whole
 specifiers_go r m left typed front x s z whole e goes is reads =
     turned front x (specifiers_at r left typed s) (specifiers_at r m (typed || is_type (kind_of x)) z) whole
-        (specifier_step r m left typed s (Some (x, z)) e goes is) reads
+    (specifier_step r m left typed s (Some (x, z)) e goes is) reads
 
 pub specifiers_fail : (r : Rules) (m left : ℕ) (typed : Bool) (front : List Specifier) (s : State)
     (whole : Reading (List Specifier)) (f : ParseFault) → left ≡ suc m → specifies_in typed s.0 s.1 ≡ true →
@@ -179,7 +179,7 @@ pub specifiers_next : (r : Rules) (m left : ℕ) (typed now : Bool) (front all :
     (x : Specifier) (s z : State) (whole : Reading (List Specifier)) → left ≡ suc m →
     specifies_in typed s.0 s.1 ≡ true → r.specifier s ≡ Some (x, z)
     → k ≡ (specifier_of x).kind → now ≡ (typed || is_type k) → all ≡ front ++ x ∷ [] →
-        after front (specifiers_at r left typed s) ≡ whole → after all (specifiers_at r m now z) ≡ whole
+    after front (specifiers_at r left typed s) ≡ whole → after all (specifiers_at r m now z) ≡ whole
 specifiers_next r m left typed now front all k x s z whole e goes is kind typing appended reads =
     ap (λ l. after l (specifiers_at r m now z)) appended
     ∙ ap (λ b. after (front ++ x ∷ []) (specifiers_at r m b z)) (typing ∙ ap (λ w. typed || is_type w) kind)
@@ -223,7 +223,7 @@ pub fields_next : (r : Rules) (m left at : ℕ) (front all : List Field) (x : Fi
     after front (more_fields_at r left s) ≡ whole → after all (more_fields_at r m w) ≡ whole
 fields_next r m left at front all x s z w whole e goes is took appended reads =
     ap (λ l. after l (more_fields_at r m w)) appended ∙ turned front x (more_fields_at r left s)
-        (more_fields_at r m w) whole (field_step r m left at s z (Some (x, w)) e goes is took) reads
+    (more_fields_at r m w) whole (field_step r m left at s z (Some (x, w)) e goes is took) reads
 
 pub fields_out : (r : Rules) (left : ℕ) (front : List Field) (s : State) (whole : Reading (List Field)) →
     left ≡ 0 → after front (more_fields_at r left s) ≡ whole → whole ≡ None
@@ -268,7 +268,7 @@ pub members_next : (r : Rules) (m left : ℕ) (front all : List MemberDeclaratio
     after all (members_at r m w) ≡ whole
 members_next r m left front all x s w whole e goes took appended reads =
     ap (λ l. after l (members_at r m w)) appended ∙ turned front x (members_at r left s) (members_at r m w)
-        whole (member_step r m left s (Some (x, w)) e goes took) reads
+    whole (member_step r m left s (Some (x, w)) e goes took) reads
 
 pub members_out : (r : Rules) (left : ℕ) (front : List MemberDeclaration) (s : State)
     (whole : Reading (List MemberDeclaration)) → left ≡ 0 → after front (members_at r left s) ≡ whole → whole ≡ None

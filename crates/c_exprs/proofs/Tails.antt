@@ -77,7 +77,7 @@ parameter_step : (r : Rules) (m left at : ℕ) (s z : State) (read : Reading Par
     begins mark.Comma s ≡ true → expect mark.Comma s ≡ Some (tt, at, z) → begins mark.Ellipsis z ≡ false →
     parameter_at r z ≡ read
     → more_parameters_at r left s ≡ (read >>= (λ x. more_parameters_at r m x.1 >>=
-        (λ more. Some ((x.0 ∷ more.0.0, more.0.1), more.1))))
+    (λ more. Some ((x.0 ∷ more.0.0, more.0.1), more.1))))
 unfolding more_parameters_at
 parameter_step r m left at s z read e goes is dots reads = rw (e, goes, is, dots, reads) refl
 
@@ -148,7 +148,7 @@ pub parameters_next : (r : Rules) (m left at : ℕ) (front all : List Parameter)
     behind all (more_parameters_at r m w) ≡ whole
 parameters_next r m left at front all x s z w whole e goes is dots took appended reads =
     ap (λ l. behind l (more_parameters_at r m w)) appended ∙ parameters_go r m left at front x s z w whole e
-        goes is dots took reads
+    goes is dots took reads
 
 pub parameters_close : (r : Rules) (m left : ℕ) (front : List Parameter) (b : Bool) (s : State)
     (whole : Reading Parameters) → left ≡ suc m → begins mark.Comma s ≡ false → b ≡ false →
@@ -163,4 +163,4 @@ pub parameters_dot : (r : Rules) (m left at after_ : ℕ) (front all : List Para
     behind front (more_parameters_at r left s) ≡ whole → whole ≡ Some ((all, b), w)
 parameters_dot r m left at after_ front all b s z w whole e goes is dots took same variadic reads =
     parameters_dotted r m left at after_ front s z w whole e goes is dots took reads ∙ ap
-        (λ v. Some ((front, v), w)) (sym variadic) ∙ ap (λ l. Some ((l, b), w)) (sym same)
+    (λ v. Some ((front, v), w)) (sym variadic) ∙ ap (λ l. Some ((l, b), w)) (sym same)

@@ -10,9 +10,8 @@ use crate::cursor::Cursor;
 use crate::fault::ParseFault;
 use c_grammar::DeclaratorPlace;
 use c_lexer::{Punctuator, Token};
-use c_nodes::{FoundDeclarator, FoundExpr, FoundOptional, FoundSpecifier, declarator};
+use c_nodes::{FoundDeclarator, FoundExpr, FoundOptional, FoundSpecifier, declarator, expr};
 use c_scope::FileNames;
-use plain_data::Shared;
 use std::alloc::Global;
 
 impl<
@@ -54,16 +53,10 @@ impl<
             (spec.length_at (rules self.now.height)) self.now.height }
     {
         if self.source.begins(c, Punctuator::RightBracket) {
-            return Ok(FoundOptional {
-                tree: None,
-                height: 0,
-            });
+            return Ok(expr::absent());
         }
         let length = self.expr(c, 15)?;
-        Ok(FoundOptional {
-            tree: Some(Shared::new(self.alloc, length.tree)?),
-            height: length.height,
-        })
+        Ok(expr::present(self.alloc, length)?)
     }
 
     /// `direct-declarator: direct-declarator [ [ static ] [ type-qualifier-list ] [ assignment-expression ] ]`

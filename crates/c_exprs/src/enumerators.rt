@@ -1,31 +1,19 @@
 //! Enumerators and their values (C99 6.7.2.2).
-ghost use Rattle.std.specs.Prelude.{◌≡◌, OnOk, false};
-ghost use Rattle.c_grammar.specs.Parts.{declared};
 ghost use Rattle.c_grammar.specs.Reading as spec;
 ghost use Rattle.c_grammar.specs.Reading.{rules};
 ghost use Rattle.c_exprs.specs.Below.{ReachesExpr};
-ghost use Rattle.c_exprs.specs.Cursor.{here};
 ghost use Rattle.c_exprs.specs.Reads.{ReadsLow};
 
 use crate::below::Below;
-use crate::cursor::{Cursor, Source};
+use crate::cursor::Cursor;
 use crate::fault::ParseFault;
 use c_grammar::DeclaratorPlace;
-use c_lexer::{Name, Punctuator, Token};
-use c_nodes::{FoundDeclarator, FoundEnumerator, FoundExpr, FoundOptional, FoundSpecifier, pieces};
+use c_lexer::{Punctuator, Token};
+use c_nodes::{
+    FoundDeclarator, FoundEnumerator, FoundExpr, FoundOptional, FoundSpecifier, expr, pieces,
+};
 use c_scope::FileNames;
-use plain_data::Shared;
-use std::alloc::{AllocError, Global};
-
-impl<'a> Source<'a> {
-    /// Declares a name as another than a typedef name. It fails for want of memory alone.
-    pub fn declare_name(&self, c: &mut Cursor, name: &Name) -> Result<(), AllocError>
-        ensures { OnOk result
-            (here self.now c.new ≡ ((here self.now c.old).0, declared name.now false (here self.now c.old).1)) }
-    {
-        c.names.declare(name, false)
-    }
-}
+use std::alloc::Global;
 
 impl<
     'a,
@@ -48,17 +36,11 @@ impl<
             (spec.value_at (rules self.now.height)) self.now.height }
     {
         if !self.source.begins(c, Punctuator::Equal) {
-            return Ok(FoundOptional {
-                tree: None,
-                height: 0,
-            });
+            return Ok(expr::absent());
         }
         self.source.expect(c, Punctuator::Equal)?;
         let value = self.expr(c, 14)?;
-        Ok(FoundOptional {
-            tree: Some(Shared::new(self.alloc, value.tree)?),
-            height: value.height,
-        })
+        Ok(expr::present(self.alloc, value)?)
     }
 
     /// `enumerator: enumeration-constant [ = constant-expression ]` (C99 6.7.2.2); its name is in scope behind it.

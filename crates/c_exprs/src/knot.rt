@@ -79,7 +79,8 @@ pub fn declarator_of(
     place: DeclaratorPlace,
 ) -> Result<FoundDeclarator, ParseFault>
     requires small { height ≤ 256 }
-    ensures { ReadsDeclarator (source_of tokens.entry file.entry) c.old c.new result ((rules height).declarator place) height }
+    ensures { ReadsDeclarator (source_of tokens.entry file.entry) c.old c.new result
+        ((rules height).declarator place) height }
 {
     if height == 0 {
         return Err(ParseFault::TooDeep(c.position));

@@ -2,28 +2,28 @@
 //! (C99 6.7): each gives exactly what its reading function in `c_grammar` gives.
 #![tactic(auto)]
 
-pub mod aggregates;
-pub mod arguments;
-pub mod below;
-pub mod cursor;
-pub mod declarators;
-pub mod enumerations;
-pub mod enumerators;
+mod aggregates;
+mod arguments;
+mod below;
+mod cursor;
+mod declarators;
+mod enumerations;
+mod enumerators;
 mod fault;
-pub mod knot;
-pub mod members;
-pub mod operators;
-pub mod parameters;
-pub mod postfix;
-pub mod prefix;
-pub mod primary;
-pub mod ranks;
+mod knot;
+mod members;
+mod operators;
+mod parameters;
+mod postfix;
+mod prefix;
+mod primary;
+mod ranks;
 mod scopes;
-pub mod single;
-pub mod specifiers;
-pub mod suffixes;
-pub mod trees;
-pub mod words;
+mod single;
+mod specifiers;
+mod suffixes;
+mod trees;
+mod words;
 
 pub use cursor::{Cursor, Source};
 pub use fault::ParseFault;

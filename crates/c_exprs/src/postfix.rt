@@ -1,8 +1,8 @@
 //! Operators behind an operand (C99 6.5.2, 6.5.5 to 6.5.17).
-ghost use Rattle.std.specs.Prelude.{◌≤◌, ◌<◌, ◌+◌, IfOk};
+ghost use Rattle.std.specs.Prelude.{◌≡◌, ◌≤◌, ◌<◌, ◌+◌, IfOk, pred};
 ghost use Rattle.c_grammar.specs.Reading as spec;
 ghost use Rattle.c_grammar.specs.Reading.{rules};
-ghost use Rattle.c_grammar.specs.Grammar.{shape, highest_shape};
+ghost use Rattle.c_grammar.specs.Spelling.{rank_of as rank_spec};
 ghost use Rattle.c_exprs.specs.Below.{ReachesExpr};
 ghost use Rattle.c_exprs.specs.Reads.{Reads, ReadsExpr};
 ghost use Rattle.c_exprs.specs.Conditional.{arms_at, chosen_at};
@@ -16,6 +16,15 @@ use c_nodes::{FoundDeclarator, FoundExpr, FoundSpecifier, expr};
 use c_scope::FileNames;
 use c_tree::BinaryOperator;
 use std::alloc::Global;
+
+/// How loosely the right operand of a binary operator may bind: less than the operator, so operators of one rank
+/// group to the left (C99 6.5.5 to 6.5.14).
+fn right_rank(operator: BinaryOperator) -> u32
+    ensures rank { result ≡ pred (rank_spec operator) }
+    ensures known { result ≤ 16 }
+{
+    rank_of(operator) - 1
+}
 
 impl<
     'a,
@@ -65,8 +74,7 @@ impl<
         ensures { ReadsExpr self.now.source c.old c.new result
             (spec.binary_at (rules self.now.height) at operator left.tree) (self.now.height + 2) }
     {
-        let rank = rank_of(operator);
-        let right = self.expr(c, rank - 1)?;
+        let right = self.expr(c, right_rank(operator))?;
         Ok(expr::binary(self.alloc, at, operator, left, right)?)
     }
 

@@ -1,7 +1,7 @@
 //! Blocks of names that are entered and left while declarators are read (C99 6.2.1).
 ghost use Rattle.std.specs.Prelude.{◌≡◌, OnOk, false};
 ghost use Rattle.c_grammar.specs.Reading as spec;
-ghost use Rattle.c_grammar.specs.Parts.{entered, specifies_in};
+ghost use Rattle.c_grammar.specs.Parts.{declared, entered};
 ghost use Rattle.c_grammar.specs.Grammar.{may_omit as may_omit_spec};
 ghost use Rattle.c_exprs.specs.Cursor.{here};
 
@@ -34,12 +34,20 @@ fn is_suffix(kind: &TokenKind) -> bool
 }
 
 impl<'a> Source<'a> {
+    /// Declares a name as another than a typedef name. It fails for want of memory alone.
+    pub fn declare_name(&self, c: &mut Cursor, name: &Name) -> Result<(), AllocError>
+        ensures { OnOk result
+            (here self.now c.new ≡ ((here self.now c.old).0, declared name.now false (here self.now c.old).1)) }
+    {
+        c.names.declare(name, false)
+    }
+
     /// Declares a name, where there is one, as another than a typedef name. It fails for want of memory alone.
     pub fn declare(&self, c: &mut Cursor, name: &Option<Name>) -> Result<(), AllocError>
         ensures { OnOk result (here self.now c.new ≡ spec.with_name name.now false (here self.now c.old)) }
     {
         match name {
-            Some(name) => c.names.declare(name, false),
+            Some(name) => self.declare_name(c, name),
             None => Ok(()),
         }
     }

@@ -12,7 +12,7 @@ use plain_data::{Items, Shared};
 use std::alloc::{AllocError, Global};
 
 /// The name that is declared.
-#[tactic(auto, using(crate::proofs::DeclaratorNodes::height_name, crate::proofs::DeclaratorNodes::name_name, crate::proofs::DeclaratorNodes::derived_name))]
+#[tactic(auto, using(crate::proofs::DeclaratorNodes::of_name))]
 pub fn name(at: u32, name: Name) -> Result<FoundDeclarator, AllocError>
     ensures tree { IfOk result (λ f. f.tree ≡ declarator.Name at name) }
     ensures height { IfOk result (λ f. f.height ≡ 1) }
@@ -30,7 +30,7 @@ pub fn name(at: u32, name: Name) -> Result<FoundDeclarator, AllocError>
 }
 
 /// No name.
-#[tactic(auto, using(crate::proofs::DeclaratorNodes::height_omitted, crate::proofs::DeclaratorNodes::name_omitted, crate::proofs::DeclaratorNodes::derived_omitted))]
+#[tactic(auto, using(crate::proofs::DeclaratorNodes::of_omitted))]
 pub fn omitted() -> FoundDeclarator
     ensures tree { result.tree ≡ declarator.Omitted }
     ensures height { result.height ≡ 1 }
@@ -44,7 +44,7 @@ pub fn omitted() -> FoundDeclarator
 }
 
 /// A declarator in parentheses.
-#[tactic(auto, using(crate::proofs::DeclaratorNodes::height_grouped, crate::proofs::DeclaratorNodes::name_grouped, crate::proofs::DeclaratorNodes::derived_grouped))]
+#[tactic(auto, using(crate::proofs::DeclaratorNodes::of_grouped))]
 pub fn grouped(
     alloc: Global,
     at: u32,
@@ -67,7 +67,7 @@ pub fn grouped(
 }
 
 /// A pointer.
-#[tactic(auto, using(crate::proofs::DeclaratorNodes::height_pointer, crate::proofs::DeclaratorNodes::name_pointer, crate::proofs::DeclaratorNodes::derived_pointer))]
+#[tactic(auto, using(crate::proofs::DeclaratorNodes::of_pointer))]
 pub fn pointer(
     alloc: Global,
     at: u32,
@@ -94,7 +94,7 @@ pub fn pointer(
 }
 
 /// An array.
-#[tactic(auto, using(crate::proofs::DeclaratorNodes::height_array, crate::proofs::DeclaratorNodes::name_array, crate::proofs::DeclaratorNodes::derived_array))]
+#[tactic(auto, using(crate::proofs::DeclaratorNodes::of_array))]
 pub fn array(
     alloc: Global,
     at: u32,
@@ -124,7 +124,7 @@ pub fn array(
 }
 
 /// A function and its parameters.
-#[tactic(auto, using(crate::proofs::DeclaratorNodes::height_function, crate::proofs::DeclaratorNodes::name_function, crate::proofs::DeclaratorNodes::derived_function))]
+#[tactic(auto, using(crate::proofs::DeclaratorNodes::of_function))]
 pub fn function(
     alloc: Global,
     at: u32,

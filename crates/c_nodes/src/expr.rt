@@ -1,9 +1,9 @@
 //! Expressions made of expressions, with their ranks and heights.
-ghost use Rattle.std.specs.Prelude.{◌≡◌, ◌≤◌, ◌<◌, ◌+◌, IfOk, max, map};
+ghost use Rattle.std.specs.Prelude.{◌≡◌, ◌≤◌, ◌<◌, ◌+◌, IfOk, None, Some, max, map};
 ghost use Rattle.c_grammar.specs.Grammar.{highest_shape, shape, type_name_of};
 ghost use Rattle.c_tree.specs.declared.expr.Expr.TheVariants as expr;
 
-use crate::found::{FoundExpr, FoundType};
+use crate::found::{FoundExpr, FoundOptional, FoundType};
 use bit_words::Bytes;
 use c_grammar::rank_of;
 use c_lexer::{IntegerConstant, Name};
@@ -16,6 +16,30 @@ pub fn most(a: u32, b: u32) -> u32
     ensures { result ≡ max a b }
 {
     if a < b { b } else { a }
+}
+
+/// An expression that is left out.
+pub fn absent() -> FoundOptional
+    ensures tree { result.tree ≡ None }
+    ensures height { result.height ≡ 0 }
+{
+    FoundOptional {
+        tree: None,
+        height: 0,
+    }
+}
+
+/// An expression that may be left out, and is there.
+pub fn present(alloc: Global, found: FoundExpr) -> Result<FoundOptional, AllocError>
+    ensures tree { IfOk result (λ f. f.tree ≡ Some found.tree) }
+    ensures height { IfOk result (λ f. f.height ≡ found.height) }
+{
+    let height = found.height;
+    let tree = Shared::new(alloc, found.tree)?;
+    Ok(FoundOptional {
+        tree: Some(tree),
+        height,
+    })
 }
 
 /// An expression in parentheses.

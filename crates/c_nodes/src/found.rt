@@ -1,6 +1,7 @@
 //! Trees that were read, with what the grammar says of them, found as they are made and never computed again.
 ghost use Rattle.std.specs.Prelude.{◌≡◌, map, option_map};
-ghost use Rattle.c_grammar.specs.Grammar.{shape, type_name_of, specifier_of, parameter_of, form, form_height, enumerator_of, field_of, member_of, height_of, highest, highest_specifier};
+ghost use Rattle.c_grammar.specs.Grammar.{shape, type_name_of, specifier_of, parameter_of, form, form_height};
+ghost use Rattle.c_grammar.specs.Grammar.{enumerator_of, field_of, member_of, height_of, highest, highest_specifier};
 ghost use Rattle.c_grammar.specs.Reading.{kind_of};
 ghost use Rattle.c_grammar.specs.TypeWords.{none, words_from};
 

@@ -133,7 +133,7 @@ pub fn aggregate(
 }
 
 /// An enumeration with its enumerators, the highest of which has this height.
-#[tactic(auto, using(crate::proofs::SpecifierNodes::height_enumeration, crate::proofs::SpecifierNodes::kind_enumeration))]
+#[tactic(auto, using(crate::proofs::SpecifierNodes::of_enumeration))]
 pub fn enumeration(
     at: u32,
     tag: Option<TagName>,

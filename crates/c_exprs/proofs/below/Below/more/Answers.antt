@@ -13,7 +13,7 @@ returns-then-binds-rank g c =
     let l = c.operators in
     let s = here source l.c in
     let none : nat_eq (spec.binds s) c.args.rank ≡ false = grind
-        (arith, nat_tests, c.binds.ensures, c.if-binds-rank.true) in
+    (arith, nat_tests, c.binds.ensures, c.if-binds-rank.true) in
     record {
       reads = more_stop r (l.turns - 1) l.turns (suc c.args.self.now.height) c.args.rank l.all.tree s _
           (omega arith) none l.invariant.reads;
@@ -27,7 +27,7 @@ returns-in_err-all g c =
     let l = c.operators in
     let s = here source l.c in
     let goes : nat_eq (spec.binds s) c.args.rank ≡ true = grind
-        (arith, nat_tests, c.binds.ensures, c.if-binds-rank.false) in
+    (arith, nat_tests, c.binds.ensures, c.if-binds-rank.false) in
     let p = err_from_is_err_and c.from_residual.result c.from_residual.ensures.1 in
     record {
       reads = rw (p.1, p.2) (more_fail r (l.turns - 1) l.turns (suc c.args.self.now.height) c.args.rank
@@ -43,7 +43,7 @@ returns-then-all-self g c =
     let s = here source l.c in
     let z = here source c.extend.new.c in
     let goes : nat_eq (spec.binds s) c.args.rank ≡ true = grind
-        (arith, nat_tests, c.binds.ensures, c.if-binds-rank.false) in
+    (arith, nat_tests, c.binds.ensures, c.if-binds-rank.false) in
     let high : suc c.args.self.now.height < c.in_ok-all.all.height = omega (arith, c.if-all-self.true) in
     record {
       reads = more_high r (l.turns - 1) l.turns (suc c.args.self.now.height) c.args.rank c.in_ok-all.all.height
@@ -60,7 +60,7 @@ operators-preserved g c =
     let s = here source l.c in
     let z = here source c.extend.new.c in
     let goes : nat_eq (spec.binds s) c.args.rank ≡ true = grind
-        (arith, nat_tests, c.binds.ensures, c.if-binds-rank.false) in
+    (arith, nat_tests, c.binds.ensures, c.if-binds-rank.false) in
     let low : c.in_ok-all.all.height ≤ suc c.args.self.now.height = omega (arith, c.if-all-self.false) in
     record {
       reads = more_go r (l.turns - 1) l.turns (suc c.args.self.now.height) c.args.rank c.in_ok-all.all.height

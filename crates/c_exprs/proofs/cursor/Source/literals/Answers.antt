@@ -9,10 +9,10 @@ run-preserved c =
     let s = here c.args.self.now c.run.c in
     let z = here c.args.self.now c.take_literal.new.c in
     let takes : Takes a_literal (Some c.in-Some.piece) s z = subst (λ o. Takes a_literal o s z) c.in-Some.is
-        c.in_ok-piece.ensures in
+    c.in_ok-piece.ensures in
     rw (c.in_ok-push-in-Some.ensures.ok)
     (run_goes a_literal (c.run.left - 1) c.run.left c.run.all c.in-Some.piece s z _ (omega arith) takes
-        c.run.invariant)
+    c.run.invariant)
 
 pub returns-in-None : goal.returns-in-None
 returns-in-None c =

@@ -8,7 +8,7 @@ pub run-preserved : goal.run-preserved
 run-preserved c =
     rw (c.in_ok-push-in-Some.ensures.ok)
     (run_goes a_qualifier (c.run.left - 1) c.run.left c.run.all c.in-Some.word (here c.args.self.now c.run.c)
-        (here c.args.self.now c.take_qualifier.new.c) _ (omega arith) c.in-Some.ensures c.run.invariant)
+    (here c.args.self.now c.take_qualifier.new.c) _ (omega arith) c.in-Some.ensures c.run.invariant)
 
 pub returns-in-None : goal.returns-in-None
 returns-in-None c = run_stops a_qualifier (c.run.left - 1) c.run.left c.run.all (here c.args.self.now c.run.c)
