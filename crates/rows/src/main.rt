@@ -9,6 +9,7 @@
 
 mod checking;
 mod formulas;
+mod lexing;
 mod meeting;
 mod reading;
 mod solving;

@@ -1,4 +1,4 @@
-use crate::{checking, solving, splits, texts, trees, words};
+use crate::{checking, lexing, solving, splits, texts, trees, words};
 use anyhow::Result;
 use std::alloc::Global;
 
@@ -19,6 +19,8 @@ pub enum Row {
     Check,
     /// A formula, and questions about it.
     Solve,
+    /// A source, with escapes: its tokens, or its fault and where that stands.
+    Tokens,
     /// A source: the text of its tree, or its fault.
     Tree,
     /// A source: the text of its tree with the places of nodes.
@@ -38,6 +40,7 @@ impl Row {
             "split" => Some(Row::Split),
             "check" => Some(Row::Check),
             "solve" => Some(Row::Solve),
+            "tokens" => Some(Row::Tokens),
             "tree" => Some(Row::Tree),
             "placed" => Some(Row::Placed),
             "fault" => Some(Row::Fault),
@@ -55,6 +58,7 @@ impl Row {
             Row::Split => splits::answer_plain(alloc, row),
             Row::Check => checking::answer(alloc, row),
             Row::Solve => solving::answer(alloc, row),
+            Row::Tokens => lexing::answer(alloc, row),
             Row::Tree => trees::answer(alloc, row),
             Row::Placed => trees::answer_placed(alloc, row),
             Row::Fault => trees::answer_fault(alloc, row),
