@@ -76,7 +76,7 @@ fn fault_text(alloc: Global, source: &[u8], fault: LexFault) -> Result<String> {
         LexFault::BadDirective(at) => ("BadDirective", at),
         LexFault::Memory => return Err(anyhow!(AllocError)),
     };
-    if source.len() < at as usize {
+    if LONGEST < source.len() || source.len() < at as usize {
         return Err(anyhow!("a fault behind the source"));
     }
     let spot = locate(alloc, FILE, source, at)?;
