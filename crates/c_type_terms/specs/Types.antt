@@ -1,9 +1,7 @@
 -- Types as data (C99 6.2.5), how they are derived, and to which classes they belong.
-use Rattle.std.specs.Prelude.{ℕ, zero, suc, ◌≡◌, ◌==◌, Bool, true, false, ◌||◌, ◌&&◌, not, List, [], ◌∷◌, Option, Some, None, slice_get}
+use Rattle.std.specs.Prelude.{ℕ, Bool, true, false, ◌||◌, List, [], ◌∷◌, Option, Some, None, slice_get}
 use Rattle.c_type_terms.specs.declared.ctype.IntegerKind.{IntegerKind}
 use Rattle.c_type_terms.specs.declared.ctype.IntegerKind.TheVariants as k
-use Rattle.c_type_terms.specs.declared.ctype.RealKind.{RealKind}
-use Rattle.c_type_terms.specs.declared.ctype.Domain.{Domain}
 use Rattle.c_type_terms.specs.declared.ctype.FloatingKind.{FloatingKind}
 use Rattle.c_type_terms.specs.declared.ctype.Qualifiers.{Qualifiers}
 use Rattle.c_type_terms.specs.declared.ctype.Base.{Base}

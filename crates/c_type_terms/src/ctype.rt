@@ -91,7 +91,7 @@ pub enum Derivation {
 /// Equal values are the same type. The same type has equal values where no function is among its derivations: two function
 /// types of equal parameters may have two signatures. An enumerated type isn't the same type as `int`, though the two are
 /// compatible (C99 6.7.2.2p4).
-#[derive(Debug, Drop)]
+#[derive(Drop)]
 pub struct CType {
     pub derivations: Items<Derivation>,
     pub base: Base,

@@ -3,12 +3,11 @@
 
 mod class;
 mod ctype;
+mod integers;
 mod tables;
 
 pub use class::Class;
-pub use ctype::{
-    Base, CType, Derivation, Domain, FloatingKind, IntegerKind, Qualifiers, RealKind,
-};
+pub use ctype::{Base, CType, Derivation, Domain, FloatingKind, IntegerKind, Qualifiers, RealKind};
 pub use tables::{
     Aggregate, AggregateForm, Content, Enumeration, Layout, Member, OpaqueCause, Prototype,
     Signature, Tables,

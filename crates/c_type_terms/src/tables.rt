@@ -21,7 +21,7 @@ pub enum OpaqueCause {
 }
 
 /// A member with its offset in bytes (C99 6.7.2.1).
-#[derive(Debug, Drop)]
+#[derive(Drop)]
 pub struct Member {
     pub name: Name,
     pub offset: u64,
@@ -29,7 +29,7 @@ pub struct Member {
 }
 
 /// Where the members of a structure or union lie, in order, and how many bytes an object takes and is aligned to.
-#[derive(Debug, Drop)]
+#[derive(Drop)]
 pub struct Layout {
     pub size: u64,
     pub align: u64,
@@ -37,7 +37,7 @@ pub struct Layout {
 }
 
 /// What is known of the members of a structure or union.
-#[derive(Debug, Drop)]
+#[derive(Drop)]
 pub enum Content {
     /// Its list of members hasn't ended yet (C99 6.7.2.3p1).
     Incomplete,
@@ -47,7 +47,7 @@ pub enum Content {
 }
 
 /// A structure or union.
-#[derive(Debug, Drop)]
+#[derive(Drop)]
 pub struct Aggregate {
     pub form: AggregateForm,
     pub content: Content,
@@ -68,7 +68,7 @@ pub enum Prototype {
 
 /// What a function takes. The types are adjusted (C99 6.7.5.3p7, p8) and have the qualifiers that were declared.
 /// The types have signatures of smaller numbers only.
-#[derive(Debug, Drop)]
+#[derive(Drop)]
 pub struct Signature {
     pub prototype: Prototype,
     pub parameters: Items<CType>,
@@ -83,7 +83,7 @@ pub struct Enumeration {
 
 /// The structures and unions, enumerated types and signatures of a unit, each by its number, from 0. A type that is completed
 /// later is one entry that is replaced, so the completion reaches each type that was made before.
-#[derive(Debug, Drop)]
+#[derive(Drop)]
 pub struct Tables {
     pub aggregates: Items<Aggregate>,
     pub enumerations: Items<Enumeration>,
