@@ -1,4 +1,5 @@
--- When two declarations may be of one thing (C99 6.2.7), and what types become where they are used (C99 6.3.2.1, 6.7.5.3).
+-- When two declarations may be of one thing (C99 6.2.7), and what types become where they are used (C99 6.3.2.1,
+-- 6.7.5.3).
 use Rattle.std.specs.Prelude.{ℕ, zero, suc, nat_eq, length, Bool, true, false, cond, not, ◌&&◌, ◌||◌, List, [], ◌∷◌, Option, Some, None, slice_get}
 use Rattle.c_type_terms.specs.declared.ctype.IntegerKind.{IntegerKind}
 use Rattle.c_type_terms.specs.declared.ctype.IntegerKind.TheVariants as k
@@ -22,8 +23,8 @@ use Rattle.c_type_terms.specs.Integers.{promoted}
 
 -- ---- conversions of whole types
 
--- a parameter of array type is a pointer with the qualifiers between the brackets, one of function type a pointer to it
--- (C99 6.7.5.3p7, p8)
+-- a parameter of array type is a pointer with the qualifiers between the brackets, one of function type a pointer to
+-- it (C99 6.7.5.3p7, p8)
 abbrev pub adjusted_from : Qualifiers → CType → List Derivation → CType
 adjusted_from q t [] = t
 adjusted_from q t (d.Pointer p ∷ ds) = t
@@ -37,14 +38,14 @@ adjusted q t = adjusted_from q t t.derivations
 abbrev pub decayed : CType → CType
 decayed t = adjusted unqualified t
 
--- the default argument promotions leave a type as it is, up to compatibility (C99 6.5.2.2p6): `float` becomes `double`, and
--- integer types are promoted
+-- `float`, which the default argument promotions make `double` (C99 6.5.2.2p6)
 abbrev pub is_unpromoted_float : Base → Bool
 is_unpromoted_float (b.Floating kind) = is_float kind.real && is_real kind.domain
   where
     is_float : RealKind → Bool
     is_float r.Float = true
     is_float _ = false
+
     is_real : Domain → Bool
     is_real m.Real = true
     is_real _ = false
@@ -56,7 +57,8 @@ abbrev pub agree : Bool → Bool → Bool
 agree x y = cond x y (not y)
 
 abbrev pub same_qualifiers : Qualifiers → Qualifiers → Bool
-same_qualifiers p q = agree p.is_const q.is_const && agree p.is_volatile q.is_volatile && agree p.is_restrict q.is_restrict
+same_qualifiers p q =
+    agree p.is_const q.is_const && agree p.is_volatile q.is_volatile && agree p.is_restrict q.is_restrict
 
 -- a number for each integer type, real type and domain, so that they can be compared
 abbrev pub kind_number : IntegerKind → ℕ
@@ -92,7 +94,8 @@ abbrev pub same_kind : IntegerKind → IntegerKind → Bool
 same_kind x y = nat_eq (kind_number x) (kind_number y)
 
 abbrev pub same_floating : FloatingKind → FloatingKind → Bool
-same_floating x y = nat_eq (real_number x.real) (real_number y.real) && nat_eq (domain_number x.domain) (domain_number y.domain)
+same_floating x y =
+    nat_eq (real_number x.real) (real_number y.real) && nat_eq (domain_number x.domain) (domain_number y.domain)
 
 -- a type that isn't derived is compatible with itself; an enumerated type also with `int` (C99 6.7.2.2p4)
 abbrev pub bases_agree : Base → Base → Bool
@@ -116,7 +119,8 @@ lengths_agree _ _ = true
 -- the parameters are as many, and compatible pair by pair without their qualifiers
 abbrev pub parameters_agree : (CType → CType → Bool) → List CType → List CType → Bool
 parameters_agree types [] [] = true
-parameters_agree types (t ∷ ts) (u ∷ us) = types (unqualified_version t) (unqualified_version u) && parameters_agree types ts us
+parameters_agree types (t ∷ ts) (u ∷ us) =
+    types (unqualified_version t) (unqualified_version u) && parameters_agree types ts us
 parameters_agree types _ _ = false
 
 -- a parameter type of which a declaration without prototype may speak: the promotions leave it as it is
@@ -169,9 +173,12 @@ both_agree types _ _ = false
 
 abbrev pub derivations_agree : (ℕ → ℕ → Bool) → CType → CType → List Derivation → List Derivation → Bool
 derivations_agree signatures t u [] [] = bases_agree t.base u.base && same_qualifiers t.qualifiers u.qualifiers
-derivations_agree signatures t u (d.Pointer p ∷ ds) (d.Pointer q ∷ es) = same_qualifiers p q && derivations_agree signatures t u ds es
-derivations_agree signatures t u (d.Array n ∷ ds) (d.Array m ∷ es) = lengths_agree n m && derivations_agree signatures t u ds es
-derivations_agree signatures t u (d.Function f ∷ ds) (d.Function g ∷ es) = signatures f g && derivations_agree signatures t u ds es
+derivations_agree signatures t u (d.Pointer p ∷ ds) (d.Pointer q ∷ es) =
+    same_qualifiers p q && derivations_agree signatures t u ds es
+derivations_agree signatures t u (d.Array n ∷ ds) (d.Array m ∷ es) =
+    lengths_agree n m && derivations_agree signatures t u ds es
+derivations_agree signatures t u (d.Function f ∷ ds) (d.Function g ∷ es) =
+    signatures f g && derivations_agree signatures t u ds es
 derivations_agree signatures t u _ _ = false
 
 -- a function's parameters have signatures of smaller numbers, so as many levels as there are signatures are enough
@@ -179,8 +186,9 @@ abbrev pub compatible_at : ℕ → Tables → CType → CType → Bool
 compatible_at zero tables t u = derivations_agree (λ f g. nat_eq f g) t u t.derivations u.derivations
 compatible_at (suc n) tables t u =
     derivations_agree
-      (λ f g. nat_eq f g || both_agree (compatible_at n tables) (slice_get tables.signatures f) (slice_get tables.signatures g))
-      t u t.derivations u.derivations
+    (λ f g. nat_eq f g
+    || both_agree (compatible_at n tables) (slice_get tables.signatures f) (slice_get tables.signatures g))
+    t u t.derivations u.derivations
 
 abbrev pub compatible : Tables → CType → CType → Bool
 compatible tables t u = compatible_at (length tables.signatures) tables t u
@@ -203,13 +211,15 @@ has_prototype (Some s) = is_prototype s.prototype
 
 -- the prototype where one of the two is one
 abbrev pub known_signature : Tables → ℕ → ℕ → ℕ
-known_signature tables f g = cond (has_prototype (slice_get tables.signatures f)) f (cond (has_prototype (slice_get tables.signatures g)) g f)
+known_signature tables f g =
+    cond (has_prototype (slice_get tables.signatures f)) f (cond (has_prototype (slice_get tables.signatures g)) g f)
 
 -- derived as both are, with the number of elements and the prototype that one of them tells
 abbrev pub composite_from : Tables → List Derivation → List Derivation → List Derivation
 composite_from tables (d.Array n ∷ ds) (d.Array m ∷ es) = d.Array (known_length n m) ∷ composite_from tables ds es
 composite_from tables (d.Pointer p ∷ ds) (d.Pointer q ∷ es) = d.Pointer p ∷ composite_from tables ds es
-composite_from tables (d.Function f ∷ ds) (d.Function g ∷ es) = d.Function (known_signature tables f g) ∷ composite_from tables ds es
+composite_from tables (d.Function f ∷ ds) (d.Function g ∷ es) =
+    d.Function (known_signature tables f g) ∷ composite_from tables ds es
 composite_from tables ds _ = ds
 
 abbrev pub composite : Tables → CType → CType → CType

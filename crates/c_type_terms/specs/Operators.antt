@@ -1,6 +1,6 @@
--- The operators on whole numbers (C99 6.5.3.3, 6.5.5 to 6.5.14): a value of the type in which they work, or the kind of
--- undefined behaviour that is met. Each takes its operands as they are converted to that type. A constant expression has a value
--- where its operators have one (C99 6.6).
+-- The operators on whole numbers (C99 6.5.3.3, 6.5.5 to 6.5.14): a value of the type in which they work, or the kind
+-- of undefined behaviour that is met. Each takes its operands as they are converted to that type. A constant
+-- expression has a value where its operators have one (C99 6.6).
 use Rattle.std.specs.Prelude.{ℕ, ◌^◌, ℤ, pos, negsuc, ◌+ℤ◌, ◌-ℤ◌, ◌*ℤ◌, int_lt, int_div, int_rem, nat_lt, Bool, true, false, cond, not, ◌||◌, Result, Ok, Err, unsigned_abs}
 use Rattle.std.specs.Int.{int_div_euclid}
 use Rattle.std.specs.Int.Bits.{bit_and, bit_or, bit_xor}
@@ -30,7 +30,8 @@ product kind x y = exact kind (converted kind x *ℤ converted kind y)
 
 -- toward zero (C99 6.5.5p6)
 abbrev pub quotient : IntegerKind → ℤ → ℤ → Answer
-quotient kind x y = cond (is_zero (converted kind y)) (Err ZeroDivisor) (exact kind (int_div (converted kind x) (converted kind y)))
+quotient kind x y =
+    cond (is_zero (converted kind y)) (Err ZeroDivisor) (exact kind (int_div (converted kind x) (converted kind y)))
 
 abbrev pub where_in : Answer → ℤ → Answer
 where_in (Ok q) z = Ok z
@@ -59,11 +60,12 @@ as_shift (Err u) = Err Shift
 abbrev pub shifted_left : IntegerKind → ℤ → ℤ → Answer
 shifted_left kind x y =
     cond (is_far kind y || is_negative (converted kind x)) (Err Shift)
-      (as_shift (exact kind (converted kind x *ℤ pos (2 ^ unsigned_abs y))))
+    (as_shift (exact kind (converted kind x *ℤ pos (2 ^ unsigned_abs y))))
 
 -- the quotient by 2^y toward the lesser number: the sign bit is copied
 abbrev pub shifted_right : IntegerKind → ℤ → ℤ → Answer
-shifted_right kind x y = cond (is_far kind y) (Err Shift) (Ok (int_div_euclid (converted kind x) (pos (2 ^ unsigned_abs y))))
+shifted_right kind x y =
+    cond (is_far kind y) (Err Shift) (Ok (int_div_euclid (converted kind x) (pos (2 ^ unsigned_abs y))))
 
 -- ---- bits of the words (C99 6.5.10 to 6.5.12, 6.5.3.3p4)
 
@@ -97,7 +99,9 @@ abbrev pub less_equal : IntegerKind → ℤ → ℤ → ℤ
 less_equal kind x y = number_of (not (int_lt (converted kind y) (converted kind x)))
 
 abbrev pub unequal : IntegerKind → ℤ → ℤ → ℤ
-unequal kind x y = number_of (int_lt (converted kind x) (converted kind y) || int_lt (converted kind y) (converted kind x))
+unequal kind x y =
+    number_of (int_lt (converted kind x) (converted kind y) || int_lt (converted kind y) (converted kind x))
 
 abbrev pub equal : IntegerKind → ℤ → ℤ → ℤ
-equal kind x y = number_of (not (int_lt (converted kind x) (converted kind y) || int_lt (converted kind y) (converted kind x)))
+equal kind x y =
+    number_of (not (int_lt (converted kind x) (converted kind y) || int_lt (converted kind y) (converted kind x)))
