@@ -2,6 +2,7 @@
 #![tactic(auto)]
 
 mod class;
+mod compatible;
 mod ctype;
 mod integers;
 mod layouts;
