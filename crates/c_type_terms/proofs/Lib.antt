@@ -1,2 +1,3 @@
 pub mod Qualified
 pub mod Words
+pub mod Rows
