@@ -278,7 +278,8 @@ types :
     ≡ true ∷ false ∷ false ∷ false ∷ false ∷ false ∷ true ∷ false ∷ true ∷ false ∷ []
 types = refl
 
-completed : composite functions (array None (pointer_to (function 0 void))) (array (Some 3) (pointer_to (function 1 void)))
+completed :
+    composite functions (array None (pointer_to (function 0 void))) (array (Some 3) (pointer_to (function 1 void)))
     ≡ array (Some 3) (pointer_to (function 1 void))
 completed = refl
 

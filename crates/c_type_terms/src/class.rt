@@ -40,8 +40,8 @@ impl Class {
         matches!(self, Class::Integer(_) | Class::Floating)
     }
 
-    /// The integer type of the number by which a scalar converts: a pointer's is its 64-bit number (C99 6.3.2.3p5, p6).
-    /// A floating type has none.
+    /// The integer type of the number by which a scalar converts: a pointer's is its 64-bit number (C99 6.3.2.3p5,
+    /// p6). A floating type has none.
     pub fn number_kind(self) -> Option<IntegerKind>
         ensures { result ≡ spec.number_kind_in self }
     {
