@@ -1,0 +1,244 @@
+-- Types as data (C99 6.2.5), how they are derived, and to which classes they belong.
+use Rattle.std.specs.Prelude.{ℕ, Bool, true, false, ◌||◌, List, [], ◌∷◌, Option, Some, None, slice_get}
+use Rattle.c_type_terms.specs.declared.ctype.IntegerKind.{IntegerKind}
+use Rattle.c_type_terms.specs.declared.ctype.IntegerKind.TheVariants as k
+use Rattle.c_type_terms.specs.declared.ctype.FloatingKind.{FloatingKind}
+use Rattle.c_type_terms.specs.declared.ctype.Qualifiers.{Qualifiers}
+use Rattle.c_type_terms.specs.declared.ctype.Base.{Base}
+use Rattle.c_type_terms.specs.declared.ctype.Base.TheVariants as b
+use Rattle.c_type_terms.specs.declared.ctype.Derivation.{Derivation}
+use Rattle.c_type_terms.specs.declared.ctype.Derivation.TheVariants as d
+use Rattle.c_type_terms.specs.declared.ctype.CType.{CType}
+use Rattle.c_type_terms.specs.declared.class.Class.{Class}
+use Rattle.c_type_terms.specs.declared.class.Class.TheVariants as l
+use Rattle.c_type_terms.specs.declared.tables.Aggregate.{Aggregate}
+use Rattle.c_type_terms.specs.declared.tables.Content.{Content}
+use Rattle.c_type_terms.specs.declared.tables.Content.TheVariants as c
+use Rattle.c_type_terms.specs.declared.tables.Enumeration.{Enumeration}
+use Rattle.c_type_terms.specs.declared.tables.Tables.{Tables}
+
+-- ---- qualifiers (C99 6.7.3)
+
+abbrev pub unqualified : Qualifiers
+unqualified = record { is_const = false; is_volatile = false; is_restrict = false }
+
+-- one that is written again says nothing new (C99 6.7.3p4)
+abbrev pub with_both : Qualifiers → Qualifiers → Qualifiers
+with_both p q =
+    record { is_const = p.is_const || q.is_const; is_volatile = p.is_volatile || q.is_volatile; is_restrict = p.is_restrict || q.is_restrict }
+
+-- ---- types without derivation
+
+abbrev pub basic : Base → CType
+basic base = record { derivations = []; base = base; qualifiers = unqualified }
+
+abbrev pub void : CType
+void = basic b.Void
+
+abbrev pub integer : IntegerKind → CType
+integer kind = basic (b.Integer kind)
+
+abbrev pub floating : FloatingKind → CType
+floating kind = basic (b.Floating kind)
+
+abbrev pub enumerated : ℕ → CType
+enumerated number = basic (b.Enumerated number)
+
+abbrev pub aggregate : ℕ → CType
+aggregate number = basic (b.Aggregate number)
+
+-- ---- derived types (C99 6.2.5p20)
+
+abbrev pub pointer : Qualifiers → CType → CType
+pointer q t = record t { derivations = d.Pointer q ∷ t.derivations }
+
+abbrev pub pointer_to : CType → CType
+pointer_to t = pointer unqualified t
+
+abbrev pub array : Option ℕ → CType → CType
+array length t = record t { derivations = d.Array length ∷ t.derivations }
+
+abbrev pub function : ℕ → CType → CType
+function signature t = record t { derivations = d.Function signature ∷ t.derivations }
+
+-- what is left of a type without its outermost derivation
+abbrev pub rest_of : CType → List Derivation → CType
+rest_of t ds = record t { derivations = ds }
+
+-- ---- qualified types: of an array its elements, of a function nothing (C99 6.7.3p8, and p9)
+
+abbrev pub qualified_from : Qualifiers → CType → List Derivation → CType
+qualified_from q t [] = record t { qualifiers = with_both q t.qualifiers }
+qualified_from q t (d.Pointer p ∷ ds) = record t { derivations = d.Pointer (with_both q p) ∷ ds }
+qualified_from q t (d.Array n ∷ ds) = array n (qualified_from q (rest_of t ds) ds)
+qualified_from q t (d.Function s ∷ ds) = t
+
+abbrev pub qualified : Qualifiers → CType → CType
+qualified q t = qualified_from q t t.derivations
+
+-- the qualifiers of a type itself; those of an array are its elements' (C99 6.7.3p8)
+abbrev pub qualifiers_from : Qualifiers → List Derivation → Qualifiers
+qualifiers_from q [] = q
+qualifiers_from q (d.Pointer p ∷ ds) = p
+qualifiers_from q (d.Array n ∷ ds) = qualifiers_from q ds
+qualifiers_from q (d.Function s ∷ ds) = unqualified
+
+abbrev pub qualifiers_of : CType → Qualifiers
+qualifiers_of t = qualifiers_from t.qualifiers t.derivations
+
+abbrev pub is_const : CType → Bool
+is_const t = (qualifiers_of t).is_const
+
+-- the unqualified version of a type that is no array (C99 6.2.5p26)
+abbrev pub unqualified_from : CType → List Derivation → CType
+unqualified_from t [] = record t { qualifiers = unqualified }
+unqualified_from t (d.Pointer p ∷ ds) = record t { derivations = d.Pointer unqualified ∷ ds }
+unqualified_from t (d.Array n ∷ ds) = array n (unqualified_from (rest_of t ds) ds)
+unqualified_from t (d.Function s ∷ ds) = t
+
+abbrev pub unqualified_version : CType → CType
+unqualified_version t = unqualified_from t t.derivations
+
+-- ---- parts of a type
+
+abbrev pub target_in : CType → List Derivation → Option CType
+target_in t [] = None
+target_in t (d.Pointer q ∷ ds) = Some (rest_of t ds)
+target_in t (d.Array n ∷ ds) = None
+target_in t (d.Function s ∷ ds) = None
+
+-- the type that a pointer type points to
+abbrev pub target_of : CType → Option CType
+target_of t = target_in t t.derivations
+
+abbrev pub element_in : CType → List Derivation → Option CType
+element_in t [] = None
+element_in t (d.Pointer q ∷ ds) = None
+element_in t (d.Array n ∷ ds) = Some (rest_of t ds)
+element_in t (d.Function s ∷ ds) = None
+
+-- the type of an array type's elements
+abbrev pub element_of : CType → Option CType
+element_of t = element_in t t.derivations
+
+abbrev pub returned_in : CType → List Derivation → Option CType
+returned_in t [] = None
+returned_in t (d.Pointer q ∷ ds) = None
+returned_in t (d.Array n ∷ ds) = None
+returned_in t (d.Function s ∷ ds) = Some (rest_of t ds)
+
+-- the type that a function type returns
+abbrev pub returned_of : CType → Option CType
+returned_of t = returned_in t t.derivations
+
+-- ---- classes (C99 6.2.5)
+
+-- an enumerated type is an integer type with the range of `int` (C99 6.2.5p17, 6.7.2.2p4)
+abbrev pub class_of_base : Base → Class
+class_of_base b.Void = l.Void
+class_of_base (b.Integer kind) = l.Integer kind
+class_of_base (b.Floating kind) = l.Floating
+class_of_base b.VaList = l.Opaque
+class_of_base (b.Enumerated number) = l.Integer k.Int
+class_of_base (b.Aggregate number) = l.Aggregate number
+
+abbrev pub class_in : Base → List Derivation → Class
+class_in base [] = class_of_base base
+class_in base (d.Pointer q ∷ ds) = l.Pointer
+class_in base (d.Array n ∷ ds) = l.Array
+class_in base (d.Function s ∷ ds) = l.Function
+
+abbrev pub class_of : CType → Class
+class_of t = class_in t.base t.derivations
+
+abbrev pub kind_in : Class → Option IntegerKind
+kind_in (l.Integer kind) = Some kind
+kind_in _ = None
+
+-- the integer type that this is, with an enumerated type taken as `int`
+abbrev pub kind_of : CType → Option IntegerKind
+kind_of t = kind_in (class_of t)
+
+abbrev pub number_in : Class → Option ℕ
+number_in (l.Aggregate number) = Some number
+number_in _ = None
+
+-- the structure or union that this is
+abbrev pub aggregate_of : CType → Option ℕ
+aggregate_of t = number_in (class_of t)
+
+abbrev pub is_integer_class : Class → Bool
+is_integer_class (l.Integer kind) = true
+is_integer_class _ = false
+
+-- arithmetic types and pointer types (C99 6.2.5p21)
+abbrev pub is_scalar_class : Class → Bool
+is_scalar_class (l.Integer kind) = true
+is_scalar_class l.Floating = true
+is_scalar_class l.Pointer = true
+is_scalar_class _ = false
+
+abbrev pub is_arithmetic_class : Class → Bool
+is_arithmetic_class (l.Integer kind) = true
+is_arithmetic_class l.Floating = true
+is_arithmetic_class _ = false
+
+abbrev pub is_integer : CType → Bool
+is_integer t = is_integer_class (class_of t)
+
+abbrev pub is_arithmetic : CType → Bool
+is_arithmetic t = is_arithmetic_class (class_of t)
+
+abbrev pub is_scalar : CType → Bool
+is_scalar t = is_scalar_class (class_of t)
+
+abbrev pub is_floating : CType → Bool
+is_floating t = class_is_floating (class_of t)
+  where
+    class_is_floating : Class → Bool
+    class_is_floating l.Floating = true
+    class_is_floating _ = false
+
+abbrev pub is_pointer : CType → Bool
+is_pointer t = class_is_pointer (class_of t)
+  where
+    class_is_pointer : Class → Bool
+    class_is_pointer l.Pointer = true
+    class_is_pointer _ = false
+
+abbrev pub is_void : CType → Bool
+is_void t = class_is_void (class_of t)
+  where
+    class_is_void : Class → Bool
+    class_is_void l.Void = true
+    class_is_void _ = false
+
+abbrev pub is_array : CType → Bool
+is_array t = class_is_array (class_of t)
+  where
+    class_is_array : Class → Bool
+    class_is_array l.Array = true
+    class_is_array _ = false
+
+abbrev pub is_function : CType → Bool
+is_function t = class_is_function (class_of t)
+  where
+    class_is_function : Class → Bool
+    class_is_function l.Function = true
+    class_is_function _ = false
+
+-- ---- what the tables say
+
+abbrev pub content_of : Tables → ℕ → Content
+content_of tables number = content_in (slice_get tables.aggregates number)
+  where
+    content_in : Option Aggregate → Content
+    content_in None = c.Incomplete
+    content_in (Some a) = a.content
+
+abbrev pub is_listed : Tables → ℕ → Bool
+is_listed tables number = ended (slice_get tables.enumerations number)
+  where
+    ended : Option Enumeration → Bool
+    ended None = false
+    ended (Some e) = e.is_complete

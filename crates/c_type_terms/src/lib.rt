@@ -1,0 +1,16 @@
+//! Types of C, their layouts and conversions, and the operators on whole numbers: what needs no tree.
+#![tactic(auto)]
+
+mod class;
+mod ctype;
+mod integers;
+mod layouts;
+mod tables;
+
+pub use class::Class;
+pub use ctype::{Base, CType, Derivation, Domain, FloatingKind, IntegerKind, Qualifiers, RealKind};
+pub use layouts::OBJECT_LIMIT;
+pub use tables::{
+    Aggregate, AggregateForm, Content, Enumeration, Layout, Member, OpaqueCause, Prototype,
+    Signature, Tables,
+};
