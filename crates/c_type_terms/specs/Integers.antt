@@ -1,4 +1,5 @@
--- Integer types: ranges, ranks, promotion, the usual conversions, and conversion of values (C99 6.2.6, 6.3.1, 6.4.4.1).
+-- Integer types: ranges, ranks, promotion, the usual conversions, and conversion of values (C99 6.2.6, 6.3.1,
+-- 6.4.4.1).
 use Rattle.std.specs.Prelude.{ℕ, zero, suc, ◌-◌, ◌^◌, ℤ, pos, negsuc, int_lt, nat_le, nat_lt, nat_eq, Bool, true, false, cond, not, ◌&&◌}
 use Rattle.bit_words.specs.declared.width.Width.{Width}
 use Rattle.bit_words.specs.declared.width.Width.TheVariants as w
@@ -51,7 +52,8 @@ is_signed k.UnsignedLong = false
 is_signed k.LongLong = true
 is_signed k.UnsignedLongLong = false
 
--- ---- ranges (C99 5.2.4.2.1, 6.2.6.2): a signed type of N bits from -2^(N-1) to 2^(N-1) - 1, an unsigned one from 0 to 2^N - 1, `_Bool` 0 and 1
+-- ---- ranges (C99 5.2.4.2.1, 6.2.6.2): a signed type of N bits from -2^(N-1) to 2^(N-1) - 1, an unsigned one from 0
+-- to 2^N - 1, `_Bool` 0 and 1
 
 abbrev pub least_of : IntegerKind → ℤ
 least_of kind = cond (is_signed kind) (negsuc (2 ^ (bits_of kind - 1) - 1)) (pos 0)
@@ -115,13 +117,14 @@ unsigned_of k.UnsignedLongLong = k.UnsignedLongLong
 abbrev pub higher : IntegerKind → IntegerKind → IntegerKind
 higher a b = cond (nat_lt (rank_of a) (rank_of b)) b a
 
--- a signed and an unsigned type: the unsigned one where its rank isn't less, else the signed one where it has all values of
--- the other, else the unsigned one that corresponds to the signed one
+-- a signed and an unsigned type: the unsigned one where its rank isn't less, else the signed one where it has all
+-- values of the other, else the unsigned one that corresponds to the signed one
 abbrev pub mixed : IntegerKind → IntegerKind → IntegerKind
 mixed s u = cond (nat_le (rank_of s) (rank_of u)) u (cond (represents s u) s (unsigned_of s))
 
 abbrev pub common : IntegerKind → IntegerKind → IntegerKind
-common a b = cond (is_signed a) (cond (is_signed b) (higher a b) (mixed a b)) (cond (is_signed b) (mixed b a) (higher a b))
+common a b =
+    cond (is_signed a) (cond (is_signed b) (higher a b) (mixed a b)) (cond (is_signed b) (mixed b a) (higher a b))
 
 abbrev pub usual : IntegerKind → IntegerKind → IntegerKind
 usual a b = common (promoted a) (promoted b)

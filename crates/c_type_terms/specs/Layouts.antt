@@ -22,7 +22,8 @@ use Rattle.c_type_terms.specs.declared.tables.Tables.{Tables}
 use Rattle.c_type_terms.specs.Types.{content_of, is_listed, aggregate_of}
 use Rattle.c_type_terms.specs.Integers.{bytes_of}
 
--- Bytes are counted up to 2^32 - 1: no object may have more than 1,048,576, so a size at the end is too large in any case.
+-- Bytes are counted up to 2^32 - 1: no object may have more than 1,048,576, so a size at the end is too large in any
+-- case.
 abbrev pub counted : ℕ → ℕ
 counted n = min n 4294967295
 
@@ -152,7 +153,8 @@ is_above_limit (Some n) = nat_lt object_limit n
 
 abbrev pub is_too_large_from : Tables → Base → List Derivation → Bool
 is_too_large_from tables base [] = is_above_limit (base_size tables base)
-is_too_large_from tables base (x ∷ ds) = is_above_limit (size_from tables base (x ∷ ds)) || is_too_large_from tables base ds
+is_too_large_from tables base (x ∷ ds) =
+    is_above_limit (size_from tables base (x ∷ ds)) || is_too_large_from tables base ds
 
 -- the type, or one from which it is derived, has too many bytes
 abbrev pub is_too_large : Tables → CType → Bool
@@ -191,7 +193,11 @@ no_members = record { size = 0; align = 1; members = [] }
 
 abbrev pub with_member : Layout → ℕ → ℕ → ℕ → List ℕ → CType → Layout
 with_member l offset end align name t =
-    record { size = end; align = max l.align align; members = l.members ++ record { name = name; offset = offset; ctype = t } ∷ [] }
+    record {
+      size = end;
+      align = max l.align align;
+      members = l.members ++ record { name = name; offset = offset; ctype = t } ∷ [];
+    }
 
 -- a structure's next member stands behind those before it, aligned; a union's stands at the beginning
 abbrev pub placed : AggregateForm → Layout → Extent → List ℕ → CType → Layout

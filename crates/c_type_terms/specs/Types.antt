@@ -1,5 +1,5 @@
 -- Types as data (C99 6.2.5), how they are derived, and to which classes they belong.
-use Rattle.std.specs.Prelude.{ℕ, Bool, true, false, ◌||◌, List, [], ◌∷◌, Option, Some, None, slice_get}
+use Rattle.std.specs.Prelude.{ℕ, suc, Bool, true, false, cond, ◌||◌, List, [], ◌∷◌, Option, Some, None, slice_get}
 use Rattle.c_type_terms.specs.declared.ctype.IntegerKind.{IntegerKind}
 use Rattle.c_type_terms.specs.declared.ctype.IntegerKind.TheVariants as k
 use Rattle.c_type_terms.specs.declared.ctype.FloatingKind.{FloatingKind}
@@ -25,7 +25,11 @@ unqualified = record { is_const = false; is_volatile = false; is_restrict = fals
 -- one that is written again says nothing new (C99 6.7.3p4)
 abbrev pub with_both : Qualifiers → Qualifiers → Qualifiers
 with_both p q =
-    record { is_const = p.is_const || q.is_const; is_volatile = p.is_volatile || q.is_volatile; is_restrict = p.is_restrict || q.is_restrict }
+    record {
+      is_const = p.is_const || q.is_const;
+      is_volatile = p.is_volatile || q.is_volatile;
+      is_restrict = p.is_restrict || q.is_restrict;
+    }
 
 -- ---- types without derivation
 
@@ -65,18 +69,9 @@ function signature t = record t { derivations = d.Function signature ∷ t.deriv
 abbrev pub rest_of : CType → List Derivation → CType
 rest_of t ds = record t { derivations = ds }
 
--- ---- qualified types: of an array its elements, of a function nothing (C99 6.7.3p8, and p9)
+-- ---- qualified types: an array is qualified as its elements are, a function type isn't (C99 6.7.3p8)
 
-abbrev pub qualified_from : Qualifiers → CType → List Derivation → CType
-qualified_from q t [] = record t { qualifiers = with_both q t.qualifiers }
-qualified_from q t (d.Pointer p ∷ ds) = record t { derivations = d.Pointer (with_both q p) ∷ ds }
-qualified_from q t (d.Array n ∷ ds) = array n (qualified_from q (rest_of t ds) ds)
-qualified_from q t (d.Function s ∷ ds) = t
-
-abbrev pub qualified : Qualifiers → CType → CType
-qualified q t = qualified_from q t t.derivations
-
--- the qualifiers of a type itself; those of an array are its elements' (C99 6.7.3p8)
+-- the qualifiers of a type
 abbrev pub qualifiers_from : Qualifiers → List Derivation → Qualifiers
 qualifiers_from q [] = q
 qualifiers_from q (d.Pointer p ∷ ds) = p
@@ -89,15 +84,41 @@ qualifiers_of t = qualifiers_from t.qualifiers t.derivations
 abbrev pub is_const : CType → Bool
 is_const t = (qualifiers_of t).is_const
 
--- the unqualified version of a type that is no array (C99 6.2.5p26)
-abbrev pub unqualified_from : CType → List Derivation → CType
-unqualified_from t [] = record t { qualifiers = unqualified }
-unqualified_from t (d.Pointer p ∷ ds) = record t { derivations = d.Pointer unqualified ∷ ds }
-unqualified_from t (d.Array n ∷ ds) = array n (unqualified_from (rest_of t ds) ds)
-unqualified_from t (d.Function s ∷ ds) = t
+abbrev pub requalified_from : Qualifiers → List Derivation → List Derivation
+requalified_from q [] = []
+requalified_from q (d.Pointer p ∷ ds) = d.Pointer q ∷ ds
+requalified_from q (d.Array n ∷ ds) = d.Array n ∷ requalified_from q ds
+requalified_from q (d.Function s ∷ ds) = d.Function s ∷ ds
+
+-- how many derivations stand before the first that makes no array
+abbrev pub arrays_in : List Derivation → ℕ
+arrays_in [] = 0
+arrays_in (d.Pointer p ∷ ds) = 0
+arrays_in (d.Array n ∷ ds) = suc (arrays_in ds)
+arrays_in (d.Function s ∷ ds) = 0
+
+-- the type isn't derived, or an array of such a type
+abbrev pub is_array_of_base : List Derivation → Bool
+is_array_of_base [] = true
+is_array_of_base (d.Pointer p ∷ ds) = false
+is_array_of_base (d.Array n ∷ ds) = is_array_of_base ds
+is_array_of_base (d.Function s ∷ ds) = false
+
+-- the version of the type that has these qualifiers and no other (C99 6.2.5p26)
+abbrev pub requalified : Qualifiers → CType → CType
+requalified q t =
+    record {
+      derivations = requalified_from q t.derivations;
+      base = t.base;
+      qualifiers = cond (is_array_of_base t.derivations) q t.qualifiers;
+    }
 
 abbrev pub unqualified_version : CType → CType
-unqualified_version t = unqualified_from t t.derivations
+unqualified_version t = requalified unqualified t
+
+-- the so qualified version of a type, which keeps the qualifiers that it has (C99 6.7.3p4, 6.5.2.3p3)
+abbrev pub qualified : Qualifiers → CType → CType
+qualified q t = requalified (with_both q (qualifiers_of t)) t
 
 -- ---- parts of a type
 

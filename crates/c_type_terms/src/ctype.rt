@@ -1,12 +1,9 @@
 //! Types (C99 6.2.5), as plain data without recursion.
 
-ghost use Rattle.std.specs.Prelude.{◌≡◌, IfOk};
-
 use plain_data::Items;
-use std::alloc::{AllocError, Global};
 
-/// An integer type other than an enumerated type (C99 6.2.5p4 to p6, p15). Plain `char` is a type of its own, and so are
-/// `long` and `long long`, though some of these have one size and sign.
+/// An integer type other than an enumerated type (C99 6.2.5p4 to p6, p15). Plain `char` is a type of its own, and so
+/// are `long` and `long long`, though some of these have one size and sign.
 #[derive(Clone, Copy, Debug, PartialEq, Eq)]
 pub enum IntegerKind {
     Bool,
@@ -59,8 +56,8 @@ pub struct Qualifiers {
     pub is_restrict: bool,
 }
 
-/// What a type's derivations begin with. A structure or union, and an enumerated type, is itself by its declaration: its
-/// number in the table of its kind.
+/// What a type's derivations begin with. A structure or union, and an enumerated type, is itself by its declaration:
+/// its number in the table of its kind.
 #[derive(Clone, Copy, Debug, PartialEq, Eq)]
 pub enum Base {
     Void,
@@ -85,29 +82,15 @@ pub enum Derivation {
     Function(u32),
 }
 
-/// A type: its derivations, the outermost first, the type that they begin with, and the qualifiers of this one. So an array is
-/// qualified as its elements are (C99 6.7.3p8), and a pointer has its qualifiers in its own derivation.
+/// A type: its derivations, the outermost first, the type that they begin with, and the qualifiers of this one. So an
+/// array is qualified as its elements are (C99 6.7.3p8), and a pointer has its qualifiers in its own derivation.
 ///
-/// Equal values are the same type. The same type has equal values where no function is among its derivations: two function
-/// types of equal parameters may have two signatures. An enumerated type isn't the same type as `int`, though the two are
-/// compatible (C99 6.7.2.2p4).
+/// Equal values are the same type. The same type has equal values where no function is among its derivations: two
+/// function types of equal parameters may have two signatures. An enumerated type isn't the same type as `int`, though
+/// the two are compatible (C99 6.7.2.2p4).
 #[derive(Drop)]
 pub struct CType {
     pub derivations: Items<Derivation>,
     pub base: Base,
     pub qualifiers: Qualifiers,
-}
-
-impl CType {
-    /// One more value of the same type. It fails for want of memory alone.
-    pub fn duplicate(&self, alloc: Global) -> Result<CType, AllocError>
-        ensures { IfOk result (λ t. t ≡ self.now) }
-    {
-        let derivations = Items::from_slice(alloc, self.derivations.as_slice())?;
-        Ok(CType {
-            derivations,
-            base: self.base,
-            qualifiers: self.qualifiers,
-        })
-    }
 }

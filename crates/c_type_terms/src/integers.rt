@@ -195,7 +195,8 @@ impl IntegerKind {
         }
     }
 
-    /// The value that a word, the low N bits of an object, is in the type (C99 6.2.6.2); a `_Bool` of another word than 0 is 1.
+    /// The value that a word, the N bits of an object, is in the type (C99 6.2.6.2); a `_Bool` of another word than 0
+    /// is 1.
     pub fn value_of_word(self, word: u64) -> i128
         requires { word < 2 ^ spec.bits_of self }
         ensures { result ≡ spec.value_of_word self word }
@@ -209,7 +210,8 @@ impl IntegerKind {
         }
     }
 
-    /// The value of the type to which a number is converted (C99 6.3.1.2, 6.3.1.3): modulo 2^N, or whether it isn't 0.
+    /// The value of the type to which a number is converted (C99 6.3.1.2, 6.3.1.3): modulo 2^N, or for `_Bool` whether
+    /// it isn't 0.
     pub fn convert(self, value: i128) -> i128
         ensures { result ≡ spec.converted self value }
     {

@@ -1,5 +1,5 @@
-//! Sizes, alignments and where members lie (C99 6.5.3.4, 6.7.2.1). Bytes are counted up to 2^32 - 1: no object may have
-//! more than 1,048,576, so a type at the count's end is too large in any case.
+//! Sizes, alignments and where members lie (C99 6.5.3.4, 6.7.2.1). Bytes are counted up to 2^32 - 1: no object may
+//! have more than 1,048,576, so a type at the count's end is too large in any case.
 ghost use Rattle.std.specs.Prelude.{◌≡◌, ◌++◌, OnOk, OnErr, IfOk};
 ghost use Rattle.std.specs.Option.{option_copied};
 ghost use Rattle.c_type_terms.specs.Types.{content_of, is_listed};
@@ -161,8 +161,8 @@ impl Tables {
         }
     }
 
-    /// How many bytes an object of the type takes (C99 6.5.3.4): none exactly where the type is incomplete, opaque or a
-    /// function type.
+    /// How many bytes an object of the type takes (C99 6.5.3.4): none exactly where the type is incomplete, opaque or
+    /// a function type.
     pub fn size_of(&self, ctype: &CType) -> Option<u64>
         ensures { result ≡ spec.size_of self.now ctype.now }
     {

@@ -81,8 +81,8 @@ pub struct Enumeration {
     pub is_complete: bool,
 }
 
-/// The structures and unions, enumerated types and signatures of a unit, each by its number, from 0. A type that is completed
-/// later is one entry that is replaced, so the completion reaches each type that was made before.
+/// The structures and unions, enumerated types and signatures of a unit, each by its number, from 0. A type that is
+/// completed later is one entry that is replaced, so the completion reaches each type that was made before.
 #[derive(Drop)]
 pub struct Tables {
     pub aggregates: Items<Aggregate>,

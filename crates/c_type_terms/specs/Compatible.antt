@@ -1,0 +1,226 @@
+-- When two declarations may be of one thing (C99 6.2.7), and what types become where they are used (C99 6.3.2.1,
+-- 6.7.5.3).
+use Rattle.std.specs.Prelude.{ℕ, zero, suc, nat_eq, length, Bool, true, false, cond, not, ◌&&◌, ◌||◌, List, [], ◌∷◌, Option, Some, None, slice_get}
+use Rattle.c_type_terms.specs.declared.ctype.IntegerKind.{IntegerKind}
+use Rattle.c_type_terms.specs.declared.ctype.IntegerKind.TheVariants as k
+use Rattle.c_type_terms.specs.declared.ctype.RealKind.{RealKind}
+use Rattle.c_type_terms.specs.declared.ctype.RealKind.TheVariants as r
+use Rattle.c_type_terms.specs.declared.ctype.Domain.{Domain}
+use Rattle.c_type_terms.specs.declared.ctype.Domain.TheVariants as m
+use Rattle.c_type_terms.specs.declared.ctype.FloatingKind.{FloatingKind}
+use Rattle.c_type_terms.specs.declared.ctype.Qualifiers.{Qualifiers}
+use Rattle.c_type_terms.specs.declared.ctype.Base.{Base}
+use Rattle.c_type_terms.specs.declared.ctype.Base.TheVariants as b
+use Rattle.c_type_terms.specs.declared.ctype.Derivation.{Derivation}
+use Rattle.c_type_terms.specs.declared.ctype.Derivation.TheVariants as d
+use Rattle.c_type_terms.specs.declared.ctype.CType.{CType}
+use Rattle.c_type_terms.specs.declared.tables.Prototype.{Prototype}
+use Rattle.c_type_terms.specs.declared.tables.Prototype.TheVariants as p
+use Rattle.c_type_terms.specs.declared.tables.Signature.{Signature}
+use Rattle.c_type_terms.specs.declared.tables.Tables.{Tables}
+use Rattle.c_type_terms.specs.Types.{unqualified, pointer, pointer_to, rest_of, basic, kind_of, unqualified_version}
+use Rattle.c_type_terms.specs.Integers.{promoted}
+
+-- ---- conversions of whole types
+
+-- a parameter of array type is a pointer with the qualifiers between the brackets, one of function type a pointer to
+-- it (C99 6.7.5.3p7, p8)
+abbrev pub adjusted_from : Qualifiers → CType → List Derivation → CType
+adjusted_from q t [] = t
+adjusted_from q t (d.Pointer p ∷ ds) = t
+adjusted_from q t (d.Array n ∷ ds) = pointer q (rest_of t ds)
+adjusted_from q t (d.Function s ∷ ds) = pointer_to t
+
+abbrev pub adjusted : Qualifiers → CType → CType
+adjusted q t = adjusted_from q t t.derivations
+
+-- an array is a pointer to its first element, a function a pointer to it (C99 6.3.2.1p3, p4)
+abbrev pub decayed : CType → CType
+decayed t = adjusted unqualified t
+
+-- `float`, which the default argument promotions make `double` (C99 6.5.2.2p6)
+abbrev pub is_unpromoted_float : Base → Bool
+is_unpromoted_float (b.Floating kind) = is_float kind.real && is_real kind.domain
+  where
+    is_float : RealKind → Bool
+    is_float r.Float = true
+    is_float _ = false
+
+    is_real : Domain → Bool
+    is_real m.Real = true
+    is_real _ = false
+is_unpromoted_float _ = false
+
+-- ---- sameness of parts
+
+abbrev pub agree : Bool → Bool → Bool
+agree x y = cond x y (not y)
+
+abbrev pub same_qualifiers : Qualifiers → Qualifiers → Bool
+same_qualifiers p q =
+    agree p.is_const q.is_const && agree p.is_volatile q.is_volatile && agree p.is_restrict q.is_restrict
+
+-- a number for each integer type, real type and domain, so that they can be compared
+abbrev pub kind_number : IntegerKind → ℕ
+kind_number k.Bool = 0
+kind_number k.Char = 1
+kind_number k.SignedChar = 2
+kind_number k.UnsignedChar = 3
+kind_number k.Short = 4
+kind_number k.UnsignedShort = 5
+kind_number k.Int = 6
+kind_number k.UnsignedInt = 7
+kind_number k.Long = 8
+kind_number k.UnsignedLong = 9
+kind_number k.LongLong = 10
+kind_number k.UnsignedLongLong = 11
+
+abbrev pub real_number : RealKind → ℕ
+real_number r.Float = 0
+real_number r.Double = 1
+real_number r.LongDouble = 2
+real_number r.Float32 = 3
+real_number r.Float64 = 4
+real_number r.Float32x = 5
+real_number r.Float64x = 6
+real_number r.Float128 = 7
+
+abbrev pub domain_number : Domain → ℕ
+domain_number m.Real = 0
+domain_number m.Complex = 1
+domain_number m.Imaginary = 2
+
+abbrev pub same_kind : IntegerKind → IntegerKind → Bool
+same_kind x y = nat_eq (kind_number x) (kind_number y)
+
+abbrev pub same_floating : FloatingKind → FloatingKind → Bool
+same_floating x y =
+    nat_eq (real_number x.real) (real_number y.real) && nat_eq (domain_number x.domain) (domain_number y.domain)
+
+-- a type that isn't derived is compatible with itself; an enumerated type also with `int` (C99 6.7.2.2p4)
+abbrev pub bases_agree : Base → Base → Bool
+bases_agree b.Void b.Void = true
+bases_agree (b.Integer x) (b.Integer y) = same_kind x y
+bases_agree (b.Integer x) (b.Enumerated n) = same_kind x k.Int
+bases_agree (b.Enumerated n) (b.Integer y) = same_kind y k.Int
+bases_agree (b.Floating x) (b.Floating y) = same_floating x y
+bases_agree b.VaList b.VaList = true
+bases_agree (b.Enumerated n) (b.Enumerated m) = nat_eq n m
+bases_agree (b.Aggregate n) (b.Aggregate m) = nat_eq n m
+bases_agree _ _ = false
+
+-- of two arrays, where both numbers of elements are known they are equal (C99 6.7.5.2p6)
+abbrev pub lengths_agree : Option ℕ → Option ℕ → Bool
+lengths_agree (Some n) (Some m) = nat_eq n m
+lengths_agree _ _ = true
+
+-- ---- function types (C99 6.7.5.3p15)
+
+-- the parameters are as many, and compatible pair by pair without their qualifiers
+abbrev pub parameters_agree : (CType → CType → Bool) → List CType → List CType → Bool
+parameters_agree types [] [] = true
+parameters_agree types (t ∷ ts) (u ∷ us) =
+    types (unqualified_version t) (unqualified_version u) && parameters_agree types ts us
+parameters_agree types _ _ = false
+
+-- a parameter type of which a declaration without prototype may speak: the promotions leave it as it is
+abbrev pub is_default_kind : Option IntegerKind → Bool
+is_default_kind None = true
+is_default_kind (Some kind) = same_kind kind (promoted kind)
+
+abbrev pub is_default_from : Base → List Derivation → Bool
+is_default_from base [] = not (is_unpromoted_float base) && is_default_kind (kind_of (basic base))
+is_default_from base (x ∷ ds) = true
+
+abbrev pub is_default : CType → Bool
+is_default t = is_default_from t.base t.derivations
+
+abbrev pub are_default : List CType → Bool
+are_default [] = true
+are_default (t ∷ ts) = is_default t && are_default ts
+
+abbrev pub are_none : List CType → Bool
+are_none [] = true
+are_none (t ∷ ts) = false
+
+-- what declarations say of parameters: both prototypes, one of them, or none
+abbrev pub signature_agrees : (CType → CType → Bool) → Signature → Signature → Bool
+signature_agrees types f g = by f.prototype g.prototype
+  where
+    by : Prototype → Prototype → Bool
+    by p.Fixed p.Fixed = parameters_agree types f.parameters g.parameters
+    by p.Variadic p.Variadic = parameters_agree types f.parameters g.parameters
+    by p.Fixed p.Variadic = false
+    by p.Variadic p.Fixed = false
+    by p.Fixed p.Unspecified = are_default f.parameters
+    by p.Unspecified p.Fixed = are_default g.parameters
+    by p.Fixed p.EmptyDefinition = are_none f.parameters
+    by p.EmptyDefinition p.Fixed = are_none g.parameters
+    by p.Variadic p.Unspecified = false
+    by p.Unspecified p.Variadic = false
+    by p.Variadic p.EmptyDefinition = false
+    by p.EmptyDefinition p.Variadic = false
+    by p.Unspecified p.Unspecified = true
+    by p.Unspecified p.EmptyDefinition = true
+    by p.EmptyDefinition p.Unspecified = true
+    by p.EmptyDefinition p.EmptyDefinition = true
+
+abbrev pub both_agree : (CType → CType → Bool) → Option Signature → Option Signature → Bool
+both_agree types (Some f) (Some g) = signature_agrees types f g
+both_agree types _ _ = false
+
+-- ---- types (C99 6.2.7, 6.7.3p9, 6.7.5.1p2): derived alike of compatible types, with the same qualifiers
+
+abbrev pub derivations_agree : (ℕ → ℕ → Bool) → CType → CType → List Derivation → List Derivation → Bool
+derivations_agree signatures t u [] [] = bases_agree t.base u.base && same_qualifiers t.qualifiers u.qualifiers
+derivations_agree signatures t u (d.Pointer p ∷ ds) (d.Pointer q ∷ es) =
+    same_qualifiers p q && derivations_agree signatures t u ds es
+derivations_agree signatures t u (d.Array n ∷ ds) (d.Array m ∷ es) =
+    lengths_agree n m && derivations_agree signatures t u ds es
+derivations_agree signatures t u (d.Function f ∷ ds) (d.Function g ∷ es) =
+    signatures f g && derivations_agree signatures t u ds es
+derivations_agree signatures t u _ _ = false
+
+-- a function's parameters have signatures of smaller numbers, so as many levels as there are signatures are enough
+abbrev pub compatible_at : ℕ → Tables → CType → CType → Bool
+compatible_at zero tables t u = derivations_agree (λ f g. nat_eq f g) t u t.derivations u.derivations
+compatible_at (suc n) tables t u =
+    derivations_agree
+    (λ f g. nat_eq f g
+    || both_agree (compatible_at n tables) (slice_get tables.signatures f) (slice_get tables.signatures g))
+    t u t.derivations u.derivations
+
+abbrev pub compatible : Tables → CType → CType → Bool
+compatible tables t u = compatible_at (length tables.signatures) tables t u
+
+-- ---- the composite type of two compatible types (C99 6.2.7p3)
+
+abbrev pub known_length : Option ℕ → Option ℕ → Option ℕ
+known_length (Some n) m = Some n
+known_length None m = m
+
+abbrev pub is_prototype : Prototype → Bool
+is_prototype p.Fixed = true
+is_prototype p.Variadic = true
+is_prototype p.Unspecified = false
+is_prototype p.EmptyDefinition = false
+
+abbrev pub has_prototype : Option Signature → Bool
+has_prototype None = false
+has_prototype (Some s) = is_prototype s.prototype
+
+-- the prototype where one of the two is one
+abbrev pub known_signature : Tables → ℕ → ℕ → ℕ
+known_signature tables f g =
+    cond (has_prototype (slice_get tables.signatures f)) f (cond (has_prototype (slice_get tables.signatures g)) g f)
+
+-- derived as both are, with the number of elements and the prototype that one of them tells
+abbrev pub composite_from : Tables → List Derivation → List Derivation → List Derivation
+composite_from tables (d.Array n ∷ ds) (d.Array m ∷ es) = d.Array (known_length n m) ∷ composite_from tables ds es
+composite_from tables (d.Pointer p ∷ ds) (d.Pointer q ∷ es) = d.Pointer p ∷ composite_from tables ds es
+composite_from tables (d.Function f ∷ ds) (d.Function g ∷ es) =
+    d.Function (known_signature tables f g) ∷ composite_from tables ds es
+composite_from tables ds _ = ds
+
+abbrev pub composite : Tables → CType → CType → CType
+composite tables t u = record t { derivations = composite_from tables t.derivations u.derivations }
