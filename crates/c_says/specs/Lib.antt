@@ -1,0 +1,4 @@
+pub mod Scopes
+pub mod Typing
+pub mod Declares
+pub mod Trees

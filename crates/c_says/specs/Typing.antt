@@ -1,0 +1,755 @@
+-- What an expression says before it is evaluated (C99 6.5, 6.6): `Typed`, its type as written, its constant value, whether it is an
+-- lvalue, the rules that it breaks, and the scope behind it. One function a form, over what its parts say.
+--
+-- A node that breaks a rule has no type, and a node of which a part has no type breaks no rule itself.
+use Rattle.std.specs.Prelude.{ℕ, zero, suc, ◌+◌, ℤ, pos, negsuc, nat_eq, nat_lt, Bool, true, false, cond, not, ◌&&◌, ◌||◌, List, [], ◌∷◌, ◌++◌, length, Option, Some, None, Result, Ok, Err, slice_get}
+use Rattle.bit_words.specs.declared.run.Undefined.{Undefined}
+use Rattle.c_lexer.specs.declared.token.IntegerConstant.{IntegerConstant}
+use Rattle.c_tree.specs.declared.expr.BinaryOperator.{BinaryOperator}
+use Rattle.c_tree.specs.declared.expr.BinaryOperator.TheVariants as o
+use Rattle.c_tree.specs.declared.expr.UnaryOperator.{UnaryOperator}
+use Rattle.c_tree.specs.declared.expr.UnaryOperator.TheVariants as u
+use Rattle.c_type_terms.specs.declared.class.Class.{Class}
+use Rattle.c_type_terms.specs.declared.class.Class.TheVariants as class
+use Rattle.c_type_terms.specs.declared.ctype.Base.TheVariants as base
+use Rattle.c_type_terms.specs.declared.ctype.CType.{CType}
+use Rattle.c_type_terms.specs.declared.ctype.Derivation.{Derivation}
+use Rattle.c_type_terms.specs.declared.ctype.Derivation.TheVariants as d
+use Rattle.c_type_terms.specs.declared.ctype.IntegerKind.{IntegerKind}
+use Rattle.c_type_terms.specs.declared.ctype.IntegerKind.TheVariants as k
+use Rattle.c_type_terms.specs.declared.ctype.Qualifiers.{Qualifiers}
+use Rattle.c_type_terms.specs.declared.tables.Content.{Content}
+use Rattle.c_type_terms.specs.declared.tables.Content.TheVariants as content_
+use Rattle.c_type_terms.specs.declared.tables.Layout.{Layout}
+use Rattle.c_type_terms.specs.declared.tables.Member.{Member}
+use Rattle.c_type_terms.specs.declared.tables.OpaqueCause.TheVariants as cause
+use Rattle.c_type_terms.specs.declared.tables.Prototype.{Prototype}
+use Rattle.c_type_terms.specs.declared.tables.Prototype.TheVariants as prototype_
+use Rattle.c_type_terms.specs.declared.tables.Signature.{Signature}
+use Rattle.c_type_terms.specs.declared.tables.Tables.{Tables}
+use Rattle.c_type_terms.specs.Types.{unqualified, with_both, void, integer, pointer, pointer_to, array, qualified, qualifiers_of, is_const, unqualified_version, target_of, returned_of, class_of, kind_of, aggregate_of, is_integer, is_scalar, is_floating, is_pointer, is_void, is_array, is_function, content_of}
+use Rattle.c_type_terms.specs.Integers.{promoted, usual, of_constant, converted, is_zero, number_of}
+use Rattle.c_type_terms.specs.Layouts.{size_of, is_sized, is_too_large, member_named}
+use Rattle.c_type_terms.specs.Compatible.{decayed}
+use Rattle.c_type_terms.specs.Operators.{Answer, sum, difference, product, quotient, remainder, shifted_left, shifted_right, bits_and, bits_xor, bits_or, complement, negation, less, less_equal, unequal, equal}
+use Rattle.c_says.specs.declared.scope.Entry.{Entry}
+use Rattle.c_says.specs.declared.scope.Fault.{Fault}
+use Rattle.c_says.specs.declared.scope.LayoutRule.{LayoutRule}
+use Rattle.c_says.specs.declared.scope.LayoutRule.TheVariants as layout
+use Rattle.c_says.specs.declared.scope.Means.{Means}
+use Rattle.c_says.specs.declared.scope.Means.TheVariants as means
+use Rattle.c_says.specs.declared.scope.Rule.{Rule}
+use Rattle.c_says.specs.declared.scope.Rule.TheVariants as rule
+use Rattle.c_says.specs.Scopes.{Name, Scope}
+
+-- What an expression says. `at` is its own token, parentheses apart. `is_null` marks a null pointer constant (C99 6.3.2.3p3), and
+-- `designates` is the declaration of the name that the expression is, parentheses apart.
+pub record Typed : Type 0 where
+  pub at : ℕ
+  pub type : Option CType
+  pub value : Option ℤ
+  pub is_null : Bool
+  pub is_lvalue : Bool
+  pub designates : Option Entry
+  pub faults : List Fault
+  pub after : Scope
+
+-- What a node says of itself where it breaks no rule.
+pub record Shown : Type 0 where
+  pub type : CType
+  pub value : Option ℤ
+  pub is_null : Bool
+  pub is_lvalue : Bool
+  pub designates : Option Entry
+
+-- what a node says of itself, or the rule that it breaks: of several the first in the order of refusals
+abbrev pub Judgement : Type 0
+Judgement = Result Shown Rule
+
+abbrev pub fault_at : ℕ → Rule → List Fault
+fault_at at r = record { at = at; rule = r } ∷ []
+
+abbrev pub incomplete : Rule
+incomplete = rule.Layout layout.Incomplete
+
+abbrev pub too_large : Rule
+too_large = rule.Layout layout.ObjectTooLarge
+
+abbrev pub no_constant : Rule
+no_constant = rule.Layout layout.NotConstant
+
+-- ---- what nodes show
+
+-- a value that isn't constant
+abbrev pub some_value : CType → Shown
+some_value t = record { type = t; value = None; is_null = false; is_lvalue = false; designates = None }
+
+-- an object
+abbrev pub an_object : CType → Shown
+an_object t = record { type = t; value = None; is_null = false; is_lvalue = true; designates = None }
+
+abbrev pub null_where : Option ℤ → Bool
+null_where None = false
+null_where (Some z) = is_zero z
+
+-- a value of an integer type, constant or not; a constant 0 is a null pointer constant (C99 6.3.2.3p3)
+abbrev pub an_integer : IntegerKind → Option ℤ → Shown
+an_integer kind z = record { type = integer kind; value = z; is_null = null_where z; is_lvalue = false; designates = None }
+
+-- ---- nodes
+
+abbrev pub typeless : ℕ → List Fault → Scope → Typed
+typeless at faults s =
+    record { at = at; type = None; value = None; is_null = false; is_lvalue = false; designates = None; faults = faults; after = s }
+
+-- an expression of floating type is refused where it stands
+abbrev pub node : ℕ → Judgement → List Fault → Scope → Typed
+node at (Err r) faults s = typeless at (faults ++ fault_at at r) s
+node at (Ok x) faults s =
+    cond (is_floating x.type) (typeless at (faults ++ fault_at at rule.FloatUsed) s)
+      (record {
+        at = at;
+        type = Some x.type;
+        value = x.value;
+        is_null = x.is_null;
+        is_lvalue = x.is_lvalue;
+        designates = x.designates;
+        faults = faults;
+        after = s;
+      })
+
+abbrev pub show_typed : Typed → CType → Shown
+show_typed x t = record { type = t; value = x.value; is_null = x.is_null; is_lvalue = x.is_lvalue; designates = x.designates }
+
+abbrev pub shown_as : Typed → Option CType → Option Shown
+shown_as x None = None
+shown_as x (Some t) = Some (show_typed x t)
+
+abbrev pub shown : Typed → Option Shown
+shown x = shown_as x x.type
+
+abbrev pub node_over : ℕ → Option Shown → (Shown → Judgement) → List Fault → Scope → Typed
+node_over at None f faults s = typeless at faults s
+node_over at (Some x) f faults s = node at (f x) faults s
+
+abbrev pub node_over_two : ℕ → Option Shown → Option Shown → (Shown → Shown → Judgement) → List Fault → Scope → Typed
+node_over_two at None y f faults s = typeless at faults s
+node_over_two at (Some x) None f faults s = typeless at faults s
+node_over_two at (Some x) (Some y) f faults s = node at (f x y) faults s
+
+-- a node over one part
+abbrev pub over : ℕ → Typed → (Shown → Judgement) → Typed
+over at x f = node_over at (shown x) f x.faults x.after
+
+-- a node over two parts, of which the second stands behind the first
+abbrev pub over_two : ℕ → Typed → Typed → (Shown → Shown → Judgement) → Typed
+over_two at x y f = node_over_two at (shown x) (shown y) f (x.faults ++ y.faults) y.after
+
+-- ---- values of lvalues, arrays and functions (C99 6.3.2.1)
+
+abbrev pub value_of_array : Shown → Judgement
+value_of_array x = cond x.is_lvalue (Ok (some_value (decayed x.type))) (Err rule.TypeMismatch)
+
+abbrev pub value_where : Bool → Shown → Judgement
+value_where true x = Ok (record x { type = unqualified_version x.type; is_lvalue = false })
+value_where false x = Err incomplete
+
+-- An array turns into a pointer to its first element, a function into a pointer to it, an object into its value, without
+-- qualifiers (C99 6.3.2.1p2 to p4). An array that is no lvalue has no first element, and an object whose size isn't known no value.
+abbrev pub value_in : Tables → Class → Shown → Judgement
+value_in tables class.Array x = value_of_array x
+value_in tables class.Function x = Ok (some_value (decayed x.type))
+value_in tables (class.Aggregate n) x = value_where (is_sized tables x.type) x
+value_in tables class.Opaque x = value_where false x
+value_in tables class.Void x = value_where true x
+value_in tables (class.Integer kind) x = value_where true x
+value_in tables class.Floating x = value_where true x
+value_in tables class.Pointer x = value_where true x
+
+abbrev pub value_of : Tables → Shown → Judgement
+value_of tables x = value_in tables (class_of x.type) x
+
+-- the part as a value
+abbrev pub used : Typed → Typed
+used x = over x.at x (value_of x.after.tables)
+
+-- ---- primary expressions (C99 6.5.1)
+
+-- C99 6.4.4.1p5
+abbrev pub integer_constant : ℕ → IntegerConstant → Scope → Typed
+integer_constant at c s = node at (Ok (an_integer (of_constant c.integer_type) (Some (pos c.value)))) [] s
+
+-- C99 6.4.4.4p10
+abbrev pub character_constant : ℕ → ℤ → Scope → Typed
+character_constant at value s = node at (Ok (an_integer k.Int (Some value))) [] s
+
+-- C99 6.4.4.2p4: a constant of floating type
+abbrev pub floating_constant : ℕ → Scope → Typed
+floating_constant at s = typeless at (fault_at at rule.FloatUsed) s
+
+abbrev pub total : List (List ℕ) → ℕ
+total [] = 0
+total (p ∷ ps) = length p + total ps
+
+-- an array of the bytes and one more (C99 6.4.5p5)
+abbrev pub literal_type : List (List ℕ) → CType
+literal_type pieces = array (Some (suc (total pieces))) (integer k.Char)
+
+abbrev pub within_limit : Tables → Shown → Judgement
+within_limit tables x = cond (is_too_large tables x.type) (Err too_large) (Ok x)
+
+abbrev pub string_literal : ℕ → List (List ℕ) → Scope → Typed
+string_literal at pieces s = node at (within_limit s.tables (an_object (literal_type pieces))) [] s
+
+-- a literal of the function's name (C99 6.4.2.2); there is none outside a function
+abbrev pub function_name : ℕ → Option Name → Scope → Typed
+function_name at None s = typeless at (fault_at at rule.Undeclared) s
+function_name at (Some name) s = string_literal at (name ∷ []) s
+
+abbrev pub entry_shown : Entry → Shown → Shown
+entry_shown e x = record x { designates = Some e }
+
+-- a declared name of an object or function, or an enumeration constant (C99 6.5.1p2, p5); a typedef name is none
+abbrev pub named_as : ℕ → Scope → Entry → Means → Typed
+named_as at s e (means.Object t duration linkage) = node at (Ok (entry_shown e (an_object t))) [] s
+named_as at s e (means.Function t linkage) = node at (Ok (entry_shown e (some_value t))) [] s
+named_as at s e (means.Typedef t) = typeless at (fault_at at rule.Undeclared) s
+named_as at s e (means.Constant z) = node at (Ok (entry_shown e (an_integer k.Int (Some z)))) [] s
+named_as at s e means.Faulty = typeless at [] s
+
+abbrev pub identifier : ℕ → Scope → Option Entry → Typed
+identifier at s None = typeless at (fault_at at rule.Undeclared) s
+identifier at s (Some e) = named_as at s e e.means
+
+-- ---- operands
+
+abbrev pub on_integers_of : Option IntegerKind → Option IntegerKind → (IntegerKind → IntegerKind → Judgement) → Judgement
+on_integers_of (Some a) (Some b) f = f a b
+on_integers_of (Some a) None f = Err rule.TypeMismatch
+on_integers_of None b f = Err rule.TypeMismatch
+
+-- both operands are integers
+abbrev pub on_integers : Shown → Shown → (IntegerKind → IntegerKind → Judgement) → Judgement
+on_integers x y f = on_integers_of (kind_of x.type) (kind_of y.type) f
+
+abbrev pub both : {A B C : Type 0} → Option A → Option B → (A → B → Option C) → Option C
+both None y f = None
+both (Some x) None f = None
+both (Some x) (Some y) f = f x y
+
+-- an operator that is undefined has no value (C99 6.6p4)
+abbrev pub defined : Answer → Option ℤ
+defined (Ok z) = Some z
+defined (Err reason) = None
+
+abbrev pub defined_on : Option ℤ → Option ℤ → (ℤ → ℤ → Answer) → Option ℤ
+defined_on x y f = both x y (λ x y. defined (f x y))
+
+-- a pointer to a type whose size is known moves by elements (C99 6.5.6p2, p8)
+abbrev pub moved_to : Tables → Shown → Option CType → Judgement
+moved_to tables x None = Err rule.TypeMismatch
+moved_to tables x (Some t) = cond (is_sized tables t) (Ok (some_value x.type)) (Err incomplete)
+
+abbrev pub moved : Tables → Shown → Judgement
+moved tables x = moved_to tables x (target_of x.type)
+
+-- ---- binary operators (C99 6.5.5 to 6.5.14), over values
+
+-- C99 6.5.5, 6.5.10 to 6.5.12, and 6.5.6 on integers: the type that the usual conversions give
+abbrev pub arithmetic : (IntegerKind → ℤ → ℤ → Answer) → Shown → Shown → Judgement
+arithmetic f x y = on_integers x y (λ a b. Ok (an_integer (usual a b) (defined_on x.value y.value (f (usual a b)))))
+
+-- C99 6.5.7p3: the type of the promoted left operand
+abbrev pub shift : (IntegerKind → ℤ → ℤ → Answer) → Shown → Shown → Judgement
+shift f x y = on_integers x y (λ a b. Ok (an_integer (promoted a) (defined_on x.value y.value (f (promoted a)))))
+
+-- C99 6.5.6p2: integers, or a pointer and an integer
+abbrev pub addition_of : Tables → Bool → Bool → Shown → Shown → Judgement
+addition_of tables true false x y = cond (is_integer y.type) (moved tables x) (Err rule.TypeMismatch)
+addition_of tables false true x y = cond (is_integer x.type) (moved tables y) (Err rule.TypeMismatch)
+addition_of tables true true x y = Err rule.TypeMismatch
+addition_of tables false false x y = arithmetic sum x y
+
+abbrev pub addition : Tables → Shown → Shown → Judgement
+addition tables x y = addition_of tables (is_pointer x.type) (is_pointer y.type) x y
+
+abbrev pub as_distance : Judgement → Judgement → Judgement
+as_distance (Err r) q = Err r
+as_distance (Ok x) (Err r) = Err r
+as_distance (Ok x) (Ok y) = Ok (some_value (integer k.Long))
+
+-- C99 6.5.6p3: integers, two pointers, or a pointer and an integer
+abbrev pub subtraction_of : Tables → Bool → Bool → Shown → Shown → Judgement
+subtraction_of tables true true x y = as_distance (moved tables x) (moved tables y)
+subtraction_of tables true false x y = cond (is_integer y.type) (moved tables x) (Err rule.TypeMismatch)
+subtraction_of tables false true x y = Err rule.TypeMismatch
+subtraction_of tables false false x y = arithmetic difference x y
+
+abbrev pub subtraction : Tables → Shown → Shown → Judgement
+subtraction tables x y = subtraction_of tables (is_pointer x.type) (is_pointer y.type) x y
+
+abbrev pub compared_values : (IntegerKind → ℤ → ℤ → ℤ) → Shown → Shown → Option IntegerKind → Option IntegerKind → Option ℤ
+compared_values f x y a b = both a b (λ a b. both x.value y.value (λ m n. Some (f (usual a b) m n)))
+
+abbrev pub scalars : Shown → Shown → Shown → Judgement
+scalars x y z = cond (is_scalar x.type && is_scalar y.type) (Ok z) (Err rule.TypeMismatch)
+
+-- C99 6.5.8p6, 6.5.9p3: 1 or 0, of type `int`
+abbrev pub comparison : (IntegerKind → ℤ → ℤ → ℤ) → Shown → Shown → Judgement
+comparison f x y = scalars x y (an_integer k.Int (compared_values f x y (kind_of x.type) (kind_of y.type)))
+
+abbrev pub truth : ℤ → Bool
+truth z = not (is_zero z)
+
+-- C99 6.5.13p3, 6.5.14p3
+abbrev pub logical : (Bool → Bool → Bool) → Shown → Shown → Judgement
+logical f x y = scalars x y (an_integer k.Int (both x.value y.value (λ m n. Some (number_of (f (truth m) (truth n))))))
+
+abbrev pub plain : (IntegerKind → ℤ → ℤ → ℤ) → IntegerKind → ℤ → ℤ → Answer
+plain f kind x y = Ok (f kind x y)
+
+abbrev pub operated : Tables → BinaryOperator → Shown → Shown → Judgement
+operated tables o.Multiply x y = arithmetic product x y
+operated tables o.Divide x y = arithmetic quotient x y
+operated tables o.Remainder x y = arithmetic remainder x y
+operated tables o.Add x y = addition tables x y
+operated tables o.Subtract x y = subtraction tables x y
+operated tables o.ShiftLeft x y = shift shifted_left x y
+operated tables o.ShiftRight x y = shift shifted_right x y
+operated tables o.Less x y = comparison less x y
+operated tables o.Greater x y = comparison (λ kind m n. less kind n m) x y
+operated tables o.LessEqual x y = comparison less_equal x y
+operated tables o.GreaterEqual x y = comparison (λ kind m n. less_equal kind n m) x y
+operated tables o.Equal x y = comparison equal x y
+operated tables o.NotEqual x y = comparison unequal x y
+operated tables o.BitAnd x y = arithmetic (plain bits_and) x y
+operated tables o.BitXor x y = arithmetic (plain bits_xor) x y
+operated tables o.BitOr x y = arithmetic (plain bits_or) x y
+operated tables o.LogicalAnd x y = logical (λ m n. m && n) x y
+operated tables o.LogicalOr x y = logical (λ m n. m || n) x y
+
+abbrev pub binary : ℕ → BinaryOperator → Typed → Typed → Typed
+binary at op x y = over_two at (used x) (used y) (operated y.after.tables op)
+
+-- ---- unary operators (C99 6.5.3)
+
+-- C99 6.5.3.2p1, p3: of an lvalue or a function
+abbrev pub address : Shown → Judgement
+address x = cond (x.is_lvalue || is_function x.type) (Ok (some_value (pointer_to x.type))) (Err rule.TypeMismatch)
+
+abbrev pub target_shown : CType → Shown
+target_shown t = cond (is_function t) (some_value t) (an_object t)
+
+abbrev pub indirection_to : Option CType → Judgement
+indirection_to None = Err rule.TypeMismatch
+indirection_to (Some t) = Ok (target_shown t)
+
+-- C99 6.5.3.2p2, p4
+abbrev pub indirection : Shown → Judgement
+indirection x = indirection_to (target_of x.type)
+
+abbrev pub on_integer_of : Option IntegerKind → (IntegerKind → Judgement) → Judgement
+on_integer_of None f = Err rule.TypeMismatch
+on_integer_of (Some a) f = f a
+
+abbrev pub value_by : Option ℤ → (ℤ → Answer) → Option ℤ
+value_by None f = None
+value_by (Some z) f = defined (f z)
+
+-- C99 6.5.3.3p1 to p4
+abbrev pub signed_of : (IntegerKind → ℤ → Answer) → Shown → Judgement
+signed_of f x = on_integer_of (kind_of x.type) (λ a. Ok (an_integer (promoted a) (value_by x.value (f (promoted a)))))
+
+-- C99 6.5.3.3p5
+abbrev pub negated : Shown → Judgement
+negated x = cond (is_scalar x.type) (Ok (an_integer k.Int (value_by x.value (λ z. Ok (number_of (is_zero z)))))) (Err rule.TypeMismatch)
+
+-- A modifiable lvalue (C99 6.3.2.1p1): no array or function, not qualified by `const`.
+abbrev pub is_modifiable : Shown → Bool
+is_modifiable x = x.is_lvalue && not (is_array x.type) && not (is_function x.type) && not (is_const x.type)
+
+-- an array or function is no modifiable lvalue, whatever else is wrong with it
+abbrev pub or_not_modifiable : Shown → Rule
+or_not_modifiable x = cond (is_array x.type || is_function x.type) rule.NotModifiable rule.TypeMismatch
+
+-- what is said of a target, or that it can't be modified
+abbrev pub on_modifiable : Shown → Judgement → Judgement
+on_modifiable x (Err rule.TypeMismatch) = Err (or_not_modifiable x)
+on_modifiable x j = cond (is_modifiable x) j (Err rule.NotModifiable)
+
+abbrev pub stepped_in : Tables → Class → Shown → Judgement
+stepped_in tables (class.Integer kind) x = Ok (some_value (unqualified_version x.type))
+stepped_in tables class.Pointer x = moved tables (record x { type = unqualified_version x.type })
+stepped_in tables class.Array x = Err rule.TypeMismatch
+stepped_in tables class.Function x = Err rule.TypeMismatch
+stepped_in tables class.Void x = Err rule.TypeMismatch
+stepped_in tables class.Floating x = Err rule.FloatUsed
+stepped_in tables (class.Aggregate n) x = Err rule.TypeMismatch
+stepped_in tables class.Opaque x = Err rule.TypeMismatch
+
+-- `++` and `--` (C99 6.5.2.4p1, 6.5.3.1p1): a modifiable lvalue of integer or pointer type
+abbrev pub stepped : Tables → Shown → Judgement
+stepped tables x = on_modifiable x (stepped_in tables (class_of x.type) x)
+
+abbrev pub unary : ℕ → UnaryOperator → Typed → Typed
+unary at u.Address x = over at x address
+unary at u.Indirection x = over at (used x) indirection
+unary at u.Plus x = over at (used x) (signed_of (λ kind z. Ok (converted kind z)))
+unary at u.Minus x = over at (used x) (signed_of negation)
+unary at u.Complement x = over at (used x) (signed_of (λ kind z. Ok (complement kind z)))
+unary at u.Not x = over at (used x) negated
+unary at u.Increment x = over at x (stepped x.after.tables)
+unary at u.Decrement x = over at x (stepped x.after.tables)
+
+abbrev pub postfix : ℕ → Typed → Typed
+postfix at x = over at x (stepped x.after.tables)
+
+-- ---- `sizeof` (C99 6.5.3.4): of a type whose size is known
+
+abbrev pub size_as : Option ℕ → Judgement
+size_as None = Err incomplete
+size_as (Some n) = Ok (an_integer k.UnsignedLong (Some (pos n)))
+
+abbrev pub size_in : Tables → CType → Judgement
+size_in tables t = cond (is_too_large tables t) (Err too_large) (size_as (size_of tables t))
+
+-- the operand isn't evaluated, and doesn't turn into a pointer
+abbrev pub size_of_expression : ℕ → Typed → Typed
+size_of_expression at x = over at x (λ y. size_in x.after.tables y.type)
+
+-- ---- type names (C99 6.7.6) as other definitions tell them: the type, or the rule that it breaks, where its parts have types
+
+abbrev pub NamedType : Type 0
+NamedType = Option (Result CType Rule)
+
+abbrev pub over_named : ℕ → NamedType → (CType → Judgement) → List Fault → Scope → Typed
+over_named at None f faults s = typeless at faults s
+over_named at (Some (Err r)) f faults s = typeless at (faults ++ fault_at at r) s
+over_named at (Some (Ok t)) f faults s = node at (f t) faults s
+
+abbrev pub size_of_type : ℕ → NamedType → List Fault → Scope → Typed
+size_of_type at t faults s = over_named at t (size_in s.tables) faults s
+
+-- ---- casts (C99 6.5.4)
+
+abbrev pub cast_value : Option IntegerKind → Option IntegerKind → Option ℤ → Option ℤ
+cast_value (Some to) (Some from) (Some z) = Some (converted to z)
+cast_value (Some to) (Some from) None = None
+cast_value (Some to) None z = None
+cast_value None from z = None
+
+abbrev pub is_plain_void_pointer_to : Option CType → Bool
+is_plain_void_pointer_to None = false
+is_plain_void_pointer_to (Some t) = is_void t && not (qualifiers_of t).is_const && not (qualifiers_of t).is_volatile
+
+-- an integer constant 0 cast to `void *` is a null pointer constant (C99 6.3.2.3p3)
+abbrev pub keeps_null : CType → Shown → Bool
+keeps_null to x = null_where x.value && is_plain_void_pointer_to (target_of to)
+
+abbrev pub cast_shown : CType → Shown → Shown
+cast_shown to x =
+    let z = cast_value (kind_of to) (kind_of x.type) x.value in
+    record { type = unqualified_version to; value = z; is_null = null_where z || keeps_null to x; is_lvalue = false; designates = None }
+
+-- C99 6.5.4p2: to void, or a scalar to a scalar type
+abbrev pub cast_to : CType → Shown → Judgement
+cast_to to x = cond (is_void to || (is_scalar to && is_scalar x.type)) (Ok (cast_shown to x)) (Err rule.TypeMismatch)
+
+abbrev pub cast_over : ℕ → NamedType → Typed → List Fault → Typed
+cast_over at None x faults = typeless at (faults ++ x.faults) x.after
+cast_over at (Some (Err r)) x faults = typeless at (faults ++ x.faults ++ fault_at at r) x.after
+cast_over at (Some (Ok t)) x faults = node_over at (shown x) (cast_to t) (faults ++ x.faults) x.after
+
+abbrev pub cast : ℕ → NamedType → List Fault → Typed → Typed
+cast at t faults x = cast_over at t (used x) faults
+
+-- ---- subscripts (C99 6.5.2.1): the target of a sum
+
+abbrev pub element_in : Judgement → Judgement
+element_in (Err r) = Err r
+element_in (Ok x) = indirection x
+
+abbrev pub element : Tables → Shown → Shown → Judgement
+element tables x y = element_in (addition tables x y)
+
+abbrev pub subscript : ℕ → Typed → Typed → Typed
+subscript at x y = over_two at (used x) (used y) (element y.after.tables)
+
+-- ---- members (C99 6.5.2.3)
+
+abbrev pub member_shown : Qualifiers → Bool → Member → Shown
+member_shown q lvalue m = record { type = qualified q m.ctype; value = None; is_null = false; is_lvalue = lvalue; designates = None }
+
+abbrev pub found_member : Qualifiers → Bool → Option Member → Judgement
+found_member q lvalue None = Err rule.TypeMismatch
+found_member q lvalue (Some m) = Ok (member_shown q lvalue m)
+
+-- the members of an incomplete or opaque type aren't known
+abbrev pub member_of_content : Qualifiers → Bool → Name → Content → Judgement
+member_of_content q lvalue name content_.Incomplete = Err incomplete
+member_of_content q lvalue name (content_.Opaque cause.BitField) = Err rule.BitField
+member_of_content q lvalue name (content_.Opaque cause.Other) = Err incomplete
+member_of_content q lvalue name (content_.Complete l) = found_member q lvalue (member_named name l.members)
+
+abbrev pub member_in : Tables → Qualifiers → Bool → Name → Option ℕ → Judgement
+member_in tables q lvalue name None = Err rule.TypeMismatch
+member_in tables q lvalue name (Some n) = member_of_content q lvalue name (content_of tables n)
+
+-- a member of a qualified object is so qualified, and an lvalue where the object is one (C99 6.5.2.3p3)
+abbrev pub member_shown_of : Tables → Name → Shown → Judgement
+member_shown_of tables name x = member_in tables (qualifiers_of x.type) x.is_lvalue name (aggregate_of x.type)
+
+abbrev pub member : ℕ → Name → Typed → Typed
+member at name x = over at x (member_shown_of x.after.tables name)
+
+abbrev pub pointed_member_of : Tables → Name → Option CType → Judgement
+pointed_member_of tables name None = Err rule.TypeMismatch
+pointed_member_of tables name (Some t) = member_shown_of tables name (an_object t)
+
+abbrev pub pointed_member : Tables → Name → Shown → Judgement
+pointed_member tables name x = pointed_member_of tables name (target_of x.type)
+
+-- C99 6.5.2.3p4
+abbrev pub arrow : ℕ → Name → Typed → Typed
+arrow at name x = over at (used x) (pointed_member x.after.tables name)
+
+-- ---- the conditional operator (C99 6.5.15)
+
+abbrev pub with_target_qualifiers : CType → CType → CType
+with_target_qualifiers t other = pointer_to (qualified (qualifiers_of other) t)
+
+-- C99 6.5.15p6: to what both pointers point, with the qualifiers of both; a null pointer constant takes the other's type, and a
+-- pointer to void makes the other one so
+abbrev pub joined_targets : Shown → Shown → CType → CType → CType
+joined_targets x y t u =
+    cond x.is_null y.type (cond y.is_null x.type (cond (is_void t) (with_target_qualifiers t u) (cond (is_void u) (with_target_qualifiers u t) (with_target_qualifiers t u))))
+
+abbrev pub joined_pointers : Shown → Shown → Option CType → Option CType → Judgement
+joined_pointers x y (Some t) (Some u) = Ok (some_value (joined_targets x y t u))
+joined_pointers x y (Some t) None = Ok (some_value x.type)
+joined_pointers x y None (Some u) = Ok (some_value y.type)
+joined_pointers x y None None = Err rule.TypeMismatch
+
+abbrev pub chosen : Option ℤ → Option ℤ → Option ℤ → Option ℤ
+chosen (Some c) (Some x) (Some y) = Some (cond (is_zero c) y x)
+chosen (Some c) (Some x) None = None
+chosen (Some c) None y = None
+chosen None x y = None
+
+abbrev pub chosen_as : IntegerKind → Option ℤ → Option ℤ
+chosen_as kind z = value_by z (λ z. Ok (converted kind z))
+
+abbrev pub same_aggregate : Option ℕ → Option ℕ → Bool
+same_aggregate (Some m) (Some n) = nat_eq m n
+same_aggregate (Some m) None = false
+same_aggregate None n = false
+
+-- two void expressions, or two values of one structure or union type
+abbrev pub joined_others : Shown → Shown → Judgement
+joined_others x y =
+    cond ((is_void x.type && is_void y.type) || same_aggregate (aggregate_of x.type) (aggregate_of y.type)) (Ok (some_value x.type)) (Err rule.TypeMismatch)
+
+abbrev pub joined_kinds : Shown → Shown → Shown → Option IntegerKind → Option IntegerKind → Judgement
+joined_kinds c x y (Some a) (Some b) = Ok (an_integer (usual a b) (chosen_as (usual a b) (chosen c.value x.value y.value)))
+joined_kinds c x y (Some a) None = joined_pointers x y (target_of x.type) (target_of y.type)
+joined_kinds c x y None (Some b) = joined_pointers x y (target_of x.type) (target_of y.type)
+joined_kinds c x y None None =
+    cond (is_pointer x.type && is_pointer y.type) (joined_pointers x y (target_of x.type) (target_of y.type)) (joined_others x y)
+
+-- C99 6.5.15p2, p3, p5
+abbrev pub choice_of : Shown → Shown → Shown → Judgement
+choice_of c x y = cond (is_scalar c.type) (joined_kinds c x y (kind_of x.type) (kind_of y.type)) (Err rule.TypeMismatch)
+
+abbrev pub choice_over : ℕ → Option Shown → Option Shown → Option Shown → List Fault → Scope → Typed
+choice_over at None x y faults s = typeless at faults s
+choice_over at (Some c) x y faults s = node_over_two at x y (choice_of c) faults s
+
+abbrev pub choice : ℕ → Typed → Typed → Typed → Typed
+choice at c x y =
+    choice_over at (shown (used c)) (shown (used x)) (shown (used y)) ((used c).faults ++ (used x).faults ++ (used y).faults) y.after
+
+-- ---- assignment (C99 6.5.16)
+
+-- a scalar to a scalar, or a structure or union to one of its type (C99 6.5.16.1p1)
+abbrev pub is_assignable : CType → CType → Bool
+is_assignable to from = (is_scalar to && is_scalar from) || same_aggregate (aggregate_of to) (aggregate_of from)
+
+-- the value has the type of the target without qualifiers (C99 6.5.16p3)
+abbrev pub assigned : Shown → Shown → Judgement
+assigned x y =
+    on_modifiable x (cond (is_assignable x.type y.type) (Ok (some_value (unqualified_version x.type))) (Err rule.TypeMismatch))
+
+-- C99 6.5.16.2p1, p2: the target is a pointer only in `+=` and `-=` of an integer, else both are of arithmetic type
+abbrev pub compound_of : Tables → BinaryOperator → Bool → Shown → Shown → Judgement
+compound_of tables op false x y = on_integers x y (λ a b. Ok (some_value (unqualified_version x.type)))
+compound_of tables o.Add true x y = cond (is_integer y.type) (moved tables x) (Err rule.TypeMismatch)
+compound_of tables o.Subtract true x y = cond (is_integer y.type) (moved tables x) (Err rule.TypeMismatch)
+compound_of tables _ true x y = Err rule.TypeMismatch
+
+abbrev pub compound : Tables → BinaryOperator → Shown → Shown → Judgement
+compound tables op x y =
+    on_modifiable x (compound_of tables op (is_pointer x.type) (record x { type = unqualified_version x.type }) y)
+
+abbrev pub assignment : ℕ → Option BinaryOperator → Typed → Typed → Typed
+assignment at None x y = over_two at x (used y) assigned
+assignment at (Some op) x y = over_two at x (used y) (compound y.after.tables op)
+
+-- ---- the comma operator (C99 6.5.17): a void expression, then a value, which isn't constant (C99 6.6p3)
+
+abbrev pub comma : ℕ → Typed → Typed → Typed
+comma at x y = over_two at x (used y) (λ a b. Ok (some_value b.type))
+
+-- ---- calls (C99 6.5.2.2)
+
+-- what is said of a call besides its parts: the result's type, where no rule is broken
+pub record Called : Type 0 where
+  pub type : Option CType
+  pub faults : List Fault
+
+abbrev pub broken : ℕ → Rule → Called
+broken at r = record { type = None; faults = fault_at at r }
+
+-- an argument that is converted to the type of its parameter (C99 6.5.2.2p4, p7)
+abbrev pub argument_fault : ℕ → ℕ → Class → Class → List Fault
+argument_fault callee at (class.Aggregate n) parameter = fault_at callee rule.StructByValue
+argument_fault callee at class.Void parameter = fault_at callee rule.TypeMismatch
+argument_fault callee at from class.Floating = fault_at at rule.FloatUsed
+argument_fault callee at from (class.Integer kind) = []
+argument_fault callee at from class.Pointer = []
+argument_fault callee at from (class.Aggregate n) = fault_at callee rule.TypeMismatch
+argument_fault callee at from class.Opaque = fault_at callee rule.TypeMismatch
+argument_fault callee at from class.Void = fault_at callee rule.TypeMismatch
+argument_fault callee at from class.Array = fault_at callee rule.TypeMismatch
+argument_fault callee at from class.Function = fault_at callee rule.TypeMismatch
+
+-- an argument for which no parameter is declared (C99 6.5.2.2p6)
+abbrev pub loose_fault : ℕ → Class → List Fault
+loose_fault callee (class.Aggregate n) = fault_at callee rule.StructByValue
+loose_fault callee class.Void = fault_at callee rule.TypeMismatch
+loose_fault callee _ = []
+
+abbrev pub class_in : Option CType → Class
+class_in None = class.Void
+class_in (Some t) = class_of t
+
+abbrev pub loose_faults : ℕ → List Typed → List Fault
+loose_faults callee [] = []
+loose_faults callee (x ∷ xs) = loose_fault callee (class_in x.type) ++ loose_faults callee xs
+
+-- arguments beyond the parameters: only behind `...`, or where nothing is said of parameters
+abbrev pub surplus_faults : ℕ → Prototype → List Typed → List Fault
+surplus_faults callee p [] = []
+surplus_faults callee prototype_.Fixed (x ∷ xs) = fault_at callee rule.TypeMismatch
+surplus_faults callee prototype_.Variadic (x ∷ xs) = loose_faults callee (x ∷ xs)
+surplus_faults callee prototype_.Unspecified (x ∷ xs) = loose_faults callee (x ∷ xs)
+surplus_faults callee prototype_.EmptyDefinition (x ∷ xs) = loose_faults callee (x ∷ xs)
+
+abbrev pub argument_faults : ℕ → Prototype → List CType → List Typed → List Fault
+argument_faults callee p [] xs = surplus_faults callee p xs
+argument_faults callee p (t ∷ ts) [] = fault_at callee rule.TypeMismatch
+argument_faults callee p (t ∷ ts) (x ∷ xs) = argument_fault callee x.at (class_in x.type) (class_of t) ++ argument_faults callee p ts xs
+
+abbrev pub signature_faults : ℕ → Option Signature → List Typed → List Fault
+signature_faults callee None xs = []
+signature_faults callee (Some g) xs = argument_faults callee g.prototype g.parameters xs
+
+abbrev pub result_faults : ℕ → Class → List Fault
+result_faults callee (class.Aggregate n) = fault_at callee rule.StructByValue
+result_faults callee class.Floating = fault_at callee rule.FloatUsed
+result_faults callee class.Opaque = fault_at callee rule.StructByValue
+result_faults callee _ = []
+
+abbrev pub type_where : List Fault → CType → Option CType
+type_where [] t = Some t
+type_where (f ∷ fs) t = None
+
+abbrev pub called_with : List Fault → CType → Called
+called_with faults t = record { type = type_where faults (unqualified_version t); faults = faults }
+
+abbrev pub called_directly : Tables → ℕ → List Derivation → Option CType → List Typed → Called
+called_directly tables callee (d.Function n ∷ ds) (Some result) xs =
+    called_with (signature_faults callee (slice_get tables.signatures n) xs ++ result_faults callee (class_of result)) result
+called_directly tables callee _ _ xs = broken callee rule.TypeMismatch
+
+-- a call by a pointer stands at the name of the pointer, else at the `(` of the call
+abbrev pub called_through : ℕ → ℕ → Option Entry → Bool → Called
+called_through at callee None true = broken at rule.IndirectCall
+called_through at callee (Some e) true = broken callee rule.IndirectCall
+called_through at callee None false = broken at rule.TypeMismatch
+called_through at callee (Some e) false = broken callee rule.TypeMismatch
+
+abbrev pub points_to_function : Option CType → Bool
+points_to_function None = false
+points_to_function (Some t) = is_function t
+
+-- the callee is the name of a function, perhaps in parentheses; every other call is indirect (C99 6.5.2.2p1)
+abbrev pub called_as : Tables → ℕ → ℕ → Option Entry → Bool → CType → List Typed → Called
+called_as tables at callee (Some e) true t xs = called_directly tables callee t.derivations (returned_of t) xs
+called_as tables at callee None true t xs = called_through at callee None true
+called_as tables at callee e false t xs = called_through at callee e (points_to_function (target_of t))
+
+abbrev pub all_faults : List Typed → List Fault
+all_faults [] = []
+all_faults (x ∷ xs) = x.faults ++ all_faults xs
+
+abbrev pub has_type : Option CType → Bool
+has_type None = false
+has_type (Some t) = true
+
+abbrev pub all_typed : List Typed → Bool
+all_typed [] = true
+all_typed (x ∷ xs) = has_type x.type && all_typed xs
+
+abbrev pub all_used : List Typed → List Typed
+all_used [] = []
+all_used (x ∷ xs) = used x ∷ all_used xs
+
+abbrev pub call_of : ℕ → List Fault → Called → Scope → Typed
+call_of at faults c s = record {
+  at = at;
+  type = c.type;
+  value = None;
+  is_null = false;
+  is_lvalue = false;
+  designates = None;
+  faults = faults ++ c.faults;
+  after = s;
+}
+
+abbrev pub call_over : ℕ → Typed → Option CType → List Typed → Scope → Typed
+call_over at f None xs s = typeless at (f.faults ++ all_faults xs) s
+call_over at f (Some t) xs s =
+    cond (all_typed xs)
+      (call_of at (f.faults ++ all_faults xs) (called_as s.tables at f.at f.designates (is_function t) t xs) s)
+      (typeless at (f.faults ++ all_faults xs) s)
+
+abbrev pub call : ℕ → Typed → List Typed → Scope → Typed
+call at f xs s = call_over at f f.type (all_used xs) s
+
+-- ---- constant expressions (C99 6.6)
+
+-- the value that must be constant, at the expression's own token where it isn't
+abbrev pub not_constant_of : ℕ → Option CType → Option ℤ → List Fault
+not_constant_of at None value = []
+not_constant_of at (Some t) None = fault_at at no_constant
+not_constant_of at (Some t) (Some z) = []
+
+abbrev pub not_constant : Typed → List Fault
+not_constant x = not_constant_of x.at x.type x.value
+
+abbrev pub cause_in : List Fault → LayoutRule
+cause_in [] = layout.NotConstant
+cause_in (f ∷ fs) = elim f.rule as (λ _. LayoutRule) [ rule.Layout r ↦ r | _ ↦ cause_in fs ]
+
+abbrev pub constant_as : Option ℤ → List Fault → Result ℤ LayoutRule
+constant_as None faults = Err (cause_in faults)
+constant_as (Some z) faults = Ok z
+
+-- the constant value of an expression, or why there is none: a size that isn't known, one that is too large, or that it isn't constant
+abbrev pub const_value : Typed → Result ℤ LayoutRule
+const_value x = constant_as x.value x.faults
+
+-- a scalar condition of a statement, which stands at the statement's keyword (C99 6.8.4.1p1, 6.8.5p2)
+abbrev pub condition_faults : ℕ → Option CType → List Fault
+condition_faults at None = []
+condition_faults at (Some t) = cond (is_scalar t) [] (fault_at at rule.TypeMismatch)
