@@ -362,10 +362,11 @@ formed_type tables (Some t) = Some (or_rule t (formed_rule tables t))
 
 -- ---- what a declarator says (C99 6.7.5): the name, and the derivations from the name outward, the outermost first
 
--- what the parameters of a function declarator declare, by what was declared in its own scope
+-- what the parameters of a function declarator declare in its own scope, and whether each has a name
 pub record Parameters : Type 0 where
   pub entries : List Entry
   pub tags : List Tag
+  pub are_named : Bool
 
 -- `brackets` are the qualifiers between the brackets of an outermost array; `inside` is of the outermost function.
 pub record Formed : Type 0 where
@@ -466,6 +467,7 @@ with_parameter (Some n) t s = declared n.0 n.1 (parameter_means t) s
 -- the parameters from left to right
 pub record Listed : Type 0 where
   pub types : Option (List CType)
+  pub are_named : Bool
   pub faults : List Fault
   pub after : Scope
 
@@ -474,15 +476,20 @@ listed_types None ts = None
 listed_types (Some t) None = None
 listed_types (Some t) (Some ts) = Some (t ∷ ts)
 
+abbrev pub is_named : Option (ℕ × Name) → Bool
+is_named None = false
+is_named (Some n) = true
+
 abbrev pub listed_after : Named → Listed → Listed
 listed_after x more = record {
   types = listed_types x.type more.types;
+  are_named = is_named x.name && more.are_named;
   faults = x.faults ++ duplicate_name x.name x.after ++ more.faults;
   after = more.after;
 }
 
 abbrev pub listed : List NamedSays → Scope → Listed
-listed [] s = record { types = Some []; faults = []; after = s }
+listed [] s = record { types = Some []; are_named = true; faults = []; after = s }
 listed (p ∷ ps) s = let x = p s in listed_after x (listed ps (with_parameter x.name x.type x.after))
 
 -- `void` alone, without name and qualifiers, is no parameter (C99 6.7.5.3p10)
@@ -499,16 +506,25 @@ abbrev pub prototype_of : List NamedSays → Bool → Prototype
 prototype_of [] variadic = prototype_.Unspecified
 prototype_of (p ∷ ps) variadic = cond variadic prototype_.Variadic prototype_.Fixed
 
--- what was declared in the innermost block
-abbrev pub declared_inside : Scope → Parameters
-declared_inside s = record {
+abbrev pub no_types : List CType → Bool
+no_types [] = true
+no_types (t ∷ ts) = false
+
+abbrev pub has_no_parameter : Option (List CType) → Bool
+has_no_parameter None = false
+has_no_parameter (Some ts) = no_types (without_void ts)
+
+-- what was declared in the scope of the parameters
+abbrev pub declared_inside : Listed → Scope → Parameters
+declared_inside ps s = record {
   entries = kept (λ e. nat_eq e.block s.block) s.entries;
   tags = kept (λ t. nat_eq t.block s.block) s.tags;
+  are_named = ps.are_named || has_no_parameter ps.types;
 }
 
-abbrev pub inside_of : Option Parameters → Scope → Option Parameters
-inside_of (Some x) s = Some x
-inside_of None s = Some (declared_inside s)
+abbrev pub inside_of : Option Parameters → Listed → Option Parameters
+inside_of (Some x) ps = Some x
+inside_of None ps = Some (declared_inside ps ps.after)
 
 abbrev pub function_step : Option (List CType) → ℕ → Option Derivation
 function_step None n = None
@@ -522,7 +538,7 @@ with_parameters p (Some ts) s = with_signature p (without_void ts) s
 abbrev pub to_function : Prototype → Formed → Listed → Formed
 to_function p x ps = record x {
   derivations = then_derivation x.derivations (function_step ps.types (next_signature ps.after));
-  inside = inside_of x.inside ps.after;
+  inside = inside_of x.inside ps;
   faults = x.faults ++ ps.faults;
   after = with_parameters p ps.types (leave ps.after);
 }

@@ -42,14 +42,15 @@ use Rattle.c_says.specs.declared.scope.Rule.{Rule}
 use Rattle.c_says.specs.declared.scope.Rule.TheVariants as rule
 use Rattle.c_says.specs.Scopes.{Name, Scope}
 
--- What an expression says. `at` is its own token, parentheses apart. `is_null` marks a null pointer constant (C99 6.3.2.3p3), and
--- `designates` is the declaration of the name that the expression is, parentheses apart.
+-- What an expression says. `at` is its own token, parentheses apart. `is_null` marks a null pointer constant (C99 6.3.2.3p3),
+-- `is_literal` a string literal, and `designates` is the declaration of the name that the expression is, parentheses apart.
 pub record Typed : Type 0 where
   pub at : ℕ
   pub type : Option CType
   pub value : Option ℤ
   pub is_null : Bool
   pub is_lvalue : Bool
+  pub is_literal : Bool
   pub designates : Option Entry
   pub faults : List Fault
   pub after : Scope
@@ -60,6 +61,7 @@ pub record Shown : Type 0 where
   pub value : Option ℤ
   pub is_null : Bool
   pub is_lvalue : Bool
+  pub is_literal : Bool
   pub designates : Option Entry
 
 -- what a node says of itself, or the rule that it breaks: of several the first in the order of refusals
@@ -82,11 +84,11 @@ no_constant = rule.Layout layout.NotConstant
 
 -- a value that isn't constant
 abbrev pub some_value : CType → Shown
-some_value t = record { type = t; value = None; is_null = false; is_lvalue = false; designates = None }
+some_value t = record { type = t; value = None; is_null = false; is_lvalue = false; is_literal = false; designates = None }
 
 -- an object
 abbrev pub an_object : CType → Shown
-an_object t = record { type = t; value = None; is_null = false; is_lvalue = true; designates = None }
+an_object t = record { type = t; value = None; is_null = false; is_lvalue = true; is_literal = false; designates = None }
 
 abbrev pub null_where : Option ℤ → Bool
 null_where None = false
@@ -94,13 +96,13 @@ null_where (Some z) = is_zero z
 
 -- a value of an integer type, constant or not; a constant 0 is a null pointer constant (C99 6.3.2.3p3)
 abbrev pub an_integer : IntegerKind → Option ℤ → Shown
-an_integer kind z = record { type = integer kind; value = z; is_null = null_where z; is_lvalue = false; designates = None }
+an_integer kind z = record { type = integer kind; value = z; is_null = null_where z; is_lvalue = false; is_literal = false; designates = None }
 
 -- ---- nodes
 
 abbrev pub typeless : ℕ → List Fault → Scope → Typed
 typeless at faults s =
-    record { at = at; type = None; value = None; is_null = false; is_lvalue = false; designates = None; faults = faults; after = s }
+    record { at = at; type = None; value = None; is_null = false; is_lvalue = false; is_literal = false; designates = None; faults = faults; after = s }
 
 -- an expression of floating type is refused where it stands
 abbrev pub node : ℕ → Judgement → List Fault → Scope → Typed
@@ -113,13 +115,14 @@ node at (Ok x) faults s =
         value = x.value;
         is_null = x.is_null;
         is_lvalue = x.is_lvalue;
+        is_literal = x.is_literal;
         designates = x.designates;
         faults = faults;
         after = s;
       })
 
 abbrev pub show_typed : Typed → CType → Shown
-show_typed x t = record { type = t; value = x.value; is_null = x.is_null; is_lvalue = x.is_lvalue; designates = x.designates }
+show_typed x t = record { type = t; value = x.value; is_null = x.is_null; is_lvalue = x.is_lvalue; is_literal = x.is_literal; designates = x.designates }
 
 abbrev pub shown_as : Typed → Option CType → Option Shown
 shown_as x None = None
@@ -199,7 +202,7 @@ abbrev pub within_limit : Tables → Shown → Judgement
 within_limit tables x = cond (is_too_large tables x.type) (Err too_large) (Ok x)
 
 abbrev pub string_literal : ℕ → List (List ℕ) → Scope → Typed
-string_literal at pieces s = node at (within_limit s.tables (an_object (literal_type pieces))) [] s
+string_literal at pieces s = node at (within_limit s.tables (record (an_object (literal_type pieces)) { is_literal = true })) [] s
 
 -- a literal of the function's name (C99 6.4.2.2); there is none outside a function
 abbrev pub function_name : ℕ → Option Name → Scope → Typed
@@ -449,7 +452,7 @@ keeps_null to x = null_where x.value && is_plain_void_pointer_to (target_of to)
 abbrev pub cast_shown : CType → Shown → Shown
 cast_shown to x =
     let z = cast_value (kind_of to) (kind_of x.type) x.value in
-    record { type = unqualified_version to; value = z; is_null = null_where z || keeps_null to x; is_lvalue = false; designates = None }
+    record { type = unqualified_version to; value = z; is_null = null_where z || keeps_null to x; is_lvalue = false; is_literal = false; designates = None }
 
 -- C99 6.5.4p2: to void, or a scalar to a scalar type
 abbrev pub cast_to : CType → Shown → Judgement
@@ -478,7 +481,7 @@ subscript at x y = over_two at (used x) (used y) (element y.after.tables)
 -- ---- members (C99 6.5.2.3)
 
 abbrev pub member_shown : Qualifiers → Bool → Member → Shown
-member_shown q lvalue m = record { type = qualified q m.ctype; value = None; is_null = false; is_lvalue = lvalue; designates = None }
+member_shown q lvalue m = record { type = qualified q m.ctype; value = None; is_null = false; is_lvalue = lvalue; is_literal = false; designates = None }
 
 abbrev pub found_member : Qualifiers → Bool → Option Member → Judgement
 found_member q lvalue None = Err rule.TypeMismatch
@@ -711,6 +714,7 @@ call_of at faults c s = record {
   value = None;
   is_null = false;
   is_lvalue = false;
+  is_literal = false;
   designates = None;
   faults = faults ++ c.faults;
   after = s;
