@@ -4,3 +4,4 @@ pub mod Declares
 pub mod Trees
 pub mod Initials
 pub mod Declarations
+pub mod Units
