@@ -15,9 +15,11 @@ use Rattle.c_type_terms.specs.Layouts.{size_of, align_of, offset_of}
 use Rattle.c_says.specs.declared.scope.LayoutRule.TheVariants as layout
 use Rattle.c_says.specs.Scopes.{Name, Scope, empty}
 use Rattle.c_says.specs.Typing.{Typed, const_value}
-use Rattle.c_says.specs.Trees.{ExprSays, typing, typed}
+use Rattle.c_says.specs.Trees.{ExprSays, itself, typing, typed}
 use Rattle.c_says.specs.Declares.{Says}
-use Rattle.c_says.specs.Declarations.{Item, declaration_by}
+use Rattle.c_says.specs.Declarations.{Item, Declares, declaration_by}
+use Rattle.c_says.specs.Initials.{InitialSaid, Fills, value_says, list_says, item_says}
+use Rattle.c_says.specs.Units.{initialises}
 use Rattle.c_says.specs.declared.scope.Fault.{Fault}
 use Rattle.c_says.specs.declared.scope.Rule.TheVariants as rule
 use Rattle.c_says.specs.Scopes.{enter, leave}
@@ -254,3 +256,47 @@ row_typedef_again = refl
 -- an expression names no typedef
 pub row_typedef_is_no_expression : ((the a).says typedef_a).faults ≡ record { at = 0; rule = rule.Undeclared } ∷ []
 row_typedef_is_no_expression = refl
+
+-- ---- initializers: int a[] = { 1, 2, 3 }; struct { int a; int b; } c[] = { 1, 2, 3 }; char b[] = "xy";
+
+abbrev value : OfExpr → InitialSaid
+value x = value_says {E = ExprSays} itself x.says
+
+abbrev braces : List InitialSaid → InitialSaid
+braces xs = list_says 0 (undesignated xs)
+  where
+    undesignated : List InitialSaid → List Fills
+    undesignated [] = []
+    undesignated (x ∷ xs) = item_says {E = ExprSays} itself [] x ∷ undesignated xs
+
+abbrev initialised_declaration : List OfSpecifier → OfDeclarator → InitialSaid → Scope → Declares
+initialised_declaration ss d x s =
+    declaration_by (built.all_say (fold_specifier {c = Says ExprSays} typing) ss) (record { declarator = d.says; initial = Some (initialises x) } ∷ []) s
+
+abbrev unknown_length : Name → OfDeclarator
+unknown_length name = built.array typing 0 (as_ name) [] None
+
+abbrev size_of_name : Name → Scope → Option ℤ
+size_of_name name s = ((built.sizeof_expr typing 0 (the name)).says s).value
+
+abbrev one_two_three : InitialSaid
+one_two_three = braces (value (number 1) ∷ value (number 2) ∷ value (number 3) ∷ [])
+
+pub row_length_of_list : size_of_name a (initialised_declaration (word w.Int ∷ []) (unknown_length a) one_two_three empty).after ≡ Some (pos 12)
+row_length_of_list = refl
+
+abbrev pair_of_ints : OfSpecifier
+pair_of_ints = structure None (field (word w.Int) (as_ a) ∷ field (word w.Int) (as_ b) ∷ [])
+
+pub row_length_without_braces : size_of_name c (initialised_declaration (pair_of_ints ∷ []) (unknown_length c) one_two_three empty).after ≡ Some (pos 16)
+row_length_without_braces = refl
+
+abbrev two_letters : OfExpr
+two_letters = built.string typing 0 ((120 ∷ 121 ∷ []) ∷ [])
+
+pub row_length_of_literal : size_of_name b (initialised_declaration (word w.Char ∷ []) (unknown_length b) (value two_letters) empty).after ≡ Some (pos 3)
+row_length_of_literal = refl
+
+pub row_too_many : (initialised_declaration (word w.Int ∷ []) (as_ a) one_two_three empty).faults ≡
+    record { at = 0; rule = rule.TypeMismatch } ∷ record { at = 0; rule = rule.TypeMismatch } ∷ []
+row_too_many = refl

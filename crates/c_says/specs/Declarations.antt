@@ -27,7 +27,7 @@ use Rattle.c_says.specs.declared.scope.Means.{Means}
 use Rattle.c_says.specs.declared.scope.Means.TheVariants as means
 use Rattle.c_says.specs.declared.scope.Rule.{Rule}
 use Rattle.c_says.specs.declared.scope.Rule.TheVariants as rule
-use Rattle.c_says.specs.Scopes.{Name, Scope, look_up, look_up_in, linked_as, declared, with_linked, with_signature, next_signature, enter, kept}
+use Rattle.c_says.specs.Scopes.{Name, Block, Scope, look_up, entry_in, own_entry, linked_as, in_file, declared, with_linked, with_signature, next_signature, enter, enter_with}
 use Rattle.c_says.specs.Typing.{NamedType, fault_at, incomplete, too_large}
 use Rattle.c_says.specs.Declares.{Said, Saying, Formed, DeclaratorSays, Parameters, said_by, specified, derived_from, formed_type, type_in, faults_in}
 
@@ -72,9 +72,9 @@ abbrev pub block_linkage : Option StorageClass → Bool → Option Entry → Lin
 block_linkage storage function prior = cond (function || is_extern storage) (prior_linkage prior) linkage.None
 
 -- C99 6.2.2p3 to p6
-abbrev pub linkage_by : ℕ → Option StorageClass → Bool → Option Entry → Linkage
-linkage_by zero storage function prior = file_linkage storage function prior
-linkage_by (suc n) storage function prior = block_linkage storage function prior
+abbrev pub linkage_by : Bool → Option StorageClass → Bool → Option Entry → Linkage
+linkage_by true storage function prior = file_linkage storage function prior
+linkage_by false storage function prior = block_linkage storage function prior
 
 -- C99 6.2.4p3, p4
 abbrev pub duration_by : Option StorageClass → Linkage → Duration
@@ -88,8 +88,8 @@ object_with storage t l = means.Object t (duration_by storage l) l
 abbrev pub means_of : Option StorageClass → CType → Scope → Name → Means
 means_of storage t s name =
     cond (is_typedef storage) (means.Typedef t)
-      (cond (is_function t) (means.Function t (linkage_by s.block storage true (look_up s name)))
-        (object_with storage t (linkage_by s.block storage false (look_up s name))))
+      (cond (is_function t) (means.Function t (linkage_by (in_file s) storage true (look_up s name)))
+        (object_with storage t (linkage_by (in_file s) storage false (look_up s name))))
 
 -- ---- declaring again (C99 6.7p3, p4, 6.2.7)
 
@@ -138,7 +138,7 @@ again_as tables (Some own) file new = own_again tables own.means new
 again_as tables None file new = again_in_file tables file new
 
 abbrev pub declared_again : Scope → Name → Means → Again
-declared_again s name new = again_as s.tables (look_up_in s.block s name) (look_up_in 0 s name) new
+declared_again s name new = again_as s.tables (own_entry s name) (entry_in s.file name) new
 
 -- ---- objects and functions with linkage: the offset of the first declaration, and one definition at most (C99 6.9p3, p5)
 
@@ -218,17 +218,16 @@ pub record Declared : Type 0 where
   pub after : Scope
 
 -- an object alone may be initialised, and none with linkage in a block (C99 6.7.8p3, p5)
-abbrev pub may_be_initialised : ℕ → Means → Bool
-may_be_initialised block (means.Object t d linkage.None) = true
-may_be_initialised zero (means.Object t d l) = true
-may_be_initialised (suc n) (means.Object t d l) = false
-may_be_initialised block (means.Function t l) = false
-may_be_initialised block (means.Typedef t) = false
-may_be_initialised block (means.Constant z) = false
-may_be_initialised block means.Faulty = true
+abbrev pub may_be_initialised : Bool → Means → Bool
+may_be_initialised file (means.Object t d linkage.None) = true
+may_be_initialised file (means.Object t d l) = file
+may_be_initialised file (means.Function t l) = false
+may_be_initialised file (means.Typedef t) = false
+may_be_initialised file (means.Constant z) = false
+may_be_initialised file means.Faulty = true
 
-abbrev pub initial_faults : ℕ → ℕ → Means → List Fault
-initial_faults at block m = cond (may_be_initialised block m) [] (fault_at at rule.TypeMismatch)
+abbrev pub initial_faults : ℕ → Bool → Means → List Fault
+initial_faults at file m = cond (may_be_initialised file m) [] (fault_at at rule.TypeMismatch)
 
 abbrev pub object_type : Means → Option CType
 object_type (means.Object t d l) = Some t
@@ -264,7 +263,7 @@ declared_initialised at name m faults x = declared_completely at name (completed
 abbrev pub declared_with : ℕ → Name → Means → Option InitialSays → List Fault → Scope → Declared
 declared_with at name m None faults s = declared_plainly at name m faults s
 declared_with at name m (Some f) faults s =
-    declared_initialised at name m (faults ++ initial_faults at s.block m) (initialised_by f (object_type m) s)
+    declared_initialised at name m (faults ++ initial_faults at (in_file s) m) (initialised_by f (object_type m) s)
 
 abbrev pub is_some : {A : Type 0} → Option A → Bool
 is_some None = false
@@ -389,15 +388,19 @@ is_parameter (means.Typedef t) = false
 is_parameter (means.Constant z) = false
 is_parameter means.Faulty = false
 
+abbrev pub parameters_among : List Entry → List Entry
+parameters_among [] = []
+parameters_among (e ∷ es) = cond (is_parameter e.means) (e ∷ parameters_among es) (parameters_among es)
+
 -- the parameters, in order, among what their list declares
 abbrev pub entries_in : Option Parameters → List Entry
 entries_in None = []
-entries_in (Some p) = kept (λ e. is_parameter e.means) p.entries
+entries_in (Some p) = parameters_among p.block.entries
 
 -- the scope of the body: one block, in which the parameters are declared (C99 6.2.1p4)
 abbrev pub inside_with : Option Parameters → Name → Scope → Scope
 inside_with None name s = record (enter s) { function = Some name }
-inside_with (Some p) name s = record (enter s) { entries = s.entries ++ p.entries; tags = s.tags ++ p.tags; function = Some name }
+inside_with (Some p) name s = record (enter_with p.block s) { function = Some name }
 
 abbrev pub with_body : ℕ → Name → CType → Formed → Declared → FunctionSaid
 with_body at name t x first = record {

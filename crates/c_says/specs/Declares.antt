@@ -52,7 +52,7 @@ use Rattle.c_says.specs.declared.scope.Rule.TheVariants as rule
 use Rattle.c_says.specs.declared.scope.Tag.{Tag}
 use Rattle.c_says.specs.declared.scope.TagMeans.{TagMeans}
 use Rattle.c_says.specs.declared.scope.TagMeans.TheVariants as tag_
-use Rattle.c_says.specs.Scopes.{Name, Scope, look_up, look_up_in, tag_of, own_tag, declared, with_tag, enter, leave, kept, next_aggregate, next_enumeration, next_signature, with_aggregate, with_content, with_enumeration, with_enumerators, with_signature}
+use Rattle.c_says.specs.Scopes.{Name, Block, Scope, look_up, own_entry, tag_of, own_tag, innermost, declared, with_tag, enter, leave, next_aggregate, next_enumeration, next_signature, with_aggregate, with_content, with_enumeration, with_enumerators, with_signature}
 use Rattle.c_says.specs.Typing.{Typed, NamedType, fault_at, incomplete, too_large, no_constant, not_constant}
 
 -- ---- qualifiers (C99 6.7.3)
@@ -362,10 +362,9 @@ formed_type tables (Some t) = Some (or_rule t (formed_rule tables t))
 
 -- ---- what a declarator says (C99 6.7.5): the name, and the derivations from the name outward, the outermost first
 
--- what the parameters of a function declarator declare in its own scope, and whether each has a name
+-- what the parameters of a function declarator declare in a scope of their own, and whether each has a name
 pub record Parameters : Type 0 where
-  pub entries : List Entry
-  pub tags : List Tag
+  pub block : Block
   pub are_named : Bool
 
 -- `brackets` are the qualifiers between the brackets of an outermost array; `inside` is of the outermost function.
@@ -453,7 +452,7 @@ duplicate_if at (Some e) = fault_at at rule.DuplicateDefinition
 -- a name may be declared once in a block, where it has no linkage (C99 6.7p3)
 abbrev pub duplicate_name : Option (ℕ × Name) → Scope → List Fault
 duplicate_name None s = []
-duplicate_name (Some n) s = duplicate_if n.0 (look_up_in s.block s n.1)
+duplicate_name (Some n) s = duplicate_if n.0 (own_entry s n.1)
 
 abbrev pub parameter_means : Option CType → Means
 parameter_means None = means.Faulty
@@ -515,16 +514,12 @@ has_no_parameter None = false
 has_no_parameter (Some ts) = no_types (without_void ts)
 
 -- what was declared in the scope of the parameters
-abbrev pub declared_inside : Listed → Scope → Parameters
-declared_inside ps s = record {
-  entries = kept (λ e. nat_eq e.block s.block) s.entries;
-  tags = kept (λ t. nat_eq t.block s.block) s.tags;
-  are_named = ps.are_named || has_no_parameter ps.types;
-}
+abbrev pub declared_inside : Listed → Parameters
+declared_inside ps = record { block = innermost ps.after; are_named = ps.are_named || has_no_parameter ps.types }
 
 abbrev pub inside_of : Option Parameters → Listed → Option Parameters
 inside_of (Some x) ps = Some x
-inside_of None ps = Some (declared_inside ps ps.after)
+inside_of None ps = Some (declared_inside ps)
 
 abbrev pub function_step : Option (List CType) → ℕ → Option Derivation
 function_step None n = None
@@ -714,7 +709,7 @@ following (Some z) = Some (z +ℤ pos 1)
 abbrev pub enumerates : ℕ → Name → Option ℤ → List Fault → Scope → Counting
 enumerates at name z faults s = record {
   next = following (int_value z);
-  faults = faults ++ int_faults at z ++ duplicate_if at (look_up_in s.block s name);
+  faults = faults ++ int_faults at z ++ duplicate_if at (own_entry s name);
   scope = declared at name (constant_means (int_value z)) s;
 }
 

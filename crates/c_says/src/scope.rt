@@ -75,12 +75,11 @@ pub enum Means {
 }
 
 /// An ordinary name in force. Its offset is that of its declaration; for a name with linkage, of the first declaration of
-/// that object or function. Its block is how many blocks were open where it was declared: 0 in the file.
+/// that object or function.
 #[derive(Drop)]
 pub struct Entry {
     pub at: u32,
     pub name: Name,
-    pub block: u32,
     pub means: Means,
 }
 
@@ -95,7 +94,6 @@ pub enum TagMeans {
 #[derive(Drop)]
 pub struct Tag {
     pub name: Name,
-    pub block: u32,
     pub means: TagMeans,
     pub is_listed: bool,
 }
