@@ -195,9 +195,9 @@ pub row_before_completion : (typed a_arrow_b.tree pointed).faults ≡ record { a
 unfolding typed
 row_before_completion = ap (λ f. (f pointed).faults) a_arrow_b.is
 
-pub row_after_completion : (typed a_arrow_b.tree completed).type ≡ Some (integer_type k.Int)
+pub row_after_completion : (typed a_arrow_b.tree completed).ctype ≡ Some (integer_type k.Int)
 unfolding typed
-row_after_completion = ap (λ f. (f completed).type) a_arrow_b.is
+row_after_completion = ap (λ f. (f completed).ctype) a_arrow_b.is
 
 -- ---- struct s { struct s *a; int b; } c; : c.a->a->b
 
@@ -208,9 +208,9 @@ of_itself =
 abbrev through_itself : OfExpr
 through_itself = built.arrow typing 5 (built.arrow typing 4 (built.member typing 3 (the c) a) a) b
 
-pub row_of_itself : (typed through_itself.tree of_itself).type ≡ Some (integer_type k.Int)
+pub row_of_itself : (typed through_itself.tree of_itself).ctype ≡ Some (integer_type k.Int)
 unfolding typed
-row_of_itself = ap (λ f. (f of_itself).type) through_itself.is
+row_of_itself = ap (λ f. (f of_itself).ctype) through_itself.is
 
 -- ---- struct s { char a; };  { struct s; struct s *b; b->a }  sizeof (struct s)
 

@@ -411,7 +411,7 @@ length_faults_of at (Some t) (Some x) = []
 abbrev pub counted_by : Typed → Counted
 counted_by x = record {
   step = length_of x.value;
-  faults = x.faults ++ length_faults_of x.at x.type (length_of x.value);
+  faults = x.faults ++ length_faults_of x.at x.ctype (length_of x.value);
   after = x.after;
 }
 

@@ -133,7 +133,7 @@ same_in t (Some u) = same_aggregate (aggregate_of t) (aggregate_of u)
 
 -- an expression of its structure or union type initialises a whole object (C99 6.7.8p13)
 abbrev pub is_whole_of : CType → Typed → Bool
-is_whole_of t x = is_text_of t x || same_in t x.type
+is_whole_of t x = is_text_of t x || same_in t x.ctype
 
 abbrev pub length_in : List Derivation → ℕ
 length_in (d.Array (Some n) ∷ ds) = n
@@ -149,7 +149,7 @@ text_fits (d.Array (Some n) ∷ ds) bytes = nat_le bytes (suc n)
 text_fits _ bytes = true
 
 abbrev pub text_faults : CType → Typed → List Fault
-text_faults t x = cond (text_fits t.derivations (length_of_type x.type)) [] (fault_at x.at rule.TypeMismatch)
+text_faults t x = cond (text_fits t.derivations (length_of_type x.ctype)) [] (fault_at x.at rule.TypeMismatch)
 
 abbrev pub value_faults_as : CType → ℕ → Option CType → List Fault
 value_faults_as t at None = []
@@ -157,7 +157,7 @@ value_faults_as t at (Some u) = cond (is_floating t) (fault_at at rule.FloatUsed
 
 -- a value is converted as in an assignment (C99 6.7.8p11)
 abbrev pub value_faults : CType → Typed → List Fault
-value_faults t x = (used x).faults ++ value_faults_as t x.at (used x).type
+value_faults t x = (used x).faults ++ value_faults_as t x.at (used x).ctype
 
 abbrev pub part_faults : CType → Typed → List Fault
 part_faults t x = cond (is_text_of t x) (x.faults ++ text_faults t x) (value_faults t x)
@@ -204,7 +204,7 @@ is_braced_text _ x = false
 
 abbrev pub braced_text : List Frame → Typed → Fills
 braced_text [] x y = is_surplus x y
-braced_text (f ∷ fs) x y = record (fills_part x f.whole (record f { next = length_of_type x.type } ∷ fs) y) { high = length_of_type x.type }
+braced_text (f ∷ fs) x y = record (fills_part x f.whole (record f { next = length_of_type x.ctype } ∷ fs) y) { high = length_of_type x.ctype }
 
 abbrev pub fills_value : Typed → Fills
 fills_value x y =
@@ -268,7 +268,7 @@ to_constant at (Some t) (Some z) [] y = y
 to_constant at (Some t) (Some z) (f ∷ fs) y = at_number at (element_number y.scope.tables f.whole.type (Some z)) (f ∷ fs) y
 
 abbrev pub to_element : ℕ → Typed → Fills
-to_element at x y = to_constant at x.type x.value y.frames (record y { faults = y.faults ++ x.faults ++ not_constant x; scope = x.after })
+to_element at x y = to_constant at x.ctype x.value y.frames (record y { faults = y.faults ++ x.faults ++ not_constant x; scope = x.after })
 
 abbrev pub designates : {E : Type 0} → (E → Scope → Typed) → Designates E → Fills
 designates typed (ToMember at name) y = to_member at name y.frames y
@@ -298,7 +298,7 @@ pub record InitialSaid : Type 0 where
   pub alone : Part → Fills
 
 abbrev pub value_alone : Typed → Part → Fills
-value_alone x p y = fills_part x p (record { whole = p; next = length_of_type x.type } ∷ []) y
+value_alone x p y = fills_part x p (record { whole = p; next = length_of_type x.ctype } ∷ []) y
 
 abbrev pub list_alone : List Fills → Part → Fills
 list_alone fs p y = fills_all fs (record y { frames = started p ∷ []; high = 0 })

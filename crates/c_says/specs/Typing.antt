@@ -40,13 +40,14 @@ use Rattle.c_says.specs.declared.scope.Means.{Means}
 use Rattle.c_says.specs.declared.scope.Means.TheVariants as means
 use Rattle.c_says.specs.declared.scope.Rule.{Rule}
 use Rattle.c_says.specs.declared.scope.Rule.TheVariants as rule
+use Rattle.c_says.specs.declared.shown.Shown.{Shown}
 use Rattle.c_says.specs.Scopes.{Name, Scope}
 
 -- What an expression says. `at` is its own token, parentheses apart. `is_null` marks a null pointer constant (C99 6.3.2.3p3),
 -- `is_literal` a string literal, and `designates` is the declaration of the name that the expression is, parentheses apart.
 pub record Typed : Type 0 where
   pub at : ℕ
-  pub type : Option CType
+  pub ctype : Option CType
   pub value : Option ℤ
   pub is_null : Bool
   pub is_lvalue : Bool
@@ -54,15 +55,6 @@ pub record Typed : Type 0 where
   pub designates : Option Entry
   pub faults : List Fault
   pub after : Scope
-
--- What a node says of itself where it breaks no rule.
-pub record Shown : Type 0 where
-  pub type : CType
-  pub value : Option ℤ
-  pub is_null : Bool
-  pub is_lvalue : Bool
-  pub is_literal : Bool
-  pub designates : Option Entry
 
 -- what a node says of itself, or the rule that it breaks: of several the first in the order of refusals
 abbrev pub Judgement : Type 0
@@ -84,11 +76,11 @@ no_constant = rule.Layout layout.NotConstant
 
 -- a value that isn't constant
 abbrev pub some_value : CType → Shown
-some_value t = record { type = t; value = None; is_null = false; is_lvalue = false; is_literal = false; designates = None }
+some_value t = record { ctype = t; value = None; is_null = false; is_lvalue = false; is_literal = false; designates = None }
 
 -- an object
 abbrev pub an_object : CType → Shown
-an_object t = record { type = t; value = None; is_null = false; is_lvalue = true; is_literal = false; designates = None }
+an_object t = record { ctype = t; value = None; is_null = false; is_lvalue = true; is_literal = false; designates = None }
 
 abbrev pub null_where : Option ℤ → Bool
 null_where None = false
@@ -96,22 +88,22 @@ null_where (Some z) = is_zero z
 
 -- a value of an integer type, constant or not; a constant 0 is a null pointer constant (C99 6.3.2.3p3)
 abbrev pub an_integer : IntegerKind → Option ℤ → Shown
-an_integer kind z = record { type = integer kind; value = z; is_null = null_where z; is_lvalue = false; is_literal = false; designates = None }
+an_integer kind z = record { ctype = integer kind; value = z; is_null = null_where z; is_lvalue = false; is_literal = false; designates = None }
 
 -- ---- nodes
 
 abbrev pub typeless : ℕ → List Fault → Scope → Typed
 typeless at faults s =
-    record { at = at; type = None; value = None; is_null = false; is_lvalue = false; is_literal = false; designates = None; faults = faults; after = s }
+    record { at = at; ctype = None; value = None; is_null = false; is_lvalue = false; is_literal = false; designates = None; faults = faults; after = s }
 
 -- an expression of floating type is refused where it stands
 abbrev pub node : ℕ → Judgement → List Fault → Scope → Typed
 node at (Err r) faults s = typeless at (faults ++ fault_at at r) s
 node at (Ok x) faults s =
-    cond (is_floating x.type) (typeless at (faults ++ fault_at at rule.FloatUsed) s)
+    cond (is_floating x.ctype) (typeless at (faults ++ fault_at at rule.FloatUsed) s)
       (record {
         at = at;
-        type = Some x.type;
+        ctype = Some x.ctype;
         value = x.value;
         is_null = x.is_null;
         is_lvalue = x.is_lvalue;
@@ -122,14 +114,14 @@ node at (Ok x) faults s =
       })
 
 abbrev pub show_typed : Typed → CType → Shown
-show_typed x t = record { type = t; value = x.value; is_null = x.is_null; is_lvalue = x.is_lvalue; is_literal = x.is_literal; designates = x.designates }
+show_typed x t = record { ctype = t; value = x.value; is_null = x.is_null; is_lvalue = x.is_lvalue; is_literal = x.is_literal; designates = x.designates }
 
 abbrev pub shown_as : Typed → Option CType → Option Shown
 shown_as x None = None
 shown_as x (Some t) = Some (show_typed x t)
 
 abbrev pub shown : Typed → Option Shown
-shown x = shown_as x x.type
+shown x = shown_as x x.ctype
 
 abbrev pub node_over : ℕ → Option Shown → (Shown → Judgement) → List Fault → Scope → Typed
 node_over at None f faults s = typeless at faults s
@@ -151,18 +143,18 @@ over_two at x y f = node_over_two at (shown x) (shown y) f (x.faults ++ y.faults
 -- ---- values of lvalues, arrays and functions (C99 6.3.2.1)
 
 abbrev pub value_of_array : Shown → Judgement
-value_of_array x = cond x.is_lvalue (Ok (some_value (decayed x.type))) (Err rule.TypeMismatch)
+value_of_array x = cond x.is_lvalue (Ok (some_value (decayed x.ctype))) (Err rule.TypeMismatch)
 
 abbrev pub value_where : Bool → Shown → Judgement
-value_where true x = Ok (record x { type = unqualified_version x.type; is_lvalue = false })
+value_where true x = Ok (record x { ctype = unqualified_version x.ctype; is_lvalue = false })
 value_where false x = Err incomplete
 
 -- An array turns into a pointer to its first element, a function into a pointer to it, an object into its value, without
 -- qualifiers (C99 6.3.2.1p2 to p4). An array that is no lvalue has no first element, and an object whose size isn't known no value.
 abbrev pub value_in : Tables → Class → Shown → Judgement
 value_in tables class.Array x = value_of_array x
-value_in tables class.Function x = Ok (some_value (decayed x.type))
-value_in tables (class.Aggregate n) x = value_where (is_sized tables x.type) x
+value_in tables class.Function x = Ok (some_value (decayed x.ctype))
+value_in tables (class.Aggregate n) x = value_where (is_sized tables x.ctype) x
 value_in tables class.Opaque x = value_where false x
 value_in tables class.Void x = value_where true x
 value_in tables (class.Integer kind) x = value_where true x
@@ -170,7 +162,7 @@ value_in tables class.Floating x = value_where true x
 value_in tables class.Pointer x = value_where true x
 
 abbrev pub value_of : Tables → Shown → Judgement
-value_of tables x = value_in tables (class_of x.type) x
+value_of tables x = value_in tables (class_of x.ctype) x
 
 -- the part as a value
 abbrev pub used : Typed → Typed
@@ -199,7 +191,7 @@ abbrev pub literal_type : List (List ℕ) → CType
 literal_type pieces = array (Some (suc (total pieces))) (integer k.Char)
 
 abbrev pub within_limit : Tables → Shown → Judgement
-within_limit tables x = cond (is_too_large tables x.type) (Err too_large) (Ok x)
+within_limit tables x = cond (is_too_large tables x.ctype) (Err too_large) (Ok x)
 
 abbrev pub string_literal : ℕ → List (List ℕ) → Scope → Typed
 string_literal at pieces s = node at (within_limit s.tables (record (an_object (literal_type pieces)) { is_literal = true })) [] s
@@ -233,7 +225,7 @@ on_integers_of None b f = Err rule.TypeMismatch
 
 -- both operands are integers
 abbrev pub on_integers : Shown → Shown → (IntegerKind → IntegerKind → Judgement) → Judgement
-on_integers x y f = on_integers_of (kind_of x.type) (kind_of y.type) f
+on_integers x y f = on_integers_of (kind_of x.ctype) (kind_of y.ctype) f
 
 abbrev pub both : {A B C : Type 0} → Option A → Option B → (A → B → Option C) → Option C
 both None y f = None
@@ -251,10 +243,10 @@ defined_on x y f = both x y (λ x y. defined (f x y))
 -- a pointer to a type whose size is known moves by elements (C99 6.5.6p2, p8)
 abbrev pub moved_to : Tables → Shown → Option CType → Judgement
 moved_to tables x None = Err rule.TypeMismatch
-moved_to tables x (Some t) = cond (is_sized tables t) (Ok (some_value x.type)) (Err incomplete)
+moved_to tables x (Some t) = cond (is_sized tables t) (Ok (some_value x.ctype)) (Err incomplete)
 
 abbrev pub moved : Tables → Shown → Judgement
-moved tables x = moved_to tables x (target_of x.type)
+moved tables x = moved_to tables x (target_of x.ctype)
 
 -- ---- binary operators (C99 6.5.5 to 6.5.14), over values
 
@@ -268,13 +260,13 @@ shift f x y = on_integers x y (λ a b. Ok (an_integer (promoted a) (defined_on x
 
 -- C99 6.5.6p2: integers, or a pointer and an integer
 abbrev pub addition_of : Tables → Bool → Bool → Shown → Shown → Judgement
-addition_of tables true false x y = cond (is_integer y.type) (moved tables x) (Err rule.TypeMismatch)
-addition_of tables false true x y = cond (is_integer x.type) (moved tables y) (Err rule.TypeMismatch)
+addition_of tables true false x y = cond (is_integer y.ctype) (moved tables x) (Err rule.TypeMismatch)
+addition_of tables false true x y = cond (is_integer x.ctype) (moved tables y) (Err rule.TypeMismatch)
 addition_of tables true true x y = Err rule.TypeMismatch
 addition_of tables false false x y = arithmetic sum x y
 
 abbrev pub addition : Tables → Shown → Shown → Judgement
-addition tables x y = addition_of tables (is_pointer x.type) (is_pointer y.type) x y
+addition tables x y = addition_of tables (is_pointer x.ctype) (is_pointer y.ctype) x y
 
 abbrev pub as_distance : Judgement → Judgement → Judgement
 as_distance (Err r) q = Err r
@@ -284,22 +276,22 @@ as_distance (Ok x) (Ok y) = Ok (some_value (integer k.Long))
 -- C99 6.5.6p3: integers, two pointers, or a pointer and an integer
 abbrev pub subtraction_of : Tables → Bool → Bool → Shown → Shown → Judgement
 subtraction_of tables true true x y = as_distance (moved tables x) (moved tables y)
-subtraction_of tables true false x y = cond (is_integer y.type) (moved tables x) (Err rule.TypeMismatch)
+subtraction_of tables true false x y = cond (is_integer y.ctype) (moved tables x) (Err rule.TypeMismatch)
 subtraction_of tables false true x y = Err rule.TypeMismatch
 subtraction_of tables false false x y = arithmetic difference x y
 
 abbrev pub subtraction : Tables → Shown → Shown → Judgement
-subtraction tables x y = subtraction_of tables (is_pointer x.type) (is_pointer y.type) x y
+subtraction tables x y = subtraction_of tables (is_pointer x.ctype) (is_pointer y.ctype) x y
 
 abbrev pub compared_values : (IntegerKind → ℤ → ℤ → ℤ) → Shown → Shown → Option IntegerKind → Option IntegerKind → Option ℤ
 compared_values f x y a b = both a b (λ a b. both x.value y.value (λ m n. Some (f (usual a b) m n)))
 
 abbrev pub scalars : Shown → Shown → Shown → Judgement
-scalars x y z = cond (is_scalar x.type && is_scalar y.type) (Ok z) (Err rule.TypeMismatch)
+scalars x y z = cond (is_scalar x.ctype && is_scalar y.ctype) (Ok z) (Err rule.TypeMismatch)
 
 -- C99 6.5.8p6, 6.5.9p3: 1 or 0, of type `int`
 abbrev pub comparison : (IntegerKind → ℤ → ℤ → ℤ) → Shown → Shown → Judgement
-comparison f x y = scalars x y (an_integer k.Int (compared_values f x y (kind_of x.type) (kind_of y.type)))
+comparison f x y = scalars x y (an_integer k.Int (compared_values f x y (kind_of x.ctype) (kind_of y.ctype)))
 
 abbrev pub truth : ℤ → Bool
 truth z = not (is_zero z)
@@ -338,7 +330,7 @@ binary at op x y = over_two at (used x) (used y) (operated y.after.tables op)
 
 -- C99 6.5.3.2p1, p3: of an lvalue or a function
 abbrev pub address : Shown → Judgement
-address x = cond (x.is_lvalue || is_function x.type) (Ok (some_value (pointer_to x.type))) (Err rule.TypeMismatch)
+address x = cond (x.is_lvalue || is_function x.ctype) (Ok (some_value (pointer_to x.ctype))) (Err rule.TypeMismatch)
 
 abbrev pub target_shown : CType → Shown
 target_shown t = cond (is_function t) (some_value t) (an_object t)
@@ -349,7 +341,7 @@ indirection_to (Some t) = Ok (target_shown t)
 
 -- C99 6.5.3.2p2, p4
 abbrev pub indirection : Shown → Judgement
-indirection x = indirection_to (target_of x.type)
+indirection x = indirection_to (target_of x.ctype)
 
 abbrev pub on_integer_of : Option IntegerKind → (IntegerKind → Judgement) → Judgement
 on_integer_of None f = Err rule.TypeMismatch
@@ -361,19 +353,19 @@ value_by (Some z) f = defined (f z)
 
 -- C99 6.5.3.3p1 to p4
 abbrev pub signed_of : (IntegerKind → ℤ → Answer) → Shown → Judgement
-signed_of f x = on_integer_of (kind_of x.type) (λ a. Ok (an_integer (promoted a) (value_by x.value (f (promoted a)))))
+signed_of f x = on_integer_of (kind_of x.ctype) (λ a. Ok (an_integer (promoted a) (value_by x.value (f (promoted a)))))
 
 -- C99 6.5.3.3p5
 abbrev pub negated : Shown → Judgement
-negated x = cond (is_scalar x.type) (Ok (an_integer k.Int (value_by x.value (λ z. Ok (number_of (is_zero z)))))) (Err rule.TypeMismatch)
+negated x = cond (is_scalar x.ctype) (Ok (an_integer k.Int (value_by x.value (λ z. Ok (number_of (is_zero z)))))) (Err rule.TypeMismatch)
 
 -- A modifiable lvalue (C99 6.3.2.1p1): no array or function, not qualified by `const`.
 abbrev pub is_modifiable : Shown → Bool
-is_modifiable x = x.is_lvalue && not (is_array x.type) && not (is_function x.type) && not (is_const x.type)
+is_modifiable x = x.is_lvalue && not (is_array x.ctype) && not (is_function x.ctype) && not (is_const x.ctype)
 
 -- an array or function is no modifiable lvalue, whatever else is wrong with it
 abbrev pub or_not_modifiable : Shown → Rule
-or_not_modifiable x = cond (is_array x.type || is_function x.type) rule.NotModifiable rule.TypeMismatch
+or_not_modifiable x = cond (is_array x.ctype || is_function x.ctype) rule.NotModifiable rule.TypeMismatch
 
 -- what is said of a target, or that it can't be modified
 abbrev pub on_modifiable : Shown → Judgement → Judgement
@@ -381,8 +373,8 @@ on_modifiable x (Err rule.TypeMismatch) = Err (or_not_modifiable x)
 on_modifiable x j = cond (is_modifiable x) j (Err rule.NotModifiable)
 
 abbrev pub stepped_in : Tables → Class → Shown → Judgement
-stepped_in tables (class.Integer kind) x = Ok (some_value (unqualified_version x.type))
-stepped_in tables class.Pointer x = moved tables (record x { type = unqualified_version x.type })
+stepped_in tables (class.Integer kind) x = Ok (some_value (unqualified_version x.ctype))
+stepped_in tables class.Pointer x = moved tables (record x { ctype = unqualified_version x.ctype })
 stepped_in tables class.Array x = Err rule.TypeMismatch
 stepped_in tables class.Function x = Err rule.TypeMismatch
 stepped_in tables class.Void x = Err rule.TypeMismatch
@@ -392,7 +384,7 @@ stepped_in tables class.Opaque x = Err rule.TypeMismatch
 
 -- `++` and `--` (C99 6.5.2.4p1, 6.5.3.1p1): a modifiable lvalue of integer or pointer type
 abbrev pub stepped : Tables → Shown → Judgement
-stepped tables x = on_modifiable x (stepped_in tables (class_of x.type) x)
+stepped tables x = on_modifiable x (stepped_in tables (class_of x.ctype) x)
 
 abbrev pub unary : ℕ → UnaryOperator → Typed → Typed
 unary at u.Address x = over at x address
@@ -418,7 +410,7 @@ size_in tables t = cond (is_too_large tables t) (Err too_large) (size_as (size_o
 
 -- the operand isn't evaluated, and doesn't turn into a pointer
 abbrev pub size_of_expression : ℕ → Typed → Typed
-size_of_expression at x = over at x (λ y. size_in x.after.tables y.type)
+size_of_expression at x = over at x (λ y. size_in x.after.tables y.ctype)
 
 -- ---- type names (C99 6.7.6) as other definitions tell them: the type, or the rule that it breaks, where its parts have types
 
@@ -451,12 +443,12 @@ keeps_null to x = null_where x.value && is_plain_void_pointer_to (target_of to)
 
 abbrev pub cast_shown : CType → Shown → Shown
 cast_shown to x =
-    let z = cast_value (kind_of to) (kind_of x.type) x.value in
-    record { type = unqualified_version to; value = z; is_null = null_where z || keeps_null to x; is_lvalue = false; is_literal = false; designates = None }
+    let z = cast_value (kind_of to) (kind_of x.ctype) x.value in
+    record { ctype = unqualified_version to; value = z; is_null = null_where z || keeps_null to x; is_lvalue = false; is_literal = false; designates = None }
 
 -- C99 6.5.4p2: to void, or a scalar to a scalar type
 abbrev pub cast_to : CType → Shown → Judgement
-cast_to to x = cond (is_void to || (is_scalar to && is_scalar x.type)) (Ok (cast_shown to x)) (Err rule.TypeMismatch)
+cast_to to x = cond (is_void to || (is_scalar to && is_scalar x.ctype)) (Ok (cast_shown to x)) (Err rule.TypeMismatch)
 
 abbrev pub cast_over : ℕ → NamedType → Typed → List Fault → Typed
 cast_over at None x faults = typeless at (faults ++ x.faults) x.after
@@ -481,7 +473,7 @@ subscript at x y = over_two at (used x) (used y) (element y.after.tables)
 -- ---- members (C99 6.5.2.3)
 
 abbrev pub member_shown : Qualifiers → Bool → Member → Shown
-member_shown q lvalue m = record { type = qualified q m.ctype; value = None; is_null = false; is_lvalue = lvalue; is_literal = false; designates = None }
+member_shown q lvalue m = record { ctype = qualified q m.ctype; value = None; is_null = false; is_lvalue = lvalue; is_literal = false; designates = None }
 
 abbrev pub found_member : Qualifiers → Bool → Option Member → Judgement
 found_member q lvalue None = Err rule.TypeMismatch
@@ -500,7 +492,7 @@ member_in tables q lvalue name (Some n) = member_of_content q lvalue name (conte
 
 -- a member of a qualified object is so qualified, and an lvalue where the object is one (C99 6.5.2.3p3)
 abbrev pub member_shown_of : Tables → Name → Shown → Judgement
-member_shown_of tables name x = member_in tables (qualifiers_of x.type) x.is_lvalue name (aggregate_of x.type)
+member_shown_of tables name x = member_in tables (qualifiers_of x.ctype) x.is_lvalue name (aggregate_of x.ctype)
 
 abbrev pub member : ℕ → Name → Typed → Typed
 member at name x = over at x (member_shown_of x.after.tables name)
@@ -510,7 +502,7 @@ pointed_member_of tables name None = Err rule.TypeMismatch
 pointed_member_of tables name (Some t) = member_shown_of tables name (an_object t)
 
 abbrev pub pointed_member : Tables → Name → Shown → Judgement
-pointed_member tables name x = pointed_member_of tables name (target_of x.type)
+pointed_member tables name x = pointed_member_of tables name (target_of x.ctype)
 
 -- C99 6.5.2.3p4
 abbrev pub arrow : ℕ → Name → Typed → Typed
@@ -525,12 +517,12 @@ with_target_qualifiers t other = pointer_to (qualified (qualifiers_of other) t)
 -- pointer to void makes the other one so
 abbrev pub joined_targets : Shown → Shown → CType → CType → CType
 joined_targets x y t u =
-    cond x.is_null y.type (cond y.is_null x.type (cond (is_void t) (with_target_qualifiers t u) (cond (is_void u) (with_target_qualifiers u t) (with_target_qualifiers t u))))
+    cond x.is_null y.ctype (cond y.is_null x.ctype (cond (is_void t) (with_target_qualifiers t u) (cond (is_void u) (with_target_qualifiers u t) (with_target_qualifiers t u))))
 
 abbrev pub joined_pointers : Shown → Shown → Option CType → Option CType → Judgement
 joined_pointers x y (Some t) (Some u) = Ok (some_value (joined_targets x y t u))
-joined_pointers x y (Some t) None = Ok (some_value x.type)
-joined_pointers x y None (Some u) = Ok (some_value y.type)
+joined_pointers x y (Some t) None = Ok (some_value x.ctype)
+joined_pointers x y None (Some u) = Ok (some_value y.ctype)
 joined_pointers x y None None = Err rule.TypeMismatch
 
 abbrev pub chosen : Option ℤ → Option ℤ → Option ℤ → Option ℤ
@@ -550,18 +542,18 @@ same_aggregate None n = false
 -- two void expressions, or two values of one structure or union type
 abbrev pub joined_others : Shown → Shown → Judgement
 joined_others x y =
-    cond ((is_void x.type && is_void y.type) || same_aggregate (aggregate_of x.type) (aggregate_of y.type)) (Ok (some_value x.type)) (Err rule.TypeMismatch)
+    cond ((is_void x.ctype && is_void y.ctype) || same_aggregate (aggregate_of x.ctype) (aggregate_of y.ctype)) (Ok (some_value x.ctype)) (Err rule.TypeMismatch)
 
 abbrev pub joined_kinds : Shown → Shown → Shown → Option IntegerKind → Option IntegerKind → Judgement
 joined_kinds c x y (Some a) (Some b) = Ok (an_integer (usual a b) (chosen_as (usual a b) (chosen c.value x.value y.value)))
-joined_kinds c x y (Some a) None = joined_pointers x y (target_of x.type) (target_of y.type)
-joined_kinds c x y None (Some b) = joined_pointers x y (target_of x.type) (target_of y.type)
+joined_kinds c x y (Some a) None = joined_pointers x y (target_of x.ctype) (target_of y.ctype)
+joined_kinds c x y None (Some b) = joined_pointers x y (target_of x.ctype) (target_of y.ctype)
 joined_kinds c x y None None =
-    cond (is_pointer x.type && is_pointer y.type) (joined_pointers x y (target_of x.type) (target_of y.type)) (joined_others x y)
+    cond (is_pointer x.ctype && is_pointer y.ctype) (joined_pointers x y (target_of x.ctype) (target_of y.ctype)) (joined_others x y)
 
 -- C99 6.5.15p2, p3, p5
 abbrev pub choice_of : Shown → Shown → Shown → Judgement
-choice_of c x y = cond (is_scalar c.type) (joined_kinds c x y (kind_of x.type) (kind_of y.type)) (Err rule.TypeMismatch)
+choice_of c x y = cond (is_scalar c.ctype) (joined_kinds c x y (kind_of x.ctype) (kind_of y.ctype)) (Err rule.TypeMismatch)
 
 abbrev pub choice_over : ℕ → Option Shown → Option Shown → Option Shown → List Fault → Scope → Typed
 choice_over at None x y faults s = typeless at faults s
@@ -580,18 +572,18 @@ is_assignable to from = (is_scalar to && is_scalar from) || same_aggregate (aggr
 -- the value has the type of the target without qualifiers (C99 6.5.16p3)
 abbrev pub assigned : Shown → Shown → Judgement
 assigned x y =
-    on_modifiable x (cond (is_assignable x.type y.type) (Ok (some_value (unqualified_version x.type))) (Err rule.TypeMismatch))
+    on_modifiable x (cond (is_assignable x.ctype y.ctype) (Ok (some_value (unqualified_version x.ctype))) (Err rule.TypeMismatch))
 
 -- C99 6.5.16.2p1, p2: the target is a pointer only in `+=` and `-=` of an integer, else both are of arithmetic type
 abbrev pub compound_of : Tables → BinaryOperator → Bool → Shown → Shown → Judgement
-compound_of tables op false x y = on_integers x y (λ a b. Ok (some_value (unqualified_version x.type)))
-compound_of tables o.Add true x y = cond (is_integer y.type) (moved tables x) (Err rule.TypeMismatch)
-compound_of tables o.Subtract true x y = cond (is_integer y.type) (moved tables x) (Err rule.TypeMismatch)
+compound_of tables op false x y = on_integers x y (λ a b. Ok (some_value (unqualified_version x.ctype)))
+compound_of tables o.Add true x y = cond (is_integer y.ctype) (moved tables x) (Err rule.TypeMismatch)
+compound_of tables o.Subtract true x y = cond (is_integer y.ctype) (moved tables x) (Err rule.TypeMismatch)
 compound_of tables _ true x y = Err rule.TypeMismatch
 
 abbrev pub compound : Tables → BinaryOperator → Shown → Shown → Judgement
 compound tables op x y =
-    on_modifiable x (compound_of tables op (is_pointer x.type) (record x { type = unqualified_version x.type }) y)
+    on_modifiable x (compound_of tables op (is_pointer x.ctype) (record x { ctype = unqualified_version x.ctype }) y)
 
 abbrev pub assignment : ℕ → Option BinaryOperator → Typed → Typed → Typed
 assignment at None x y = over_two at x (used y) assigned
@@ -600,17 +592,17 @@ assignment at (Some op) x y = over_two at x (used y) (compound y.after.tables op
 -- ---- the comma operator (C99 6.5.17): a void expression, then a value, which isn't constant (C99 6.6p3)
 
 abbrev pub comma : ℕ → Typed → Typed → Typed
-comma at x y = over_two at x (used y) (λ a b. Ok (some_value b.type))
+comma at x y = over_two at x (used y) (λ a b. Ok (some_value b.ctype))
 
 -- ---- calls (C99 6.5.2.2)
 
 -- what is said of a call besides its parts: the result's type, where no rule is broken
 pub record Called : Type 0 where
-  pub type : Option CType
+  pub ctype : Option CType
   pub faults : List Fault
 
 abbrev pub broken : ℕ → Rule → Called
-broken at r = record { type = None; faults = fault_at at r }
+broken at r = record { ctype = None; faults = fault_at at r }
 
 -- an argument that is converted to the type of its parameter (C99 6.5.2.2p4, p7)
 abbrev pub argument_fault : ℕ → ℕ → Class → Class → List Fault
@@ -637,7 +629,7 @@ class_in (Some t) = class_of t
 
 abbrev pub loose_faults : ℕ → List Typed → List Fault
 loose_faults callee [] = []
-loose_faults callee (x ∷ xs) = loose_fault callee (class_in x.type) ++ loose_faults callee xs
+loose_faults callee (x ∷ xs) = loose_fault callee (class_in x.ctype) ++ loose_faults callee xs
 
 -- arguments beyond the parameters: only behind `...`, or where nothing is said of parameters
 abbrev pub surplus_faults : ℕ → Prototype → List Typed → List Fault
@@ -650,7 +642,7 @@ surplus_faults callee prototype_.EmptyDefinition (x ∷ xs) = loose_faults calle
 abbrev pub argument_faults : ℕ → Prototype → List CType → List Typed → List Fault
 argument_faults callee p [] xs = surplus_faults callee p xs
 argument_faults callee p (t ∷ ts) [] = fault_at callee rule.TypeMismatch
-argument_faults callee p (t ∷ ts) (x ∷ xs) = argument_fault callee x.at (class_in x.type) (class_of t) ++ argument_faults callee p ts xs
+argument_faults callee p (t ∷ ts) (x ∷ xs) = argument_fault callee x.at (class_in x.ctype) (class_of t) ++ argument_faults callee p ts xs
 
 abbrev pub signature_faults : ℕ → Option Signature → List Typed → List Fault
 signature_faults callee None xs = []
@@ -667,7 +659,7 @@ type_where [] t = Some t
 type_where (f ∷ fs) t = None
 
 abbrev pub called_with : List Fault → CType → Called
-called_with faults t = record { type = type_where faults (unqualified_version t); faults = faults }
+called_with faults t = record { ctype = type_where faults (unqualified_version t); faults = faults }
 
 abbrev pub called_directly : Tables → ℕ → List Derivation → Option CType → List Typed → Called
 called_directly tables callee (d.Function n ∷ ds) (Some result) xs =
@@ -701,7 +693,7 @@ has_type (Some t) = true
 
 abbrev pub all_typed : List Typed → Bool
 all_typed [] = true
-all_typed (x ∷ xs) = has_type x.type && all_typed xs
+all_typed (x ∷ xs) = has_type x.ctype && all_typed xs
 
 abbrev pub all_used : List Typed → List Typed
 all_used [] = []
@@ -710,7 +702,7 @@ all_used (x ∷ xs) = used x ∷ all_used xs
 abbrev pub call_of : ℕ → List Fault → Called → Scope → Typed
 call_of at faults c s = record {
   at = at;
-  type = c.type;
+  ctype = c.ctype;
   value = None;
   is_null = false;
   is_lvalue = false;
@@ -728,7 +720,7 @@ call_over at f (Some t) xs s =
       (typeless at (f.faults ++ all_faults xs) s)
 
 abbrev pub call : ℕ → Typed → List Typed → Scope → Typed
-call at f xs s = call_over at f f.type (all_used xs) s
+call at f xs s = call_over at f f.ctype (all_used xs) s
 
 -- ---- constant expressions (C99 6.6)
 
@@ -739,7 +731,7 @@ not_constant_of at (Some t) None = fault_at at no_constant
 not_constant_of at (Some t) (Some z) = []
 
 abbrev pub not_constant : Typed → List Fault
-not_constant x = not_constant_of x.at x.type x.value
+not_constant x = not_constant_of x.at x.ctype x.value
 
 abbrev pub cause_in : List Fault → LayoutRule
 cause_in [] = layout.NotConstant

@@ -28,15 +28,15 @@ designated (designator.Member at member) = ToMember at member
 designated (designator.Element at index) = ToElement at index
 
 abbrev pub initial_step : ExprTyped → open_.Initializer-F InitialSaid Fills → InitialSaid
-initial_step typed (open_.Value value) = value_says {E = Expr} typed value
-initial_step typed (open_.List at items trailing) = list_says at items
+initial_step says (open_.Value value) = value_says {E = Expr} says value
+initial_step says (open_.List at items trailing) = list_says at items
 
 abbrev pub item_step : ExprTyped → open_.InitializerItem-F InitialSaid Fills → Fills
-item_step typed item = item_says {E = Expr} typed (map designated item.designators) item.value
+item_step says item = item_says {E = Expr} says (map designated item.designators) item.value
 
 -- what an initializer says, where expressions say this
 unfoldable pub initial_by : ExprTyped → Initializer → InitialSaid
-initial_by typed x = fold-Initializer InitialSaid Fills (initial_step typed) (item_step typed) x
+initial_by says x = fold-Initializer InitialSaid Fills (initial_step says) (item_step says) x
 
 abbrev pub initial_says : Initializer → InitialSaid
 initial_says x = initial_by typed x
@@ -49,16 +49,16 @@ abbrev pub initialises : InitialSaid → InitialSays
 initialises x t s = initialised (filling_of x t s)
 
 abbrev pub initial_if : ExprTyped → Option Initializer → Option InitialSays
-initial_if typed None = None
-initial_if typed (Some x) = Some (initialises (initial_by typed x))
+initial_if says None = None
+initial_if says (Some x) = Some (initialises (initial_by says x))
 
 -- ---- declarations
 
 abbrev pub item_by : ExprTyped → (Declarator → DeclaratorSays) → InitDeclarator → Item
-item_by typed declarators x = record { declarator = declarators x.declarator; initial = initial_if typed x.initializer }
+item_by says declarators x = record { declarator = declarators x.declarator; initial = initial_if says x.initializer }
 
 abbrev pub declared_by : ExprTyped → (Specifier → Saying) → (Declarator → DeclaratorSays) → Declaration → Scope → Declares
-declared_by typed specifiers declarators x s = declaration_by (map specifiers x.specifiers) (map (item_by typed declarators) x.declarators) s
+declared_by says specifiers declarators x s = declaration_by (map specifiers x.specifiers) (map (item_by says declarators) x.declarators) s
 
 -- what a declaration declares in a scope, and the rules that it breaks
 abbrev pub declaration_says : Declaration → Scope → Declares

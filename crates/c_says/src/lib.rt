@@ -2,7 +2,9 @@
 #![tactic(auto)]
 
 mod scope;
+mod shown;
 
 pub use scope::{
     Duration, Entry, Fault, LayoutRule, Linkage, Linked, Means, Rule, Tag, TagMeans,
 };
+pub use shown::Shown;

@@ -1,0 +1,18 @@
+//! What a node of an expression says of itself.
+
+use crate::scope::Entry;
+use c_type_terms::CType;
+use plain_data::Shared;
+
+/// What a node says of itself where it breaks no rule: its type as written, its value where it is constant, and whether it
+/// is a null pointer constant (C99 6.3.2.3p3), an lvalue (C99 6.3.2.1p1) and a string literal. `designates` is the
+/// declaration of the name that it is, parentheses apart.
+#[derive(Drop)]
+pub struct Shown {
+    pub ctype: CType,
+    pub value: Option<i128>,
+    pub is_null: bool,
+    pub is_lvalue: bool,
+    pub is_literal: bool,
+    pub designates: Option<Shared<Entry>>,
+}
