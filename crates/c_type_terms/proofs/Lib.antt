@@ -1,1 +1,2 @@
 pub mod Qualified
+pub mod Words

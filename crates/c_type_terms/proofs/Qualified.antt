@@ -1,5 +1,5 @@
 -- The qualifiers of a type stand at the first derivation that makes no array, or at its base.
-use Rattle.std.proofs.Common.{◌≡◌, ℕ, zero, suc, Bool, true, false, cond, List, [], ◌∷◌, Option, Some, None, slice_get, slice_set, refl, ap, ◌∙◌, sym}
+use Rattle.std.proofs.Common.{◌≡◌, ℕ, suc, Bool, true, false, cond, List, [], ◌∷◌, Option, Some, None, slice_get, slice_set, refl, ap, ◌∙◌}
 use Rattle.c_type_terms.specs.declared.ctype.Qualifiers.{Qualifiers}
 use Rattle.c_type_terms.specs.declared.ctype.CType.{CType}
 use Rattle.c_type_terms.specs.declared.ctype.Derivation.{Derivation}

@@ -1,6 +1,7 @@
 -- When two declarations may be of one thing (C99 6.2.7), and what types become where they are used (C99 6.3.2.1,
 -- 6.7.5.3).
 use Rattle.std.specs.Prelude.{ℕ, zero, suc, nat_eq, length, Bool, true, false, cond, not, ◌&&◌, ◌||◌, List, [], ◌∷◌, Option, Some, None, slice_get}
+use Rattle.std.specs.List.{list_all}
 use Rattle.c_type_terms.specs.declared.ctype.IntegerKind.{IntegerKind}
 use Rattle.c_type_terms.specs.declared.ctype.IntegerKind.TheVariants as k
 use Rattle.c_type_terms.specs.declared.ctype.RealKind.{RealKind}
@@ -18,7 +19,7 @@ use Rattle.c_type_terms.specs.declared.tables.Prototype.{Prototype}
 use Rattle.c_type_terms.specs.declared.tables.Prototype.TheVariants as p
 use Rattle.c_type_terms.specs.declared.tables.Signature.{Signature}
 use Rattle.c_type_terms.specs.declared.tables.Tables.{Tables}
-use Rattle.c_type_terms.specs.Types.{unqualified, pointer, pointer_to, rest_of, basic, kind_of, unqualified_version}
+use Rattle.c_type_terms.specs.Types.{unqualified, pointer, pointer_to, rest_of}
 use Rattle.c_type_terms.specs.Integers.{promoted}
 
 -- ---- conversions of whole types
@@ -37,19 +38,6 @@ adjusted q t = adjusted_from q t t.derivations
 -- an array is a pointer to its first element, a function a pointer to it (C99 6.3.2.1p3, p4)
 abbrev pub decayed : CType → CType
 decayed t = adjusted unqualified t
-
--- `float`, which the default argument promotions make `double` (C99 6.5.2.2p6)
-abbrev pub is_unpromoted_float : Base → Bool
-is_unpromoted_float (b.Floating kind) = is_float kind.real && is_real kind.domain
-  where
-    is_float : RealKind → Bool
-    is_float r.Float = true
-    is_float _ = false
-
-    is_real : Domain → Bool
-    is_real m.Real = true
-    is_real _ = false
-is_unpromoted_float _ = false
 
 -- ---- sameness of parts
 
@@ -97,6 +85,10 @@ abbrev pub same_floating : FloatingKind → FloatingKind → Bool
 same_floating x y =
     nat_eq (real_number x.real) (real_number y.real) && nat_eq (domain_number x.domain) (domain_number y.domain)
 
+-- the type `float`, which the default argument promotions make `double` (C99 6.5.2.2p6)
+abbrev pub is_float : FloatingKind → Bool
+is_float kind = same_floating kind (record { real = r.Float; domain = m.Real })
+
 -- a type that isn't derived is compatible with itself; an enumerated type also with `int` (C99 6.7.2.2p4)
 abbrev pub bases_agree : Base → Base → Bool
 bases_agree b.Void b.Void = true
@@ -116,82 +108,101 @@ lengths_agree _ _ = true
 
 -- ---- function types (C99 6.7.5.3p15)
 
--- the parameters are as many, and compatible pair by pair without their qualifiers
-abbrev pub parameters_agree : (CType → CType → Bool) → List CType → List CType → Bool
-parameters_agree types [] [] = true
-parameters_agree types (t ∷ ts) (u ∷ us) =
-    types (unqualified_version t) (unqualified_version u) && parameters_agree types ts us
-parameters_agree types _ _ = false
-
--- a parameter type of which a declaration without prototype may speak: the promotions leave it as it is
-abbrev pub is_default_kind : Option IntegerKind → Bool
-is_default_kind None = true
-is_default_kind (Some kind) = same_kind kind (promoted kind)
+-- a parameter type of which a declaration without prototype may speak: the default argument promotions leave it as it is,
+-- up to compatibility (C99 6.5.2.2p6)
+abbrev pub is_default_base : Base → Bool
+is_default_base b.Void = true
+is_default_base (b.Integer kind) = same_kind kind (promoted kind)
+is_default_base (b.Floating kind) = not (is_float kind)
+is_default_base b.VaList = true
+is_default_base (b.Enumerated number) = true
+is_default_base (b.Aggregate number) = true
 
 abbrev pub is_default_from : Base → List Derivation → Bool
-is_default_from base [] = not (is_unpromoted_float base) && is_default_kind (kind_of (basic base))
+is_default_from base [] = is_default_base base
 is_default_from base (x ∷ ds) = true
 
 abbrev pub is_default : CType → Bool
 is_default t = is_default_from t.base t.derivations
 
 abbrev pub are_default : List CType → Bool
-are_default [] = true
-are_default (t ∷ ts) = is_default t && are_default ts
+are_default ts = list_all is_default ts
 
 abbrev pub are_none : List CType → Bool
 are_none [] = true
 are_none (t ∷ ts) = false
 
--- what declarations say of parameters: both prototypes, one of them, or none
-abbrev pub signature_agrees : (CType → CType → Bool) → Signature → Signature → Bool
-signature_agrees types f g = by f.prototype g.prototype
-  where
-    by : Prototype → Prototype → Bool
-    by p.Fixed p.Fixed = parameters_agree types f.parameters g.parameters
-    by p.Variadic p.Variadic = parameters_agree types f.parameters g.parameters
-    by p.Fixed p.Variadic = false
-    by p.Variadic p.Fixed = false
-    by p.Fixed p.Unspecified = are_default f.parameters
-    by p.Unspecified p.Fixed = are_default g.parameters
-    by p.Fixed p.EmptyDefinition = are_none f.parameters
-    by p.EmptyDefinition p.Fixed = are_none g.parameters
-    by p.Variadic p.Unspecified = false
-    by p.Unspecified p.Variadic = false
-    by p.Variadic p.EmptyDefinition = false
-    by p.EmptyDefinition p.Variadic = false
-    by p.Unspecified p.Unspecified = true
-    by p.Unspecified p.EmptyDefinition = true
-    by p.EmptyDefinition p.Unspecified = true
-    by p.EmptyDefinition p.EmptyDefinition = true
+-- the parameters are as many, and compatible pair by pair
+abbrev pub parameters_agree : (CType → CType → Bool) → List CType → List CType → Bool
+parameters_agree types [] [] = true
+parameters_agree types (t ∷ ts) (u ∷ us) = types t u && parameters_agree types ts us
+parameters_agree types _ _ = false
+
+-- what two declarations say of parameters: two prototypes, one, or none
+abbrev pub prototypes_agree : (CType → CType → Bool) → Prototype → Prototype → List CType → List CType → Bool
+prototypes_agree types p.Fixed p.Fixed ts us = parameters_agree types ts us
+prototypes_agree types p.Fixed p.Variadic ts us = false
+prototypes_agree types p.Fixed p.Unspecified ts us = are_default ts
+prototypes_agree types p.Fixed p.EmptyDefinition ts us = are_none ts
+prototypes_agree types p.Variadic p.Fixed ts us = false
+prototypes_agree types p.Variadic p.Variadic ts us = parameters_agree types ts us
+prototypes_agree types p.Variadic p.Unspecified ts us = false
+prototypes_agree types p.Variadic p.EmptyDefinition ts us = false
+prototypes_agree types p.Unspecified p.Fixed ts us = are_default us
+prototypes_agree types p.Unspecified p.Variadic ts us = false
+prototypes_agree types p.Unspecified p.Unspecified ts us = true
+prototypes_agree types p.Unspecified p.EmptyDefinition ts us = true
+prototypes_agree types p.EmptyDefinition p.Fixed ts us = are_none us
+prototypes_agree types p.EmptyDefinition p.Variadic ts us = false
+prototypes_agree types p.EmptyDefinition p.Unspecified ts us = true
+prototypes_agree types p.EmptyDefinition p.EmptyDefinition ts us = true
 
 abbrev pub both_agree : (CType → CType → Bool) → Option Signature → Option Signature → Bool
-both_agree types (Some f) (Some g) = signature_agrees types f g
-both_agree types _ _ = false
+both_agree types (Some f) (Some g) = prototypes_agree types f.prototype g.prototype f.parameters g.parameters
+both_agree types (Some f) None = false
+both_agree types None g = false
 
 -- ---- types (C99 6.2.7, 6.7.3p9, 6.7.5.1p2): derived alike of compatible types, with the same qualifiers
 
+abbrev pub step_agrees : (ℕ → ℕ → Bool) → Derivation → Derivation → Bool
+step_agrees signatures (d.Pointer p) (d.Pointer q) = same_qualifiers p q
+step_agrees signatures (d.Pointer p) (d.Array m) = false
+step_agrees signatures (d.Pointer p) (d.Function g) = false
+step_agrees signatures (d.Array n) (d.Pointer q) = false
+step_agrees signatures (d.Array n) (d.Array m) = lengths_agree n m
+step_agrees signatures (d.Array n) (d.Function g) = false
+step_agrees signatures (d.Function f) (d.Pointer q) = false
+step_agrees signatures (d.Function f) (d.Array m) = false
+step_agrees signatures (d.Function f) (d.Function g) = signatures f g
+
 abbrev pub derivations_agree : (ℕ → ℕ → Bool) → CType → CType → List Derivation → List Derivation → Bool
 derivations_agree signatures t u [] [] = bases_agree t.base u.base && same_qualifiers t.qualifiers u.qualifiers
-derivations_agree signatures t u (d.Pointer p ∷ ds) (d.Pointer q ∷ es) =
-    same_qualifiers p q && derivations_agree signatures t u ds es
-derivations_agree signatures t u (d.Array n ∷ ds) (d.Array m ∷ es) =
-    lengths_agree n m && derivations_agree signatures t u ds es
-derivations_agree signatures t u (d.Function f ∷ ds) (d.Function g ∷ es) =
-    signatures f g && derivations_agree signatures t u ds es
-derivations_agree signatures t u _ _ = false
+derivations_agree signatures t u [] (e ∷ es) = false
+derivations_agree signatures t u (x ∷ ds) [] = false
+derivations_agree signatures t u (x ∷ ds) (e ∷ es) = step_agrees signatures x e && derivations_agree signatures t u ds es
 
--- a function's parameters have signatures of smaller numbers, so as many levels as there are signatures are enough
-abbrev pub compatible_at : ℕ → Tables → CType → CType → Bool
-compatible_at zero tables t u = derivations_agree (λ f g. nat_eq f g) t u t.derivations u.derivations
-compatible_at (suc n) tables t u =
-    derivations_agree
-    (λ f g. nat_eq f g
-    || both_agree (compatible_at n tables) (slice_get tables.signatures f) (slice_get tables.signatures g))
-    t u t.derivations u.derivations
+abbrev pub types_agree : (ℕ → ℕ → Bool) → CType → CType → Bool
+types_agree signatures t u = derivations_agree signatures t u t.derivations u.derivations
+
+-- parameters are compared without their own qualifiers; they aren't arrays (C99 6.7.5.3p15)
+abbrev pub unqualified_from : (ℕ → ℕ → Bool) → CType → CType → List Derivation → List Derivation → Bool
+unqualified_from signatures t u [] [] = bases_agree t.base u.base
+unqualified_from signatures t u (d.Pointer p ∷ ds) (d.Pointer q ∷ es) = derivations_agree signatures t u ds es
+unqualified_from signatures t u ds es = derivations_agree signatures t u ds es
+
+abbrev pub unqualified_agree : (ℕ → ℕ → Bool) → CType → CType → Bool
+unqualified_agree signatures t u = unqualified_from signatures t u t.derivations u.derivations
+
+-- two signatures agree, each with itself; a function's parameters have signatures of smaller numbers, so as many levels as
+-- there are signatures are enough
+abbrev pub signatures_at : ℕ → Tables → ℕ → ℕ → Bool
+signatures_at zero tables f g = nat_eq f g
+signatures_at (suc n) tables f g =
+    nat_eq f g
+    || both_agree (unqualified_agree (signatures_at n tables)) (slice_get tables.signatures f) (slice_get tables.signatures g)
 
 abbrev pub compatible : Tables → CType → CType → Bool
-compatible tables t u = compatible_at (length tables.signatures) tables t u
+compatible tables t u = types_agree (signatures_at (length tables.signatures) tables) t u
 
 -- ---- the composite type of two compatible types (C99 6.2.7p3)
 
@@ -214,13 +225,21 @@ abbrev pub known_signature : Tables → ℕ → ℕ → ℕ
 known_signature tables f g =
     cond (has_prototype (slice_get tables.signatures f)) f (cond (has_prototype (slice_get tables.signatures g)) g f)
 
--- derived as both are, with the number of elements and the prototype that one of them tells
-abbrev pub composite_from : Tables → List Derivation → List Derivation → List Derivation
-composite_from tables (d.Array n ∷ ds) (d.Array m ∷ es) = d.Array (known_length n m) ∷ composite_from tables ds es
-composite_from tables (d.Pointer p ∷ ds) (d.Pointer q ∷ es) = d.Pointer p ∷ composite_from tables ds es
-composite_from tables (d.Function f ∷ ds) (d.Function g ∷ es) =
-    d.Function (known_signature tables f g) ∷ composite_from tables ds es
-composite_from tables ds _ = ds
+-- what one of two alike derivations tells: the number of elements, or the prototype
+abbrev pub merged : Tables → Derivation → Derivation → Derivation
+merged tables (d.Pointer p) e = d.Pointer p
+merged tables (d.Array n) (d.Pointer q) = d.Array n
+merged tables (d.Array n) (d.Array m) = d.Array (known_length n m)
+merged tables (d.Array n) (d.Function g) = d.Array n
+merged tables (d.Function f) (d.Pointer q) = d.Function f
+merged tables (d.Function f) (d.Array m) = d.Function f
+merged tables (d.Function f) (d.Function g) = d.Function (known_signature tables f g)
 
+abbrev pub composite_from : Tables → List Derivation → List Derivation → List Derivation
+composite_from tables [] es = []
+composite_from tables (x ∷ ds) [] = x ∷ ds
+composite_from tables (x ∷ ds) (e ∷ es) = merged tables x e ∷ composite_from tables ds es
+
+-- of two prototypes the first is taken: it says the same of each parameter, but for what a pointer among them points to
 abbrev pub composite : Tables → CType → CType → CType
 composite tables t u = record t { derivations = composite_from tables t.derivations u.derivations }

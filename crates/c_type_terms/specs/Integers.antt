@@ -160,5 +160,5 @@ value_of_word kind a =
     cond (is_bool kind) (number_of (not (nat_eq a 0))) (cond (is_signed kind) (signed (width_of kind) a) (pos a))
 
 -- whether the number isn't 0, in `_Bool`, and else modulo 2^N: the number itself where the type has it
-abbrev pub converted : IntegerKind → ℤ → ℤ
+unfoldable pub converted : IntegerKind → ℤ → ℤ
 converted kind z = cond (is_bool kind) (number_of (not (is_zero z))) (value_of_word kind (word (width_of kind) z))

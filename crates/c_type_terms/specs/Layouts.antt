@@ -12,6 +12,7 @@ use Rattle.c_type_terms.specs.declared.ctype.Base.TheVariants as b
 use Rattle.c_type_terms.specs.declared.ctype.Derivation.{Derivation}
 use Rattle.c_type_terms.specs.declared.ctype.Derivation.TheVariants as d
 use Rattle.c_type_terms.specs.declared.ctype.CType.{CType}
+use Rattle.c_type_terms.specs.declared.layouts.Extent.{Extent}
 use Rattle.c_type_terms.specs.declared.tables.AggregateForm.{AggregateForm}
 use Rattle.c_type_terms.specs.declared.tables.AggregateForm.TheVariants as f
 use Rattle.c_type_terms.specs.declared.tables.Content.{Content}
@@ -122,13 +123,16 @@ is_opaque_content c.Incomplete = false
 is_opaque_content (c.Opaque cause) = true
 is_opaque_content (c.Complete layout) = false
 
+abbrev pub is_opaque_base : Tables → Base → Bool
+is_opaque_base tables b.Void = false
+is_opaque_base tables (b.Integer kind) = false
+is_opaque_base tables (b.Floating kind) = false
+is_opaque_base tables b.VaList = true
+is_opaque_base tables (b.Enumerated number) = false
+is_opaque_base tables (b.Aggregate number) = is_opaque_content (content_of tables number)
+
 abbrev pub is_opaque_from : Tables → Base → List Derivation → Bool
-is_opaque_from tables b.Void [] = false
-is_opaque_from tables (b.Integer kind) [] = false
-is_opaque_from tables (b.Floating kind) [] = false
-is_opaque_from tables b.VaList [] = true
-is_opaque_from tables (b.Enumerated number) [] = false
-is_opaque_from tables (b.Aggregate number) [] = is_opaque_content (content_of tables number)
+is_opaque_from tables base [] = is_opaque_base tables base
 is_opaque_from tables base (d.Pointer q ∷ ds) = false
 is_opaque_from tables base (d.Array n ∷ ds) = is_opaque_from tables base ds
 is_opaque_from tables base (d.Function s ∷ ds) = false
@@ -165,11 +169,6 @@ is_too_large tables t = is_too_large_from tables t.base t.derivations
 -- the first multiple of the alignment that isn't before the offset
 abbrev pub aligned : ℕ → ℕ → ℕ
 aligned offset align = cond (nat_eq (offset % align) 0) offset (offset + (align - offset % align))
-
--- how many bytes an object takes, and to how many it is aligned
-pub record Extent : Type 0 where
-  pub size : ℕ
-  pub align : ℕ
 
 abbrev pub extent_with : Option ℕ → Option ℕ → Option Extent
 extent_with None align = None

@@ -14,7 +14,7 @@ abbrev pub Answer : Type 0
 Answer = Result ℤ Undefined
 
 -- a result in a signed type must be a value of it; in an unsigned type it is taken modulo 2^N (C99 6.5p5, 6.2.5p9)
-abbrev pub exact : IntegerKind → ℤ → Answer
+unfoldable pub exact : IntegerKind → ℤ → Answer
 exact kind z = cond (is_signed kind) (cond (is_in kind z) (Ok z) (Err Overflow)) (Ok (converted kind z))
 
 -- ---- additive and multiplicative operators (C99 6.5.5, 6.5.6)

@@ -1,5 +1,5 @@
 //! Integer types: ranges, ranks, promotion, the usual conversions, and conversion of values (C99 6.2.6, 6.3.1).
-ghost use Rattle.std.specs.Prelude.{◌≡◌, ◌<◌, ◌^◌};
+ghost use Rattle.std.specs.Prelude.{◌≡◌, ◌<◌, ◌^◌, ◌-◌, ◌≤ℤ◌, pos, negsuc, true, false};
 ghost use Rattle.bit_words.specs.Words.{word};
 ghost use Rattle.c_type_terms.specs.Integers as spec;
 
@@ -199,7 +199,11 @@ impl IntegerKind {
     /// is 1.
     pub fn value_of_word(self, word: u64) -> i128
         requires { word < 2 ^ spec.bits_of self }
-        ensures { result ≡ spec.value_of_word self word }
+        ensures value { result ≡ spec.value_of_word self word }
+        ensures low { negsuc (2 ^ 63 - 1) ≤ℤ result }
+        ensures high { result ≤ℤ pos (2 ^ 64 - 1) }
+        ensures signed { spec.is_signed self ≡ true → result ≤ℤ pos (2 ^ 63 - 1) }
+        ensures unsigned { spec.is_signed self ≡ false → pos 0 ≤ℤ result }
     {
         if matches!(self, IntegerKind::Bool) {
             i128::from(word != 0)
@@ -212,8 +216,13 @@ impl IntegerKind {
 
     /// The value of the type to which a number is converted (C99 6.3.1.2, 6.3.1.3): modulo 2^N, or for `_Bool` whether
     /// it isn't 0.
+    #[tactic(auto, unfolding(crate::specs::Integers::converted))]
     pub fn convert(self, value: i128) -> i128
-        ensures { result ≡ spec.converted self value }
+        ensures value { result ≡ spec.converted self value }
+        ensures low { negsuc (2 ^ 63 - 1) ≤ℤ result }
+        ensures high { result ≤ℤ pos (2 ^ 64 - 1) }
+        ensures signed { spec.is_signed self ≡ true → result ≤ℤ pos (2 ^ 63 - 1) }
+        ensures unsigned { spec.is_signed self ≡ false → pos 0 ≤ℤ result }
     {
         if matches!(self, IntegerKind::Bool) {
             i128::from(value != 0)

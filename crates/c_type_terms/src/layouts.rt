@@ -20,6 +20,13 @@ pub const OBJECT_LIMIT: u64 = 1_048_576;
 /// How many bytes a pointer takes, and to how many it is aligned.
 const POINTER_BYTES: u64 = 8;
 
+/// How many bytes an object takes, and to how many it is aligned.
+#[derive(Clone, Copy, Debug, PartialEq, Eq)]
+pub struct Extent {
+    pub size: u64,
+    pub align: u64,
+}
+
 fn counted(bytes: u128) -> u64
     ensures { result ≡ spec.counted bytes }
 {
@@ -174,6 +181,228 @@ impl Tables {
         ensures { result ≡ spec.align_of self.now ctype.now }
     {
         self.align_from(ctype.base, ctype.derivations.as_slice())
+    }
+
+    fn extent_of(&self, ctype: &CType) -> Option<Extent>
+        ensures { result ≡ spec.extent_of self.now ctype.now }
+    {
+        extent_with(self.size_of(ctype), self.align_of(ctype))
+    }
+
+    /// The room that a member of the type takes: none exactly where the type is incomplete, opaque or a function type,
+    /// and no array of an unknown number of elements of which each has a size. Such a flexible array member takes no
+    /// room, and is aligned as its elements are (C99 6.7.2.1p16).
+    pub fn member_extent(&self, ctype: &CType) -> Option<Extent>
+        ensures { result ≡ spec.member_extent self.now ctype.now }
+    {
+        match ctype.derivations.as_slice().split_first() {
+            Some((Derivation::Array(None), rest)) => extent_with(
+                Some(0),
+                self.align_from(ctype.base, rest),
+            ),
+            Some((Derivation::Array(Some(_)), _)) => self.extent_of(ctype),
+            Some((Derivation::Pointer(_), _)) => self.extent_of(ctype),
+            Some((Derivation::Function(_), _)) => self.extent_of(ctype),
+            None => self.extent_of(ctype),
+        }
+    }
+
+    /// Whether no size is known of the type, though it has no further declaration to wait for: the list of variable
+    /// arguments, a structure or union of which no layout is known, or an array of these.
+    pub fn is_opaque(&self, ctype: &CType) -> bool
+        ensures { result ≡ spec.is_opaque self.now ctype.now }
+    {
+        self.is_opaque_from(ctype.base, ctype.derivations.as_slice())
+    }
+
+    fn is_opaque_from(&self, base: Base, derivations: &[Derivation]) -> bool
+        ensures { result ≡ spec.is_opaque_from self.now base derivations.now }
+    {
+        match derivations.split_first() {
+            None => self.is_opaque_base(base),
+            Some((Derivation::Pointer(_), _)) => false,
+            Some((Derivation::Array(_), rest)) => self.is_opaque_from(base, rest),
+            Some((Derivation::Function(_), _)) => false,
+        }
+    }
+
+    fn is_opaque_base(&self, base: Base) -> bool
+        ensures { result ≡ spec.is_opaque_base self.now base }
+    {
+        match base {
+            Base::Void => false,
+            Base::Integer(_) => false,
+            Base::Floating(_) => false,
+            Base::VaList => true,
+            Base::Enumerated(_) => false,
+            Base::Aggregate(number) => self.is_opaque_at(number),
+        }
+    }
+
+    fn is_opaque_at(&self, number: u32) -> bool
+        ensures { result ≡ spec.is_opaque_content (content_of self.now number) }
+    {
+        match self.aggregates.get(number as usize) {
+            Some(aggregate) => matches!(&aggregate.content, Content::Opaque(_)),
+            None => false,
+        }
+    }
+
+    /// Whether the type, or one from which it is derived, has more than 1,048,576 bytes.
+    pub fn is_too_large(&self, ctype: &CType) -> bool
+        ensures { result ≡ spec.is_too_large self.now ctype.now }
+    {
+        self.is_too_large_from(ctype.base, ctype.derivations.as_slice())
+    }
+
+    fn is_too_large_from(&self, base: Base, derivations: &[Derivation]) -> bool
+        ensures { result ≡ spec.is_too_large_from self.now base derivations.now }
+    {
+        match derivations.split_first() {
+            Some((_, rest)) => {
+                is_above_limit(self.size_from(base, derivations))
+                    || self.is_too_large_from(base, rest)
+            }
+            None => is_above_limit(self.base_size(base)),
+        }
+    }
+
+    fn members_at(&self, number: u32) -> &[Member]
+        ensures { result.now ≡ spec.members_in (content_of self.now number) }
+    {
+        match self.aggregates.get(number as usize) {
+            Some(aggregate) => match &aggregate.content {
+                Content::Incomplete => &[],
+                Content::Opaque(_) => &[],
+                Content::Complete(layout) => layout.members.as_slice(),
+            },
+            None => &[],
+        }
+    }
+
+    /// The members of a complete structure or union, in order; of another type none.
+    pub fn members_of(&self, ctype: &CType) -> &[Member]
+        ensures { result.now ≡ spec.members_of self.now ctype.now }
+    {
+        match ctype.aggregate() {
+            Some(number) => self.members_at(number),
+            None => &[],
+        }
+    }
+
+    /// The member that a name names, the first of them (C99 6.5.2.3).
+    pub fn member_of(&self, ctype: &CType, name: &Name) -> Option<&Member>
+        ensures { option_copied result ≡ spec.member_of self.now ctype.now name.now }
+    {
+        member_named(self.members_of(ctype), name)
+    }
+
+    /// The offset of a member by its number, from 0: none where the type is no complete structure or union, or has no
+    /// such member.
+    pub fn offset_of(&self, ctype: &CType, member: u32) -> Option<u64>
+        ensures { result ≡ spec.offset_of self.now ctype.now member }
+    {
+        match self.members_of(ctype).get(member as usize) {
+            Some(member) => Some(member.offset),
+            None => None,
+        }
+    }
+}
+
+fn member_named<'a>(members: &'a [Member], name: &Name) -> Option<&'a Member>
+    ensures { option_copied result ≡ spec.member_named name.now members.now }
+{
+    for member in members {
+        if member.name.get().as_slice() == name.get().as_slice() {
+            return Some(member);
+        }
+    }
+    None
+}
+
+fn is_above_limit(size: Option<u64>) -> bool
+    ensures { result ≡ spec.is_above_limit size }
+{
+    match size {
+        Some(bytes) => OBJECT_LIMIT < bytes,
+        None => false,
+    }
+}
+
+fn extent_with(size: Option<u64>, align: Option<u64>) -> Option<Extent>
+    ensures { result ≡ spec.extent_with size align }
+{
+    match (size, align) {
+        (Some(size), Some(align)) => Some(Extent { size, align }),
+        (Some(_), None) => None,
+        (None, _) => None,
+    }
+}
+
+fn aligned(offset: u64, align: u64) -> u128
+    ensures { result ≡ spec.aligned offset align }
+{
+    let over = match offset.checked_rem(align) {
+        Some(over) => over,
+        None => offset,
+    };
+    if over == 0 {
+        u128::from(offset)
+    } else {
+        u128::from(offset) + u128::from(align.saturating_sub(over))
+    }
+}
+
+impl Layout {
+    /// The layout of no members: 0 bytes, aligned to 1. It takes no memory.
+    pub fn new(alloc: Global) -> Layout
+        ensures { result ≡ spec.no_members }
+    {
+        Layout {
+            size: 0,
+            align: 1,
+            members: Items::new(alloc),
+        }
+    }
+
+    /// Places the next member: in a structure behind those before it, in a union at the beginning (C99 6.7.2.1p13, p14).
+    /// It fails for want of memory alone.
+    pub fn place(
+        &mut self,
+        form: AggregateForm,
+        extent: Extent,
+        name: Name,
+        ctype: CType,
+    ) -> Result<(), AllocError>
+        ensures ok { OnOk result (self.new ≡ spec.placed form self.old extent name ctype) }
+        ensures err { OnErr result (self.new ≡ self.old) }
+    {
+        let (offset, end) = match form {
+            AggregateForm::Structure => {
+                let offset = counted(aligned(self.size, extent.align));
+                (
+                    offset,
+                    counted(u128::from(offset) + u128::from(extent.size)),
+                )
+            }
+            AggregateForm::Union => (0, self.size.max(extent.size)),
+        };
+        let member = Member {
+            name,
+            offset,
+            ctype,
+        };
+        self.members.push(member)?;
+        self.size = end;
+        self.align = self.align.max(extent.align);
+        Ok(())
+    }
+
+    /// Rounds the size up to the alignment, behind the last member (C99 6.7.2.1p15).
+    pub fn finish(&mut self)
+        ensures { self.new ≡ spec.finished self.old }
+    {
+        self.size = counted(aligned(self.size, self.align));
     }
 }
 
