@@ -11,6 +11,8 @@ use Rattle.c_tree.specs.declared.expr.TagName.{TagName}
 use Rattle.c_tree.specs.Folds.{fold_expr, fold_declarator, fold_specifier, fold_member, fold_type_name, fold_parameter}
 use Rattle.c_type_terms.specs.declared.ctype.IntegerKind.TheVariants as k
 use Rattle.c_type_terms.specs.Types.{integer as integer_type, aggregate}
+use Rattle.c_type_terms.specs.Integers.{converted}
+use Rattle.c_type_terms.specs.Operators.{exact}
 use Rattle.c_type_terms.specs.Layouts.{size_of, align_of, offset_of}
 use Rattle.c_says.specs.declared.scope.LayoutRule.TheVariants as layout
 use Rattle.c_says.specs.Scopes.{Name, Scope, empty}
@@ -152,7 +154,7 @@ abbrev choice_of_constants : OfExpr
 choice_of_constants = built.conditional typing 9 (number 0) (number 2) (built.unary typing 3 u.Minus (number 7))
 
 pub row_choice_is_constant : const_value (typed choice_of_constants.tree int_a) ≡ Ok (negsuc 6)
-unfolding typed
+unfolding typed exact converted
 row_choice_is_constant = ap (λ f. const_value (f int_a)) choice_of_constants.is
 
 -- 0 && 1 / 0 has no value: each operand must be constant
@@ -160,7 +162,7 @@ abbrev zero_divisor : OfExpr
 zero_divisor = built.binary typing 9 o.LogicalAnd (number 0) (built.binary typing 5 o.Divide (number 1) (number 0))
 
 pub row_zero_divisor : const_value (typed zero_divisor.tree empty) ≡ Err layout.NotConstant
-unfolding typed
+unfolding typed exact converted
 row_zero_divisor = ap (λ f. const_value (f empty)) zero_divisor.is
 
 -- ---- enum { a = 4, b, c = sizeof (int) }; : c, b and the type of b

@@ -36,10 +36,11 @@ use Rattle.c_type_terms.specs.declared.tables.Layout.{Layout}
 use Rattle.c_type_terms.specs.declared.tables.OpaqueCause.TheVariants as cause
 use Rattle.c_type_terms.specs.declared.tables.Prototype.{Prototype}
 use Rattle.c_type_terms.specs.declared.tables.Prototype.TheVariants as prototype_
+use Rattle.c_type_terms.specs.declared.layouts.Extent.{Extent}
 use Rattle.c_type_terms.specs.declared.tables.Tables.{Tables}
 use Rattle.c_type_terms.specs.Types.{unqualified, with_both, basic, void, integer, floating, enumerated, aggregate, rest_of, qualified, is_function, is_void}
 use Rattle.c_type_terms.specs.Integers.{is_in}
-use Rattle.c_type_terms.specs.Layouts.{Extent, is_sized, is_opaque, is_too_large, member_extent, no_members, placed, finished}
+use Rattle.c_type_terms.specs.Layouts.{is_sized, is_opaque, is_too_large, member_extent, no_members, placed, finished}
 use Rattle.c_type_terms.specs.Compatible.{adjusted}
 use Rattle.c_says.specs.declared.scope.Entry.{Entry}
 use Rattle.c_says.specs.declared.scope.Fault.{Fault}
