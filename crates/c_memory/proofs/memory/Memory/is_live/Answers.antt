@@ -1,0 +1,9 @@
+use Rattle.std.proofs.Common.{ap, ◌∙◌, ◌+◌, ◌%◌}
+use Rattle.c_store.specs.Access.{reaches}
+use Rattle.c_memory.proofs.memory.Memory.is_live.Goals as goal
+
+pub returns-clause-exact : goal.returns-clause-exact
+returns-clause-exact c =
+    λ world.
+    c.reaches.ensures.exact
+    ∙ ap (λ o. reaches o (c.args.address % 4294967296 + c.args.length)) (c.object.ensures world)

@@ -1,0 +1,197 @@
+//! All live objects.
+ghost use Rattle.std.specs.Prelude.{◌≡◌, ◌≤◌, ◌<◌, ◌+◌, ◌^◌, true, length, slice_index, IsTrue, IfOk, OnOk, None};
+ghost use Rattle.c_store.specs.Store.{offset_of, read, write, lay, zero_range, copy_range, make};
+ghost use Rattle.c_store.specs.Access as access;
+ghost use Rattle.c_memory.specs.Memories.{initial_bytes, store_of, forget, Holds};
+
+use crate::cell::{Cell, ROOM};
+use bit_words::World;
+use c_store::{Object, ObjectKind};
+use plain_data::Items;
+use std::alloc::{AllocError, Global};
+use std::collections::BTreeMap;
+
+/// The live objects by their numbers. Object p has the addresses from p * 2^32. A byte of a live object that was never
+/// laid is the world's, and so is each byte of an object that isn't alive: an ended object takes no memory.
+#[derive(Drop)]
+pub struct Memory {
+    alloc: Global,
+    pub cells: BTreeMap<u64, Cell>,
+}
+
+impl Memory {
+    /// A memory without objects.
+    pub fn new(alloc: Global) -> Memory
+        ensures { (number : _) → (store_of (λ _. 0) result.cells).objects number ≡ None }
+    {
+        Memory {
+            alloc,
+            cells: BTreeMap::new(alloc),
+        }
+    }
+
+    /// The live object of this number.
+    pub fn object(&self, number: u64) -> Option<Object>
+        ensures { (world : _) → result ≡ (store_of world self.now.cells).objects number }
+    {
+        match self.cells.get(&number) {
+            Some(cell) => Some(cell.object),
+            None => None,
+        }
+    }
+
+    /// Whether these addresses are of one live object; with no length, whether the address is in one or one past it.
+    pub fn is_live(&self, address: u64, length: u64) -> bool
+        requires { length < 2 ^ 63 }
+        ensures exact { (world : _) → result ≡ access.is_live (store_of world self.now.cells) address length }
+        ensures room { IsTrue result → offset_of address + length ≤ 2 ^ 32 }
+    {
+        reaches(self.object(address / ROOM), address % ROOM + length)
+    }
+
+    /// Whether both addresses are in, or one past, one live object.
+    pub fn in_one_object(&self, one: u64, other: u64) -> bool
+        ensures { (world : _) → result ≡ access.in_one_object (store_of world self.now.cells) one other }
+    {
+        self.is_live(one, 0) && (self.is_live(other, 0) && one / ROOM == other / ROOM)
+    }
+
+    /// Whether each of these bytes is of a live object.
+    pub fn can_access(&self, address: u64, length: u64) -> bool
+        requires { length < 2 ^ 63 }
+        ensures exact { (world : _) → result ≡ access.can_access (store_of world self.now.cells) address length }
+        ensures room { IsTrue result → offset_of address + length ≤ 2 ^ 32 }
+    {
+        length == 0 || self.is_live(address, length)
+    }
+
+    /// Whether none of these bytes is of a string literal.
+    pub fn can_write(&self, address: u64, length: u64) -> bool
+        ensures { (world : _) → result ≡ access.can_write (store_of world self.now.cells) address length }
+    {
+        length == 0 || !is_literal(self.object(address / ROOM))
+    }
+
+    /// Whether `free` takes the address: null, or the first byte of a live object that was allocated.
+    pub fn can_free(&self, address: u64) -> bool
+        ensures { (world : _) → result ≡ access.can_free (store_of world self.now.cells) address }
+    {
+        address == 0 || (is_heap(self.object(address / ROOM)) && address % ROOM == 0)
+    }
+
+    /// The number in the bytes at an address, little endian.
+    pub fn load(&self, world: &World, address: u64, width: u64) -> u64
+        requires width { width ≤ 8 }
+        requires live { access.is_live (store_of (initial_bytes world.now) self.now.cells) address width ≡ true }
+        requires room { offset_of address + width ≤ 2 ^ 32 }
+        ensures { result ≡ read width (store_of (initial_bytes world.now) self.now.cells) address }
+    {
+        match self.cells.get(&(address / ROOM)) {
+            Some(cell) => cell.read(world, address, width),
+            None => 0,
+        }
+    }
+
+    /// A copy of the bytes at an address. It fails for want of memory alone.
+    pub fn bytes(&self, world: &World, address: u64, count: u64) -> Result<Items<u8>, AllocError>
+        requires live { access.is_live (store_of (initial_bytes world.now) self.now.cells) address count ≡ true }
+        requires room { offset_of address + count ≤ 2 ^ 32 }
+        ensures { IfOk result (λ bytes. Holds (store_of (initial_bytes world.now) self.now.cells).bytes address count bytes) }
+    {
+        match self.cells.get(&(address / ROOM)) {
+            Some(cell) => cell.copy(self.alloc, world, address, count),
+            None => Ok(Items::new(self.alloc)),
+        }
+    }
+
+    /// Writes a number at an address, little endian. It fails for want of memory alone.
+    pub fn store(
+        &mut self,
+        world: &World,
+        address: u64,
+        width: u64,
+        value: u64,
+    ) -> Result<(), AllocError>
+        requires live { access.is_live (store_of (initial_bytes world.now) self.old.cells) address width ≡ true }
+        requires room { offset_of address + width ≤ 2 ^ 32 }
+        ensures { OnOk result (store_of (initial_bytes world.now) self.new.cells
+            ≡ write width address value (store_of (initial_bytes world.now) self.old.cells)) }
+    {
+        match self.cells.get_mut(&(address / ROOM)) {
+            Some(cell) => cell.write(world, address, width, value),
+            None => Ok(()),
+        }
+    }
+
+    /// Writes these bytes at an address. It fails for want of memory alone.
+    pub fn lay(&mut self, world: &World, address: u64, bytes: &[u8]) -> Result<(), AllocError>
+        requires live { access.is_live (store_of (initial_bytes world.now) self.old.cells) address (length bytes.now) ≡ true }
+        requires room { offset_of address + length bytes.now ≤ 2 ^ 32 }
+        ensures { OnOk result (store_of (initial_bytes world.now) self.new.cells
+            ≡ lay address (length bytes.now) (slice_index bytes.now) (store_of (initial_bytes world.now) self.old.cells)) }
+    {
+        match self.cells.get_mut(&(address / ROOM)) {
+            Some(cell) => cell.lay(world, address, bytes),
+            None => Ok(()),
+        }
+    }
+
+    /// Writes zeros at an address. It fails for want of memory alone.
+    pub fn zero(&mut self, world: &World, address: u64, count: u64) -> Result<(), AllocError>
+        requires live { access.is_live (store_of (initial_bytes world.now) self.old.cells) address count ≡ true }
+        requires room { offset_of address + count ≤ 2 ^ 32 }
+        ensures { OnOk result (store_of (initial_bytes world.now) self.new.cells
+            ≡ zero_range address count (store_of (initial_bytes world.now) self.old.cells)) }
+    {
+        match self.cells.get_mut(&(address / ROOM)) {
+            Some(cell) => cell.zero(world, address, count),
+            None => Ok(()),
+        }
+    }
+
+    /// Makes an object, in place of one that has its number. It fails for want of memory alone.
+    pub fn make(&mut self, number: u64, object: Object) -> Result<(), AllocError>
+        requires unused { (store_of (λ _. 0) self.old.cells).objects number ≡ None }
+        ensures { (world : _) → OnOk result (store_of world self.new.cells ≡ make number object (store_of world self.old.cells)) }
+    {
+        let cell = Cell::new(self.alloc, object);
+        self.cells.insert(number, cell)?;
+        Ok(())
+    }
+
+    /// Ends an object, whose bytes are forgotten.
+    pub fn end(&mut self, number: u64)
+        ensures { (world : _) → store_of world self.new.cells ≡ forget world number (store_of world self.old.cells) }
+    {
+        self.cells.remove(&number);
+    }
+}
+
+/// Whether an object has this many bytes.
+fn reaches(object: Option<Object>, end: u64) -> bool
+    ensures exact { result ≡ access.reaches object end }
+    ensures room { IsTrue result → end ≤ 2 ^ 32 }
+{
+    match object {
+        Some(object) => end <= u64::from(object.size),
+        None => false,
+    }
+}
+
+fn is_literal(object: Option<Object>) -> bool
+    ensures { result ≡ access.is_literal object }
+{
+    match object {
+        Some(object) => object.kind == ObjectKind::Literal,
+        None => false,
+    }
+}
+
+fn is_heap(object: Option<Object>) -> bool
+    ensures { result ≡ access.is_heap object }
+{
+    match object {
+        Some(object) => object.kind == ObjectKind::Heap,
+        None => false,
+    }
+}
