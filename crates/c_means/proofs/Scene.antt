@@ -264,9 +264,9 @@ first (z ∷ zs) = z
 abbrev pub calls : Calls
 calls g env vs base s count =
     let d = entered s count in
-    cond (bytes_eq g.name f') (record d { value = Some (first vs) })
-      (cond (bytes_eq g.name m') d
-      (cond (bytes_eq g.name z') (record d { kind = kind.Ended (finish.Exit (first vs)) }) (print (65 ∷ []) d)))
+    cond (bytes_eq g.callee.name f') (record d { value = Some (first vs) })
+      (cond (bytes_eq g.callee.name m') d
+      (cond (bytes_eq g.callee.name z') (record d { kind = kind.Ended (finish.Exit (first vs)) }) (print (65 ∷ []) d)))
 
 abbrev pub level : Level
 level = record {

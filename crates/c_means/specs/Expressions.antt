@@ -428,10 +428,10 @@ abbrev pub passed_texts : List Passed → Level → List (Option (List ℕ))
 passed_texts [] l = []
 passed_texts (q ∷ qs) l = q.part.text l ∷ passed_texts qs l
 
-abbrev pub site : ℕ → Name → Typed → List Passed → Level → Site
-site at name x qs l = record {
+abbrev pub site : ℕ → Entry → Typed → List Passed → Level → Site
+site at callee x qs l = record {
   at = at;
-  name = name;
+  callee = callee;
   ctype = x.ctype;
   types = passed_types qs;
   texts = passed_texts qs l;
@@ -462,7 +462,7 @@ abbrev pub direct_call : ℕ → Typed → (Level → Site) → List Passed → 
 direct_call at x g qs = record {
   typed = x;
   rooted = false;
-  text = λ l. text_at (l.identity (g l).name) (g l).texts;
+  text = λ l. text_at (l.identity (g l).callee.name) (g l).texts;
   room = λ l. all_rooms qs l + l.room (g l);
   reach = nowhere;
   run = λ l env base d. do
@@ -475,7 +475,7 @@ direct_call at x g qs = record {
 
 abbrev pub call_of : Option Entry → Typed → Typed → List Passed → Part
 call_of None f x qs = unmeant x
-call_of (Some e) f x qs = direct_call f.at x (site f.at e.name x qs) qs
+call_of (Some e) f x qs = direct_call f.at x (site f.at e x qs) qs
 
 abbrev pub all_typed : List Part → List Typed
 all_typed [] = []

@@ -11,6 +11,7 @@ use Rattle.bit_words.specs.declared.run.Finish.TheVariants as finish
 use Rattle.c_type_terms.specs.declared.ctype.CType.{CType}
 use Rattle.c_type_terms.specs.Operators.{Answer}
 use Rattle.c_store.specs.Store.{Store}
+use Rattle.c_says.specs.declared.scope.Entry.{Entry}
 use Rattle.c_says.specs.Scopes.{Name, Scope}
 use Rattle.c_says.specs.Typing.{Typed}
 use Rattle.c_means.specs.declared.kind.Kind.{Kind}
@@ -84,8 +85,8 @@ pub record World : Type 0 where
   pub word : ℕ → ℕ
   pub byte : ℕ → ℕ
 
--- The bounds besides the depth: the turns of a loop, the bytes of a heap object, of what an outside function's answer points to (less
--- one), the turns of a prelude function's loops, and how many arguments a program has at most.
+-- The bounds besides the depth: the turns of a loop, the bytes of a heap object, those of a string from outside (less its last, 0), the
+-- turns of a loop in a function of the prelude, and how many arguments a program has at most.
 pub record Limits : Type 0 where
   pub turns : ℕ
   pub heap : ℕ
@@ -95,11 +96,11 @@ pub record Limits : Type 0 where
 
 -- ---- calls
 
--- A call as it stands in the source: the offset of the callee's name, the name, the type of the call, the types of its arguments as they
--- are converted, the texts of those that are string literals, and the names in force.
+-- A call as it stands in the source: the offset of the callee's name, the declaration that the name has, the type of the call, the
+-- types of its arguments as they are converted, the texts of those that are string literals, and the names in force behind them.
 pub record Site : Type 0 where
   pub at : ℕ
-  pub name : Name
+  pub callee : Entry
   pub ctype : Option CType
   pub types : List (Option CType)
   pub texts : List (Option (List ℕ))
@@ -111,9 +112,10 @@ pub record Site : Type 0 where
 abbrev pub Calls : Type 0
 Calls = Site → Env → List ℤ → ℕ → Store → ℕ → State
 
--- What a function runs in. `static` is the number of a function, of an object that lives throughout the run, of a string literal and of
--- `__func__`, each by its offset (that of the first declaration). `identity` tells which argument is answered by a function that hands
--- on its argument. `room` is how many places a call takes, and `call` what it does, with one level of depth fewer.
+-- What a function runs in. `turns` is how many turns a loop of this function takes: in a function of the prelude the limit of texts.
+-- `static` is the number of a function, of an object that lives throughout the run, of a string literal and of `__func__`, each by its
+-- offset (that of the first declaration). `identity` tells which argument is answered by a function that hands on its argument. `room`
+-- is how many places a call takes behind those of its arguments, and `call` what it does, each with one level of depth fewer.
 pub record Level : Type 0 where
   pub world : World
   pub limits : Limits
