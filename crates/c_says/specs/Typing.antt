@@ -227,19 +227,6 @@ on_integers_of None b f = Err rule.TypeMismatch
 abbrev pub on_integers : Shown → Shown → (IntegerKind → IntegerKind → Judgement) → Judgement
 on_integers x y f = on_integers_of (kind_of x.ctype) (kind_of y.ctype) f
 
-abbrev pub both : {A B C : Type 0} → Option A → Option B → (A → B → Option C) → Option C
-both None y f = None
-both (Some x) None f = None
-both (Some x) (Some y) f = f x y
-
--- an operator that is undefined has no value (C99 6.6p4)
-abbrev pub defined : Answer → Option ℤ
-defined (Ok z) = Some z
-defined (Err reason) = None
-
-abbrev pub defined_on : Option ℤ → Option ℤ → (ℤ → ℤ → Answer) → Option ℤ
-defined_on x y f = both x y (λ x y. defined (f x y))
-
 -- a pointer to a type whose size is known moves by elements (C99 6.5.6p2, p8)
 abbrev pub moved_to : Tables → Shown → Option CType → Judgement
 moved_to tables x None = Err rule.TypeMismatch
@@ -250,20 +237,55 @@ moved tables x = moved_to tables x (target_of x.ctype)
 
 -- ---- binary operators (C99 6.5.5 to 6.5.14), over values
 
+abbrev pub truth : ℤ → Bool
+truth z = not (is_zero z)
+
+-- what an operator makes of two numbers, brought to the type in which it works; `&&` and `||` take them as they are
+abbrev pub worked : BinaryOperator → IntegerKind → ℤ → ℤ → Answer
+worked o.Multiply kind x y = product kind x y
+worked o.Divide kind x y = quotient kind x y
+worked o.Remainder kind x y = remainder kind x y
+worked o.Add kind x y = sum kind x y
+worked o.Subtract kind x y = difference kind x y
+worked o.ShiftLeft kind x y = shifted_left kind x y
+worked o.ShiftRight kind x y = shifted_right kind x y
+worked o.Less kind x y = Ok (less kind x y)
+worked o.Greater kind x y = Ok (less kind y x)
+worked o.LessEqual kind x y = Ok (less_equal kind x y)
+worked o.GreaterEqual kind x y = Ok (less_equal kind y x)
+worked o.Equal kind x y = Ok (equal kind x y)
+worked o.NotEqual kind x y = Ok (unequal kind x y)
+worked o.BitAnd kind x y = Ok (bits_and kind x y)
+worked o.BitXor kind x y = Ok (bits_xor kind x y)
+worked o.BitOr kind x y = Ok (bits_or kind x y)
+worked o.LogicalAnd kind x y = Ok (number_of (truth x && truth y))
+worked o.LogicalOr kind x y = Ok (number_of (truth x || truth y))
+
+-- an operator that is undefined has no value (C99 6.6p4)
+abbrev pub defined : Answer → Option ℤ
+defined (Ok z) = Some z
+defined (Err reason) = None
+
+-- constant where both operands are (C99 6.6p6)
+abbrev pub worked_on : BinaryOperator → IntegerKind → Option ℤ → Option ℤ → Option ℤ
+worked_on op kind None y = None
+worked_on op kind (Some x) None = None
+worked_on op kind (Some x) (Some y) = defined (worked op kind x y)
+
 -- C99 6.5.5, 6.5.10 to 6.5.12, and 6.5.6 on integers: the type that the usual conversions give
-abbrev pub arithmetic : (IntegerKind → ℤ → ℤ → Answer) → Shown → Shown → Judgement
-arithmetic f x y = on_integers x y (λ a b. Ok (an_integer (usual a b) (defined_on x.value y.value (f (usual a b)))))
+abbrev pub arithmetic : BinaryOperator → Shown → Shown → Judgement
+arithmetic op x y = on_integers x y (λ a b. Ok (an_integer (usual a b) (worked_on op (usual a b) x.value y.value)))
 
 -- C99 6.5.7p3: the type of the promoted left operand
-abbrev pub shift : (IntegerKind → ℤ → ℤ → Answer) → Shown → Shown → Judgement
-shift f x y = on_integers x y (λ a b. Ok (an_integer (promoted a) (defined_on x.value y.value (f (promoted a)))))
+abbrev pub shift : BinaryOperator → Shown → Shown → Judgement
+shift op x y = on_integers x y (λ a b. Ok (an_integer (promoted a) (worked_on op (promoted a) x.value y.value)))
 
 -- C99 6.5.6p2: integers, or a pointer and an integer
 abbrev pub addition_of : Tables → Bool → Bool → Shown → Shown → Judgement
 addition_of tables true false x y = cond (is_integer y.ctype) (moved tables x) (Err rule.TypeMismatch)
 addition_of tables false true x y = cond (is_integer x.ctype) (moved tables y) (Err rule.TypeMismatch)
 addition_of tables true true x y = Err rule.TypeMismatch
-addition_of tables false false x y = arithmetic sum x y
+addition_of tables false false x y = arithmetic o.Add x y
 
 abbrev pub addition : Tables → Shown → Shown → Judgement
 addition tables x y = addition_of tables (is_pointer x.ctype) (is_pointer y.ctype) x y
@@ -278,50 +300,46 @@ abbrev pub subtraction_of : Tables → Bool → Bool → Shown → Shown → Jud
 subtraction_of tables true true x y = as_distance (moved tables x) (moved tables y)
 subtraction_of tables true false x y = cond (is_integer y.ctype) (moved tables x) (Err rule.TypeMismatch)
 subtraction_of tables false true x y = Err rule.TypeMismatch
-subtraction_of tables false false x y = arithmetic difference x y
+subtraction_of tables false false x y = arithmetic o.Subtract x y
 
 abbrev pub subtraction : Tables → Shown → Shown → Judgement
 subtraction tables x y = subtraction_of tables (is_pointer x.ctype) (is_pointer y.ctype) x y
 
-abbrev pub compared_values : (IntegerKind → ℤ → ℤ → ℤ) → Shown → Shown → Option IntegerKind → Option IntegerKind → Option ℤ
-compared_values f x y a b = both a b (λ a b. both x.value y.value (λ m n. Some (f (usual a b) m n)))
+abbrev pub compared_values : BinaryOperator → Shown → Shown → Option IntegerKind → Option IntegerKind → Option ℤ
+compared_values op x y (Some a) (Some b) = worked_on op (usual a b) x.value y.value
+compared_values op x y (Some a) None = None
+compared_values op x y None b = None
 
 abbrev pub scalars : Shown → Shown → Shown → Judgement
 scalars x y z = cond (is_scalar x.ctype && is_scalar y.ctype) (Ok z) (Err rule.TypeMismatch)
 
 -- C99 6.5.8p6, 6.5.9p3: 1 or 0, of type `int`
-abbrev pub comparison : (IntegerKind → ℤ → ℤ → ℤ) → Shown → Shown → Judgement
-comparison f x y = scalars x y (an_integer k.Int (compared_values f x y (kind_of x.ctype) (kind_of y.ctype)))
-
-abbrev pub truth : ℤ → Bool
-truth z = not (is_zero z)
+abbrev pub comparison : BinaryOperator → Shown → Shown → Judgement
+comparison op x y = scalars x y (an_integer k.Int (compared_values op x y (kind_of x.ctype) (kind_of y.ctype)))
 
 -- C99 6.5.13p3, 6.5.14p3
-abbrev pub logical : (Bool → Bool → Bool) → Shown → Shown → Judgement
-logical f x y = scalars x y (an_integer k.Int (both x.value y.value (λ m n. Some (number_of (f (truth m) (truth n))))))
-
-abbrev pub plain : (IntegerKind → ℤ → ℤ → ℤ) → IntegerKind → ℤ → ℤ → Answer
-plain f kind x y = Ok (f kind x y)
+abbrev pub logical : BinaryOperator → Shown → Shown → Judgement
+logical op x y = scalars x y (an_integer k.Int (worked_on op k.Int x.value y.value))
 
 abbrev pub operated : Tables → BinaryOperator → Shown → Shown → Judgement
-operated tables o.Multiply x y = arithmetic product x y
-operated tables o.Divide x y = arithmetic quotient x y
-operated tables o.Remainder x y = arithmetic remainder x y
+operated tables o.Multiply x y = arithmetic o.Multiply x y
+operated tables o.Divide x y = arithmetic o.Divide x y
+operated tables o.Remainder x y = arithmetic o.Remainder x y
 operated tables o.Add x y = addition tables x y
 operated tables o.Subtract x y = subtraction tables x y
-operated tables o.ShiftLeft x y = shift shifted_left x y
-operated tables o.ShiftRight x y = shift shifted_right x y
-operated tables o.Less x y = comparison less x y
-operated tables o.Greater x y = comparison (λ kind m n. less kind n m) x y
-operated tables o.LessEqual x y = comparison less_equal x y
-operated tables o.GreaterEqual x y = comparison (λ kind m n. less_equal kind n m) x y
-operated tables o.Equal x y = comparison equal x y
-operated tables o.NotEqual x y = comparison unequal x y
-operated tables o.BitAnd x y = arithmetic (plain bits_and) x y
-operated tables o.BitXor x y = arithmetic (plain bits_xor) x y
-operated tables o.BitOr x y = arithmetic (plain bits_or) x y
-operated tables o.LogicalAnd x y = logical (λ m n. m && n) x y
-operated tables o.LogicalOr x y = logical (λ m n. m || n) x y
+operated tables o.ShiftLeft x y = shift o.ShiftLeft x y
+operated tables o.ShiftRight x y = shift o.ShiftRight x y
+operated tables o.Less x y = comparison o.Less x y
+operated tables o.Greater x y = comparison o.Greater x y
+operated tables o.LessEqual x y = comparison o.LessEqual x y
+operated tables o.GreaterEqual x y = comparison o.GreaterEqual x y
+operated tables o.Equal x y = comparison o.Equal x y
+operated tables o.NotEqual x y = comparison o.NotEqual x y
+operated tables o.BitAnd x y = arithmetic o.BitAnd x y
+operated tables o.BitXor x y = arithmetic o.BitXor x y
+operated tables o.BitOr x y = arithmetic o.BitOr x y
+operated tables o.LogicalAnd x y = logical o.LogicalAnd x y
+operated tables o.LogicalOr x y = logical o.LogicalOr x y
 
 abbrev pub binary : ℕ → BinaryOperator → Typed → Typed → Typed
 binary at op x y = over_two at (used x) (used y) (operated y.after.tables op)
@@ -347,17 +365,28 @@ abbrev pub on_integer_of : Option IntegerKind → (IntegerKind → Judgement) �
 on_integer_of None f = Err rule.TypeMismatch
 on_integer_of (Some a) f = f a
 
-abbrev pub value_by : Option ℤ → (ℤ → Answer) → Option ℤ
-value_by None f = None
-value_by (Some z) f = defined (f z)
+-- what a unary operator makes of a number, brought to the promoted type; `!` takes it as it is
+abbrev pub turned : UnaryOperator → IntegerKind → ℤ → Answer
+turned u.Plus kind z = Ok (converted kind z)
+turned u.Minus kind z = negation kind z
+turned u.Complement kind z = Ok (complement kind z)
+turned u.Not kind z = Ok (number_of (is_zero z))
+turned u.Address kind z = Ok z
+turned u.Indirection kind z = Ok z
+turned u.Increment kind z = Ok z
+turned u.Decrement kind z = Ok z
+
+abbrev pub turned_on : UnaryOperator → IntegerKind → Option ℤ → Option ℤ
+turned_on op kind None = None
+turned_on op kind (Some z) = defined (turned op kind z)
 
 -- C99 6.5.3.3p1 to p4
-abbrev pub signed_of : (IntegerKind → ℤ → Answer) → Shown → Judgement
-signed_of f x = on_integer_of (kind_of x.ctype) (λ a. Ok (an_integer (promoted a) (value_by x.value (f (promoted a)))))
+abbrev pub promoted_by : UnaryOperator → Shown → Judgement
+promoted_by op x = on_integer_of (kind_of x.ctype) (λ a. Ok (an_integer (promoted a) (turned_on op (promoted a) x.value)))
 
 -- C99 6.5.3.3p5
 abbrev pub negated : Shown → Judgement
-negated x = cond (is_scalar x.ctype) (Ok (an_integer k.Int (value_by x.value (λ z. Ok (number_of (is_zero z)))))) (Err rule.TypeMismatch)
+negated x = cond (is_scalar x.ctype) (Ok (an_integer k.Int (turned_on u.Not k.Int x.value))) (Err rule.TypeMismatch)
 
 -- A modifiable lvalue (C99 6.3.2.1p1): no array or function, not qualified by `const`.
 abbrev pub is_modifiable : Shown → Bool
@@ -389,9 +418,9 @@ stepped tables x = on_modifiable x (stepped_in tables (class_of x.ctype) x)
 abbrev pub unary : ℕ → UnaryOperator → Typed → Typed
 unary at u.Address x = over at x address
 unary at u.Indirection x = over at (used x) indirection
-unary at u.Plus x = over at (used x) (signed_of (λ kind z. Ok (converted kind z)))
-unary at u.Minus x = over at (used x) (signed_of negation)
-unary at u.Complement x = over at (used x) (signed_of (λ kind z. Ok (complement kind z)))
+unary at u.Plus x = over at (used x) (promoted_by u.Plus)
+unary at u.Minus x = over at (used x) (promoted_by u.Minus)
+unary at u.Complement x = over at (used x) (promoted_by u.Complement)
 unary at u.Not x = over at (used x) negated
 unary at u.Increment x = over at x (stepped x.after.tables)
 unary at u.Decrement x = over at x (stepped x.after.tables)
@@ -532,7 +561,8 @@ chosen (Some c) None y = None
 chosen None x y = None
 
 abbrev pub chosen_as : IntegerKind → Option ℤ → Option ℤ
-chosen_as kind z = value_by z (λ z. Ok (converted kind z))
+chosen_as kind None = None
+chosen_as kind (Some z) = Some (converted kind z)
 
 abbrev pub same_aggregate : Option ℕ → Option ℕ → Bool
 same_aggregate (Some m) (Some n) = nat_eq m n
