@@ -1,0 +1,6 @@
+//! Types, constants and scopes of C: the code of what `c_says` defines.
+#![tactic(auto)]
+
+mod operators;
+mod unary;
+mod values;
