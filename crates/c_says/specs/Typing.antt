@@ -40,6 +40,7 @@ use Rattle.c_says.specs.declared.scope.Means.{Means}
 use Rattle.c_says.specs.declared.scope.Means.TheVariants as means
 use Rattle.c_says.specs.declared.scope.Rule.{Rule}
 use Rattle.c_says.specs.declared.scope.Rule.TheVariants as rule
+use Rattle.c_says.specs.declared.shown.Argument.{Argument}
 use Rattle.c_says.specs.declared.shown.Shown.{Shown}
 use Rattle.c_says.specs.Scopes.{Name, Scope}
 
@@ -651,30 +652,31 @@ argument_fault callee at from class.Function = fault_at callee rule.TypeMismatch
 abbrev pub loose_fault : ℕ → Class → List Fault
 loose_fault callee (class.Aggregate n) = fault_at callee rule.StructByValue
 loose_fault callee class.Void = fault_at callee rule.TypeMismatch
-loose_fault callee _ = []
+loose_fault callee (class.Integer kind) = []
+loose_fault callee class.Floating = []
+loose_fault callee class.Pointer = []
+loose_fault callee class.Array = []
+loose_fault callee class.Function = []
+loose_fault callee class.Opaque = []
 
-abbrev pub class_in : Option CType → Class
-class_in None = class.Void
-class_in (Some t) = class_of t
-
-abbrev pub loose_faults : ℕ → List Typed → List Fault
+abbrev pub loose_faults : ℕ → List Argument → List Fault
 loose_faults callee [] = []
-loose_faults callee (x ∷ xs) = loose_fault callee (class_in x.ctype) ++ loose_faults callee xs
+loose_faults callee (x ∷ xs) = loose_fault callee x.class ++ loose_faults callee xs
 
 -- arguments beyond the parameters: only behind `...`, or where nothing is said of parameters
-abbrev pub surplus_faults : ℕ → Prototype → List Typed → List Fault
+abbrev pub surplus_faults : ℕ → Prototype → List Argument → List Fault
 surplus_faults callee p [] = []
 surplus_faults callee prototype_.Fixed (x ∷ xs) = fault_at callee rule.TypeMismatch
 surplus_faults callee prototype_.Variadic (x ∷ xs) = loose_faults callee (x ∷ xs)
 surplus_faults callee prototype_.Unspecified (x ∷ xs) = loose_faults callee (x ∷ xs)
 surplus_faults callee prototype_.EmptyDefinition (x ∷ xs) = loose_faults callee (x ∷ xs)
 
-abbrev pub argument_faults : ℕ → Prototype → List CType → List Typed → List Fault
+abbrev pub argument_faults : ℕ → Prototype → List CType → List Argument → List Fault
 argument_faults callee p [] xs = surplus_faults callee p xs
 argument_faults callee p (t ∷ ts) [] = fault_at callee rule.TypeMismatch
-argument_faults callee p (t ∷ ts) (x ∷ xs) = argument_fault callee x.at (class_in x.ctype) (class_of t) ++ argument_faults callee p ts xs
+argument_faults callee p (t ∷ ts) (x ∷ xs) = argument_fault callee x.at x.class (class_of t) ++ argument_faults callee p ts xs
 
-abbrev pub signature_faults : ℕ → Option Signature → List Typed → List Fault
+abbrev pub signature_faults : ℕ → Option Signature → List Argument → List Fault
 signature_faults callee None xs = []
 signature_faults callee (Some g) xs = argument_faults callee g.prototype g.parameters xs
 
@@ -682,7 +684,11 @@ abbrev pub result_faults : ℕ → Class → List Fault
 result_faults callee (class.Aggregate n) = fault_at callee rule.StructByValue
 result_faults callee class.Floating = fault_at callee rule.FloatUsed
 result_faults callee class.Opaque = fault_at callee rule.StructByValue
-result_faults callee _ = []
+result_faults callee class.Void = []
+result_faults callee (class.Integer kind) = []
+result_faults callee class.Pointer = []
+result_faults callee class.Array = []
+result_faults callee class.Function = []
 
 abbrev pub type_where : List Fault → CType → Option CType
 type_where [] t = Some t
@@ -691,7 +697,7 @@ type_where (f ∷ fs) t = None
 abbrev pub called_with : List Fault → CType → Called
 called_with faults t = record { ctype = type_where faults (unqualified_version t); faults = faults }
 
-abbrev pub called_directly : Tables → ℕ → List Derivation → Option CType → List Typed → Called
+abbrev pub called_directly : Tables → ℕ → List Derivation → Option CType → List Argument → Called
 called_directly tables callee (d.Function n ∷ ds) (Some result) xs =
     called_with (signature_faults callee (slice_get tables.signatures n) xs ++ result_faults callee (class_of result)) result
 called_directly tables callee _ _ xs = broken callee rule.TypeMismatch
@@ -708,26 +714,28 @@ points_to_function None = false
 points_to_function (Some t) = is_function t
 
 -- the callee is the name of a function, perhaps in parentheses; every other call is indirect (C99 6.5.2.2p1)
-abbrev pub called_as : Tables → ℕ → ℕ → Option Entry → Bool → CType → List Typed → Called
+abbrev pub called_as : Tables → ℕ → ℕ → Option Entry → Bool → CType → List Argument → Called
 called_as tables at callee (Some e) true t xs = called_directly tables callee t.derivations (returned_of t) xs
 called_as tables at callee None true t xs = called_through at callee None true
 called_as tables at callee e false t xs = called_through at callee e (points_to_function (target_of t))
 
-abbrev pub all_faults : List Typed → List Fault
-all_faults [] = []
-all_faults (x ∷ xs) = x.faults ++ all_faults xs
+-- what is said of arguments together: as values, where each has a type
+pub record Arguments : Type 0 where
+  pub all : Option (List Argument)
+  pub faults : List Fault
 
-abbrev pub has_type : Option CType → Bool
-has_type None = false
-has_type (Some t) = true
+abbrev pub with_argument : ℕ → Option CType → Option (List Argument) → Option (List Argument)
+with_argument at None xs = None
+with_argument at (Some t) None = None
+with_argument at (Some t) (Some xs) = Some (record { at = at; class = class_of t } ∷ xs)
 
-abbrev pub all_typed : List Typed → Bool
-all_typed [] = true
-all_typed (x ∷ xs) = has_type x.ctype && all_typed xs
+abbrev pub with_value : Typed → Arguments → Arguments
+with_value x more = record { all = with_argument x.at x.ctype more.all; faults = x.faults ++ more.faults }
 
-abbrev pub all_used : List Typed → List Typed
-all_used [] = []
-all_used (x ∷ xs) = used x ∷ all_used xs
+-- arguments from left to right
+abbrev pub arguments_of : List Typed → Arguments
+arguments_of [] = record { all = Some []; faults = [] }
+arguments_of (x ∷ xs) = with_value (used x) (arguments_of xs)
 
 abbrev pub call_of : ℕ → List Fault → Called → Scope → Typed
 call_of at faults c s = record {
@@ -742,15 +750,14 @@ call_of at faults c s = record {
   after = s;
 }
 
-abbrev pub call_over : ℕ → Typed → Option CType → List Typed → Scope → Typed
-call_over at f None xs s = typeless at (f.faults ++ all_faults xs) s
-call_over at f (Some t) xs s =
-    cond (all_typed xs)
-      (call_of at (f.faults ++ all_faults xs) (called_as s.tables at f.at f.designates (is_function t) t xs) s)
-      (typeless at (f.faults ++ all_faults xs) s)
+abbrev pub call_over : ℕ → Typed → Option CType → Option (List Argument) → List Fault → Scope → Typed
+call_over at f None xs faults s = typeless at faults s
+call_over at f (Some t) None faults s = typeless at faults s
+call_over at f (Some t) (Some xs) faults s =
+    call_of at faults (called_as s.tables at f.at f.designates (is_function t) t xs) s
 
-abbrev pub call : ℕ → Typed → List Typed → Scope → Typed
-call at f xs s = call_over at f f.ctype (all_used xs) s
+abbrev pub call : ℕ → Typed → Arguments → Scope → Typed
+call at f xs s = call_over at f f.ctype xs.all (f.faults ++ xs.faults) s
 
 -- ---- constant expressions (C99 6.6)
 

@@ -1,7 +1,7 @@
 //! What a node of an expression says of itself.
 
 use crate::scope::Entry;
-use c_type_terms::CType;
+use c_type_terms::{CType, Class};
 use plain_data::Shared;
 
 /// What a node says of itself where it breaks no rule: its type as written, its value where it is constant, and whether it
@@ -15,4 +15,11 @@ pub struct Shown {
     pub is_lvalue: bool,
     pub is_literal: bool,
     pub designates: Option<Shared<Entry>>,
+}
+
+/// An argument of a call, as a value (C99 6.5.2.2p4): its own token, and where its type belongs.
+#[derive(Clone, Copy, Debug, PartialEq, Eq)]
+pub struct Argument {
+    pub at: u32,
+    pub class: Class,
 }
