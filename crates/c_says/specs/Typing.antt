@@ -44,18 +44,29 @@ use Rattle.c_says.specs.declared.shown.Argument.{Argument}
 use Rattle.c_says.specs.declared.shown.Shown.{Shown}
 use Rattle.c_says.specs.Scopes.{Name, Scope}
 
--- What an expression says. `at` is its own token, parentheses apart. `is_null` marks a null pointer constant (C99 6.3.2.3p3),
--- `is_literal` a string literal, and `designates` is the declaration of the name that the expression is, parentheses apart.
+-- What an expression says: its own token, parentheses apart; what it shows, where neither it nor a part breaks a rule; the rules that
+-- it and its parts break, in order; and the scope behind it.
 pub record Typed : Type 0 where
   pub at : ℕ
-  pub ctype : Option CType
-  pub value : Option ℤ
-  pub is_null : Bool
-  pub is_lvalue : Bool
-  pub is_literal : Bool
-  pub designates : Option Entry
+  pub shown : Option Shown
   pub faults : List Fault
   pub after : Scope
+
+abbrev pub type_in : Option Shown → Option CType
+type_in None = None
+type_in (Some x) = Some x.ctype
+
+abbrev pub value_in : Option Shown → Option ℤ
+value_in None = None
+value_in (Some x) = x.value
+
+-- its type as written, where it has one
+abbrev pub type_of : Typed → Option CType
+type_of x = type_in x.shown
+
+-- its value, where it is constant
+abbrev pub constant_of : Typed → Option ℤ
+constant_of x = value_in x.shown
 
 -- what a node says of itself, or the rule that it breaks: of several the first in the order of refusals
 abbrev pub Judgement : Type 0
@@ -93,36 +104,16 @@ an_integer kind z = record { ctype = integer kind; value = z; is_null = null_whe
 
 -- ---- nodes
 
+-- a node that shows nothing, since it or a part breaks a rule
 abbrev pub typeless : ℕ → List Fault → Scope → Typed
-typeless at faults s =
-    record { at = at; ctype = None; value = None; is_null = false; is_lvalue = false; is_literal = false; designates = None; faults = faults; after = s }
+typeless at faults s = record { at = at; shown = None; faults = faults; after = s }
 
 -- an expression of floating type is refused where it stands
 abbrev pub node : ℕ → Judgement → List Fault → Scope → Typed
 node at (Err r) faults s = typeless at (faults ++ fault_at at r) s
 node at (Ok x) faults s =
     cond (is_floating x.ctype) (typeless at (faults ++ fault_at at rule.FloatUsed) s)
-      (record {
-        at = at;
-        ctype = Some x.ctype;
-        value = x.value;
-        is_null = x.is_null;
-        is_lvalue = x.is_lvalue;
-        is_literal = x.is_literal;
-        designates = x.designates;
-        faults = faults;
-        after = s;
-      })
-
-abbrev pub show_typed : Typed → CType → Shown
-show_typed x t = record { ctype = t; value = x.value; is_null = x.is_null; is_lvalue = x.is_lvalue; is_literal = x.is_literal; designates = x.designates }
-
-abbrev pub shown_as : Typed → Option CType → Option Shown
-shown_as x None = None
-shown_as x (Some t) = Some (show_typed x t)
-
-abbrev pub shown : Typed → Option Shown
-shown x = shown_as x x.ctype
+      (record { at = at; shown = Some x; faults = faults; after = s })
 
 abbrev pub node_over : ℕ → Option Shown → (Shown → Judgement) → List Fault → Scope → Typed
 node_over at None f faults s = typeless at faults s
@@ -135,11 +126,11 @@ node_over_two at (Some x) (Some y) f faults s = node at (f x y) faults s
 
 -- a node over one part
 abbrev pub over : ℕ → Typed → (Shown → Judgement) → Typed
-over at x f = node_over at (shown x) f x.faults x.after
+over at x f = node_over at x.shown f x.faults x.after
 
 -- a node over two parts, of which the second stands behind the first
 abbrev pub over_two : ℕ → Typed → Typed → (Shown → Shown → Judgement) → Typed
-over_two at x y f = node_over_two at (shown x) (shown y) f (x.faults ++ y.faults) y.after
+over_two at x y f = node_over_two at x.shown y.shown f (x.faults ++ y.faults) y.after
 
 -- ---- values of lvalues, arrays and functions (C99 6.3.2.1)
 
@@ -152,18 +143,18 @@ value_where false x = Err incomplete
 
 -- An array turns into a pointer to its first element, a function into a pointer to it, an object into its value, without
 -- qualifiers (C99 6.3.2.1p2 to p4). An array that is no lvalue has no first element, and an object whose size isn't known no value.
-abbrev pub value_in : Tables → Class → Shown → Judgement
-value_in tables class.Array x = value_of_array x
-value_in tables class.Function x = Ok (some_value (decayed x.ctype))
-value_in tables (class.Aggregate n) x = value_where (is_sized tables x.ctype) x
-value_in tables class.Opaque x = value_where false x
-value_in tables class.Void x = value_where true x
-value_in tables (class.Integer kind) x = value_where true x
-value_in tables class.Floating x = value_where true x
-value_in tables class.Pointer x = value_where true x
+abbrev pub value_by_class : Tables → Class → Shown → Judgement
+value_by_class tables class.Array x = value_of_array x
+value_by_class tables class.Function x = Ok (some_value (decayed x.ctype))
+value_by_class tables (class.Aggregate n) x = value_where (is_sized tables x.ctype) x
+value_by_class tables class.Opaque x = value_where false x
+value_by_class tables class.Void x = value_where true x
+value_by_class tables (class.Integer kind) x = value_where true x
+value_by_class tables class.Floating x = value_where true x
+value_by_class tables class.Pointer x = value_where true x
 
 abbrev pub value_of : Tables → Shown → Judgement
-value_of tables x = value_in tables (class_of x.ctype) x
+value_of tables x = value_by_class tables (class_of x.ctype) x
 
 -- the part as a value
 abbrev pub used : Typed → Typed
@@ -402,9 +393,13 @@ abbrev pub on_modifiable : Shown → Judgement → Judgement
 on_modifiable x (Err rule.TypeMismatch) = Err (or_not_modifiable x)
 on_modifiable x j = cond (is_modifiable x) j (Err rule.NotModifiable)
 
+-- a pointer object that moves: its value has no qualifiers
+abbrev pub moved_plainly : Tables → Shown → Judgement
+moved_plainly tables x = moved tables (some_value (unqualified_version x.ctype))
+
 abbrev pub stepped_in : Tables → Class → Shown → Judgement
 stepped_in tables (class.Integer kind) x = Ok (some_value (unqualified_version x.ctype))
-stepped_in tables class.Pointer x = moved tables (record x { ctype = unqualified_version x.ctype })
+stepped_in tables class.Pointer x = moved_plainly tables x
 stepped_in tables class.Array x = Err rule.TypeMismatch
 stepped_in tables class.Function x = Err rule.TypeMismatch
 stepped_in tables class.Void x = Err rule.TypeMismatch
@@ -483,7 +478,7 @@ cast_to to x = cond (is_void to || (is_scalar to && is_scalar x.ctype)) (Ok (cas
 abbrev pub cast_over : ℕ → NamedType → Typed → List Fault → Typed
 cast_over at None x faults = typeless at (faults ++ x.faults) x.after
 cast_over at (Some (Err r)) x faults = typeless at (faults ++ x.faults ++ fault_at at r) x.after
-cast_over at (Some (Ok t)) x faults = node_over at (shown x) (cast_to t) (faults ++ x.faults) x.after
+cast_over at (Some (Ok t)) x faults = node_over at x.shown (cast_to t) (faults ++ x.faults) x.after
 
 abbrev pub cast : ℕ → NamedType → List Fault → Typed → Typed
 cast at t faults x = cast_over at t (used x) faults
@@ -575,8 +570,8 @@ abbrev pub joined_others : Shown → Shown → Judgement
 joined_others x y =
     cond ((is_void x.ctype && is_void y.ctype) || same_aggregate (aggregate_of x.ctype) (aggregate_of y.ctype)) (Ok (some_value x.ctype)) (Err rule.TypeMismatch)
 
-abbrev pub joined_kinds : Shown → Shown → Shown → Option IntegerKind → Option IntegerKind → Judgement
-joined_kinds c x y (Some a) (Some b) = Ok (an_integer (usual a b) (chosen_as (usual a b) (chosen c.value x.value y.value)))
+abbrev pub joined_kinds : Option ℤ → Shown → Shown → Option IntegerKind → Option IntegerKind → Judgement
+joined_kinds c x y (Some a) (Some b) = Ok (an_integer (usual a b) (chosen_as (usual a b) (chosen c x.value y.value)))
 joined_kinds c x y (Some a) None = joined_pointers x y (target_of x.ctype) (target_of y.ctype)
 joined_kinds c x y None (Some b) = joined_pointers x y (target_of x.ctype) (target_of y.ctype)
 joined_kinds c x y None None =
@@ -584,7 +579,7 @@ joined_kinds c x y None None =
 
 -- C99 6.5.15p2, p3, p5
 abbrev pub choice_of : Shown → Shown → Shown → Judgement
-choice_of c x y = cond (is_scalar c.ctype) (joined_kinds c x y (kind_of x.ctype) (kind_of y.ctype)) (Err rule.TypeMismatch)
+choice_of c x y = cond (is_scalar c.ctype) (joined_kinds c.value x y (kind_of x.ctype) (kind_of y.ctype)) (Err rule.TypeMismatch)
 
 abbrev pub choice_over : ℕ → Option Shown → Option Shown → Option Shown → List Fault → Scope → Typed
 choice_over at None x y faults s = typeless at faults s
@@ -592,7 +587,7 @@ choice_over at (Some c) x y faults s = node_over_two at x y (choice_of c) faults
 
 abbrev pub choice : ℕ → Typed → Typed → Typed → Typed
 choice at c x y =
-    choice_over at (shown (used c)) (shown (used x)) (shown (used y)) ((used c).faults ++ (used x).faults ++ (used y).faults) y.after
+    choice_over at (used c).shown (used x).shown (used y).shown ((used c).faults ++ (used x).faults ++ (used y).faults) y.after
 
 -- ---- assignment (C99 6.5.16)
 
@@ -608,13 +603,13 @@ assigned x y =
 -- C99 6.5.16.2p1, p2: the target is a pointer only in `+=` and `-=` of an integer, else both are of arithmetic type
 abbrev pub compound_of : Tables → BinaryOperator → Bool → Shown → Shown → Judgement
 compound_of tables op false x y = on_integers x y (λ a b. Ok (some_value (unqualified_version x.ctype)))
-compound_of tables o.Add true x y = cond (is_integer y.ctype) (moved tables x) (Err rule.TypeMismatch)
-compound_of tables o.Subtract true x y = cond (is_integer y.ctype) (moved tables x) (Err rule.TypeMismatch)
+compound_of tables o.Add true x y = cond (is_integer y.ctype) (moved_plainly tables x) (Err rule.TypeMismatch)
+compound_of tables o.Subtract true x y = cond (is_integer y.ctype) (moved_plainly tables x) (Err rule.TypeMismatch)
 compound_of tables _ true x y = Err rule.TypeMismatch
 
 abbrev pub compound : Tables → BinaryOperator → Shown → Shown → Judgement
 compound tables op x y =
-    on_modifiable x (compound_of tables op (is_pointer x.ctype) (record x { ctype = unqualified_version x.ctype }) y)
+    on_modifiable x (compound_of tables op (is_pointer x.ctype) x y)
 
 abbrev pub assignment : ℕ → Option BinaryOperator → Typed → Typed → Typed
 assignment at None x y = over_two at x (used y) assigned
@@ -724,51 +719,48 @@ pub record Arguments : Type 0 where
   pub all : Option (List Argument)
   pub faults : List Fault
 
-abbrev pub with_argument : ℕ → Option CType → Option (List Argument) → Option (List Argument)
+abbrev pub with_argument : ℕ → Option Shown → Option (List Argument) → Option (List Argument)
 with_argument at None xs = None
-with_argument at (Some t) None = None
-with_argument at (Some t) (Some xs) = Some (record { at = at; class = class_of t } ∷ xs)
+with_argument at (Some x) None = None
+with_argument at (Some x) (Some xs) = Some (record { at = at; class = class_of x.ctype } ∷ xs)
 
 abbrev pub with_value : Typed → Arguments → Arguments
-with_value x more = record { all = with_argument x.at x.ctype more.all; faults = x.faults ++ more.faults }
+with_value x more = record { all = with_argument x.at x.shown more.all; faults = x.faults ++ more.faults }
 
 -- arguments from left to right
 abbrev pub arguments_of : List Typed → Arguments
 arguments_of [] = record { all = Some []; faults = [] }
 arguments_of (x ∷ xs) = with_value (used x) (arguments_of xs)
 
-abbrev pub call_of : ℕ → List Fault → Called → Scope → Typed
-call_of at faults c s = record {
-  at = at;
-  ctype = c.ctype;
-  value = None;
-  is_null = false;
-  is_lvalue = false;
-  is_literal = false;
-  designates = None;
-  faults = faults ++ c.faults;
-  after = s;
-}
+abbrev pub called_shown : Option CType → Option Shown
+called_shown None = None
+called_shown (Some t) = Some (some_value t)
 
-abbrev pub call_over : ℕ → Typed → Option CType → Option (List Argument) → List Fault → Scope → Typed
-call_over at f None xs faults s = typeless at faults s
-call_over at f (Some t) None faults s = typeless at faults s
-call_over at f (Some t) (Some xs) faults s =
-    call_of at faults (called_as s.tables at f.at f.designates (is_function t) t xs) s
+abbrev pub call_of : ℕ → List Fault → Called → Scope → Typed
+call_of at faults c s = record { at = at; shown = called_shown c.ctype; faults = faults ++ c.faults; after = s }
+
+abbrev pub call_over : ℕ → ℕ → Option Shown → Option (List Argument) → List Fault → Scope → Typed
+call_over at callee None xs faults s = typeless at faults s
+call_over at callee (Some f) None faults s = typeless at faults s
+call_over at callee (Some f) (Some xs) faults s =
+    call_of at faults (called_as s.tables at callee f.designates (is_function f.ctype) f.ctype xs) s
 
 abbrev pub call : ℕ → Typed → Arguments → Scope → Typed
-call at f xs s = call_over at f f.ctype xs.all (f.faults ++ xs.faults) s
+call at f xs s = call_over at f.at f.shown xs.all (f.faults ++ xs.faults) s
 
 -- ---- constant expressions (C99 6.6)
 
 -- the value that must be constant, at the expression's own token where it isn't
-abbrev pub not_constant_of : ℕ → Option CType → Option ℤ → List Fault
-not_constant_of at None value = []
-not_constant_of at (Some t) None = fault_at at no_constant
-not_constant_of at (Some t) (Some z) = []
+abbrev pub not_constant_value : ℕ → Option ℤ → List Fault
+not_constant_value at None = fault_at at no_constant
+not_constant_value at (Some z) = []
+
+abbrev pub not_constant_of : ℕ → Option Shown → List Fault
+not_constant_of at None = []
+not_constant_of at (Some x) = not_constant_value at x.value
 
 abbrev pub not_constant : Typed → List Fault
-not_constant x = not_constant_of x.at x.ctype x.value
+not_constant x = not_constant_of x.at x.shown
 
 abbrev pub cause_in : List Fault → LayoutRule
 cause_in [] = layout.NotConstant
@@ -780,9 +772,12 @@ constant_as (Some z) faults = Ok z
 
 -- the constant value of an expression, or why there is none: a size that isn't known, one that is too large, or that it isn't constant
 abbrev pub const_value : Typed → Result ℤ LayoutRule
-const_value x = constant_as x.value x.faults
+const_value x = constant_as (constant_of x) x.faults
 
 -- a scalar condition of a statement, which stands at the statement's keyword (C99 6.8.4.1p1, 6.8.5p2)
-abbrev pub condition_faults : ℕ → Option CType → List Fault
-condition_faults at None = []
-condition_faults at (Some t) = cond (is_scalar t) [] (fault_at at rule.TypeMismatch)
+abbrev pub condition_faults_of : ℕ → Option Shown → List Fault
+condition_faults_of at None = []
+condition_faults_of at (Some x) = cond (is_scalar x.ctype) [] (fault_at at rule.TypeMismatch)
+
+abbrev pub condition_faults : ℕ → Typed → List Fault
+condition_faults at x = (used x).faults ++ condition_faults_of at (used x).shown

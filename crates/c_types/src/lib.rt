@@ -1,6 +1,8 @@
 //! Types, constants and scopes of C: the code of what `c_says` defines.
 #![tactic(auto)]
 
+mod aggregates;
+mod assigning;
 mod operators;
 mod unary;
 mod values;
