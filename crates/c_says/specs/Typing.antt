@@ -42,6 +42,7 @@ use Rattle.c_says.specs.declared.scope.Rule.{Rule}
 use Rattle.c_says.specs.declared.scope.Rule.TheVariants as rule
 use Rattle.c_says.specs.declared.shown.Argument.{Argument}
 use Rattle.c_says.specs.declared.shown.Shown.{Shown}
+use Rattle.c_says.specs.declared.shown.Told.{Told}
 use Rattle.c_says.specs.Scopes.{Name, Scope}
 
 -- What an expression says: its own token, parentheses apart; what it shows, where neither it nor a part breaks a rule; the rules that
@@ -104,33 +105,42 @@ an_integer kind z = record { ctype = integer kind; value = z; is_null = null_whe
 
 -- ---- nodes
 
+-- in front of the scope that it leaves
+abbrev pub typed_in : Told → Scope → Typed
+typed_in x s = record { at = x.at; shown = x.shown; faults = x.faults; after = s }
+
+abbrev pub told_of : Typed → Told
+told_of x = record { at = x.at; shown = x.shown; faults = x.faults }
+
 -- a node that shows nothing, since it or a part breaks a rule
-abbrev pub typeless : ℕ → List Fault → Scope → Typed
-typeless at faults s = record { at = at; shown = None; faults = faults; after = s }
+abbrev pub typeless : ℕ → List Fault → Told
+typeless at faults = record { at = at; shown = None; faults = faults }
+
+-- a node that breaks a rule itself
+abbrev pub refused : ℕ → Rule → List Fault → Told
+refused at r faults = typeless at (faults ++ fault_at at r)
 
 -- an expression of floating type is refused where it stands
-abbrev pub node : ℕ → Judgement → List Fault → Scope → Typed
-node at (Err r) faults s = typeless at (faults ++ fault_at at r) s
-node at (Ok x) faults s =
-    cond (is_floating x.ctype) (typeless at (faults ++ fault_at at rule.FloatUsed) s)
-      (record { at = at; shown = Some x; faults = faults; after = s })
+abbrev pub node : ℕ → Judgement → List Fault → Told
+node at (Err r) faults = refused at r faults
+node at (Ok x) faults = cond (is_floating x.ctype) (refused at rule.FloatUsed faults) (record { at = at; shown = Some x; faults = faults })
 
-abbrev pub node_over : ℕ → Option Shown → (Shown → Judgement) → List Fault → Scope → Typed
-node_over at None f faults s = typeless at faults s
-node_over at (Some x) f faults s = node at (f x) faults s
+abbrev pub node_over : ℕ → Option Shown → (Shown → Judgement) → List Fault → Told
+node_over at None f faults = typeless at faults
+node_over at (Some x) f faults = node at (f x) faults
 
-abbrev pub node_over_two : ℕ → Option Shown → Option Shown → (Shown → Shown → Judgement) → List Fault → Scope → Typed
-node_over_two at None y f faults s = typeless at faults s
-node_over_two at (Some x) None f faults s = typeless at faults s
-node_over_two at (Some x) (Some y) f faults s = node at (f x y) faults s
+abbrev pub node_over_two : ℕ → Option Shown → Option Shown → (Shown → Shown → Judgement) → List Fault → Told
+node_over_two at None y f faults = typeless at faults
+node_over_two at (Some x) None f faults = typeless at faults
+node_over_two at (Some x) (Some y) f faults = node at (f x y) faults
 
 -- a node over one part
 abbrev pub over : ℕ → Typed → (Shown → Judgement) → Typed
-over at x f = node_over at x.shown f x.faults x.after
+over at x f = typed_in (node_over at x.shown f x.faults) x.after
 
 -- a node over two parts, of which the second stands behind the first
 abbrev pub over_two : ℕ → Typed → Typed → (Shown → Shown → Judgement) → Typed
-over_two at x y f = node_over_two at x.shown y.shown f (x.faults ++ y.faults) y.after
+over_two at x y f = typed_in (node_over_two at x.shown y.shown f (x.faults ++ y.faults)) y.after
 
 -- ---- values of lvalues, arrays and functions (C99 6.3.2.1)
 
@@ -156,23 +166,26 @@ value_by_class tables class.Pointer x = value_where true x
 abbrev pub value_of : Tables → Shown → Judgement
 value_of tables x = value_by_class tables (class_of x.ctype) x
 
+abbrev pub used_told : Tables → Told → Told
+used_told tables x = node_over x.at x.shown (value_of tables) x.faults
+
 -- the part as a value
 abbrev pub used : Typed → Typed
-used x = over x.at x (value_of x.after.tables)
+used x = typed_in (used_told x.after.tables (told_of x)) x.after
 
 -- ---- primary expressions (C99 6.5.1)
 
 -- C99 6.4.4.1p5
 abbrev pub integer_constant : ℕ → IntegerConstant → Scope → Typed
-integer_constant at c s = node at (Ok (an_integer (of_constant c.integer_type) (Some (pos c.value)))) [] s
+integer_constant at c s = typed_in (node at (Ok (an_integer (of_constant c.integer_type) (Some (pos c.value)))) []) s
 
 -- C99 6.4.4.4p10
 abbrev pub character_constant : ℕ → ℤ → Scope → Typed
-character_constant at value s = node at (Ok (an_integer k.Int (Some value))) [] s
+character_constant at value s = typed_in (node at (Ok (an_integer k.Int (Some value))) []) s
 
 -- C99 6.4.4.2p4: a constant of floating type
 abbrev pub floating_constant : ℕ → Scope → Typed
-floating_constant at s = typeless at (fault_at at rule.FloatUsed) s
+floating_constant at s = typed_in (refused at rule.FloatUsed []) s
 
 abbrev pub total : List (List ℕ) → ℕ
 total [] = 0
@@ -185,28 +198,34 @@ literal_type pieces = array (Some (suc (total pieces))) (integer k.Char)
 abbrev pub within_limit : Tables → Shown → Judgement
 within_limit tables x = cond (is_too_large tables x.ctype) (Err too_large) (Ok x)
 
+abbrev pub literal_shown : Tables → List (List ℕ) → Judgement
+literal_shown tables pieces = within_limit tables (record (an_object (literal_type pieces)) { is_literal = true })
+
 abbrev pub string_literal : ℕ → List (List ℕ) → Scope → Typed
-string_literal at pieces s = node at (within_limit s.tables (record (an_object (literal_type pieces)) { is_literal = true })) [] s
+string_literal at pieces s = typed_in (node at (literal_shown s.tables pieces) []) s
 
 -- a literal of the function's name (C99 6.4.2.2); there is none outside a function
 abbrev pub function_name : ℕ → Option Name → Scope → Typed
-function_name at None s = typeless at (fault_at at rule.Undeclared) s
+function_name at None s = typed_in (refused at rule.Undeclared []) s
 function_name at (Some name) s = string_literal at (name ∷ []) s
 
 abbrev pub entry_shown : Entry → Shown → Shown
 entry_shown e x = record x { designates = Some e }
 
 -- a declared name of an object or function, or an enumeration constant (C99 6.5.1p2, p5); a typedef name is none
-abbrev pub named_as : ℕ → Scope → Entry → Means → Typed
-named_as at s e (means.Object t duration linkage) = node at (Ok (entry_shown e (an_object t))) [] s
-named_as at s e (means.Function t linkage) = node at (Ok (entry_shown e (some_value t))) [] s
-named_as at s e (means.Typedef t) = typeless at (fault_at at rule.Undeclared) s
-named_as at s e (means.Constant z) = node at (Ok (entry_shown e (an_integer k.Int (Some z)))) [] s
-named_as at s e means.Faulty = typeless at [] s
+abbrev pub named_as : ℕ → Entry → Means → Told
+named_as at e (means.Object t duration linkage) = node at (Ok (entry_shown e (an_object t))) []
+named_as at e (means.Function t linkage) = node at (Ok (entry_shown e (some_value t))) []
+named_as at e (means.Typedef t) = refused at rule.Undeclared []
+named_as at e (means.Constant z) = node at (Ok (entry_shown e (an_integer k.Int (Some z)))) []
+named_as at e means.Faulty = typeless at []
+
+abbrev pub named_told : ℕ → Option Entry → Told
+named_told at None = refused at rule.Undeclared []
+named_told at (Some e) = named_as at e e.means
 
 abbrev pub identifier : ℕ → Scope → Option Entry → Typed
-identifier at s None = typeless at (fault_at at rule.Undeclared) s
-identifier at s (Some e) = named_as at s e e.means
+identifier at s e = typed_in (named_told at e) s
 
 -- ---- operands
 
@@ -442,13 +461,13 @@ size_of_expression at x = over at x (λ y. size_in x.after.tables y.ctype)
 abbrev pub NamedType : Type 0
 NamedType = Option (Result CType Rule)
 
-abbrev pub over_named : ℕ → NamedType → (CType → Judgement) → List Fault → Scope → Typed
-over_named at None f faults s = typeless at faults s
-over_named at (Some (Err r)) f faults s = typeless at (faults ++ fault_at at r) s
-over_named at (Some (Ok t)) f faults s = node at (f t) faults s
+abbrev pub over_named : ℕ → NamedType → (CType → Judgement) → List Fault → Told
+over_named at None f faults = typeless at faults
+over_named at (Some (Err r)) f faults = refused at r faults
+over_named at (Some (Ok t)) f faults = node at (f t) faults
 
 abbrev pub size_of_type : ℕ → NamedType → List Fault → Scope → Typed
-size_of_type at t faults s = over_named at t (size_in s.tables) faults s
+size_of_type at t faults s = typed_in (over_named at t (size_in s.tables) faults) s
 
 -- ---- casts (C99 6.5.4)
 
@@ -475,13 +494,13 @@ cast_shown to x =
 abbrev pub cast_to : CType → Shown → Judgement
 cast_to to x = cond (is_void to || (is_scalar to && is_scalar x.ctype)) (Ok (cast_shown to x)) (Err rule.TypeMismatch)
 
-abbrev pub cast_over : ℕ → NamedType → Typed → List Fault → Typed
-cast_over at None x faults = typeless at (faults ++ x.faults) x.after
-cast_over at (Some (Err r)) x faults = typeless at (faults ++ x.faults ++ fault_at at r) x.after
-cast_over at (Some (Ok t)) x faults = node_over at x.shown (cast_to t) (faults ++ x.faults) x.after
+abbrev pub cast_over : ℕ → NamedType → Option Shown → List Fault → Told
+cast_over at None x faults = typeless at faults
+cast_over at (Some (Err r)) x faults = refused at r faults
+cast_over at (Some (Ok t)) x faults = node_over at x (cast_to t) faults
 
 abbrev pub cast : ℕ → NamedType → List Fault → Typed → Typed
-cast at t faults x = cast_over at t (used x) faults
+cast at t faults x = typed_in (cast_over at t (used x).shown (faults ++ (used x).faults)) x.after
 
 -- ---- subscripts (C99 6.5.2.1): the target of a sum
 
@@ -581,13 +600,13 @@ joined_kinds c x y None None =
 abbrev pub choice_of : Shown → Shown → Shown → Judgement
 choice_of c x y = cond (is_scalar c.ctype) (joined_kinds c.value x y (kind_of x.ctype) (kind_of y.ctype)) (Err rule.TypeMismatch)
 
-abbrev pub choice_over : ℕ → Option Shown → Option Shown → Option Shown → List Fault → Scope → Typed
-choice_over at None x y faults s = typeless at faults s
-choice_over at (Some c) x y faults s = node_over_two at x y (choice_of c) faults s
+abbrev pub choice_over : ℕ → Option Shown → Option Shown → Option Shown → List Fault → Told
+choice_over at None x y faults = typeless at faults
+choice_over at (Some c) x y faults = node_over_two at x y (choice_of c) faults
 
 abbrev pub choice : ℕ → Typed → Typed → Typed → Typed
 choice at c x y =
-    choice_over at (used c).shown (used x).shown (used y).shown ((used c).faults ++ (used x).faults ++ (used y).faults) y.after
+    typed_in (choice_over at (used c).shown (used x).shown (used y).shown ((used c).faults ++ (used x).faults ++ (used y).faults)) y.after
 
 -- ---- assignment (C99 6.5.16)
 
@@ -736,17 +755,17 @@ abbrev pub called_shown : Option CType → Option Shown
 called_shown None = None
 called_shown (Some t) = Some (some_value t)
 
-abbrev pub call_of : ℕ → List Fault → Called → Scope → Typed
-call_of at faults c s = record { at = at; shown = called_shown c.ctype; faults = faults ++ c.faults; after = s }
+abbrev pub call_of : ℕ → List Fault → Called → Told
+call_of at faults c = record { at = at; shown = called_shown c.ctype; faults = faults ++ c.faults }
 
-abbrev pub call_over : ℕ → ℕ → Option Shown → Option (List Argument) → List Fault → Scope → Typed
-call_over at callee None xs faults s = typeless at faults s
-call_over at callee (Some f) None faults s = typeless at faults s
-call_over at callee (Some f) (Some xs) faults s =
-    call_of at faults (called_as s.tables at callee f.designates (is_function f.ctype) f.ctype xs) s
+abbrev pub call_over : Tables → ℕ → ℕ → Option Shown → Option (List Argument) → List Fault → Told
+call_over tables at callee None xs faults = typeless at faults
+call_over tables at callee (Some f) None faults = typeless at faults
+call_over tables at callee (Some f) (Some xs) faults =
+    call_of at faults (called_as tables at callee f.designates (is_function f.ctype) f.ctype xs)
 
 abbrev pub call : ℕ → Typed → Arguments → Scope → Typed
-call at f xs s = call_over at f.at f.shown xs.all (f.faults ++ xs.faults) s
+call at f xs s = typed_in (call_over s.tables at f.at f.shown xs.all (f.faults ++ xs.faults)) s
 
 -- ---- constant expressions (C99 6.6)
 

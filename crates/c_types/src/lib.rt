@@ -4,5 +4,6 @@
 mod aggregates;
 mod assigning;
 mod operators;
+mod told;
 mod unary;
 mod values;
