@@ -16,7 +16,7 @@ use Rattle.c_type_terms.specs.Operators.{exact}
 use Rattle.c_type_terms.specs.Layouts.{size_of, align_of, offset_of}
 use Rattle.c_says.specs.declared.scope.LayoutRule.TheVariants as layout
 use Rattle.c_says.specs.Scopes.{Name, Scope, empty}
-use Rattle.c_says.specs.Typing.{Typed, const_value}
+use Rattle.c_says.specs.Typing.{Typed, type_of, constant_of, const_value}
 use Rattle.c_says.specs.Trees.{ExprSays, itself, typing, typed}
 use Rattle.c_says.specs.Declares.{Says}
 use Rattle.c_says.specs.Declarations.{Item, Declares, declaration_by}
@@ -101,9 +101,9 @@ declaration_faults ss ds s = (declaration_by (built.all_say (fold_specifier {c =
 abbrev char_int_short : OfExpr
 char_int_short = size_of_type (structure None (field (word w.Char) (as_ a) ∷ field (word w.Int) (as_ b) ∷ field (word w.Short) (as_ c) ∷ []) ∷ []) omitted
 
-pub row_size_of_structure : (typed char_int_short.tree empty).value ≡ Some (pos 12)
+pub row_size_of_structure : constant_of (typed char_int_short.tree empty) ≡ Some (pos 12)
 unfolding typed
-row_size_of_structure = ap (λ f. (f empty).value) char_int_short.is
+row_size_of_structure = ap (λ f. constant_of (f empty)) char_int_short.is
 
 
 -- ---- sizeof (struct { char a; long double d; })
@@ -112,9 +112,9 @@ abbrev char_long_double : OfExpr
 char_long_double =
     size_of_type (structure None (field (word w.Char) (as_ a) ∷ built.member_declaration typing (word w.Long ∷ word w.Double ∷ []) (built.plain typing (as_ b) ∷ []) ∷ []) ∷ []) omitted
 
-pub row_size_of_long_double : (typed char_long_double.tree empty).value ≡ Some (pos 32)
+pub row_size_of_long_double : constant_of (typed char_long_double.tree empty) ≡ Some (pos 32)
 unfolding typed
-row_size_of_long_double = ap (λ f. (f empty).value) char_long_double.is
+row_size_of_long_double = ap (λ f. constant_of (f empty)) char_long_double.is
 
 -- ---- struct s { char a; int b; short c; }; : the layout
 
@@ -197,9 +197,9 @@ pub row_before_completion : (typed a_arrow_b.tree pointed).faults ≡ record { a
 unfolding typed
 row_before_completion = ap (λ f. (f pointed).faults) a_arrow_b.is
 
-pub row_after_completion : (typed a_arrow_b.tree completed).ctype ≡ Some (integer_type k.Int)
+pub row_after_completion : type_of (typed a_arrow_b.tree completed) ≡ Some (integer_type k.Int)
 unfolding typed
-row_after_completion = ap (λ f. (f completed).ctype) a_arrow_b.is
+row_after_completion = ap (λ f. type_of (f completed)) a_arrow_b.is
 
 -- ---- struct s { struct s *a; int b; } c; : c.a->a->b
 
@@ -210,9 +210,9 @@ of_itself =
 abbrev through_itself : OfExpr
 through_itself = built.arrow typing 5 (built.arrow typing 4 (built.member typing 3 (the c) a) a) b
 
-pub row_of_itself : (typed through_itself.tree of_itself).ctype ≡ Some (integer_type k.Int)
+pub row_of_itself : type_of (typed through_itself.tree of_itself) ≡ Some (integer_type k.Int)
 unfolding typed
-row_of_itself = ap (λ f. (f of_itself).ctype) through_itself.is
+row_of_itself = ap (λ f. type_of (f of_itself)) through_itself.is
 
 -- ---- struct s { char a; };  { struct s; struct s *b; b->a }  sizeof (struct s)
 
@@ -234,9 +234,9 @@ row_hidden_tag = ap (λ f. (f inner_s).faults) b_arrow_a.is
 abbrev size_of_s : OfExpr
 size_of_s = size_of_type (built.tag typing 0 kind.Struct (s_tag 70) ∷ []) omitted
 
-pub row_tag_again : (typed size_of_s.tree (leave inner_s)).value ≡ Some (pos 1)
+pub row_tag_again : constant_of (typed size_of_s.tree (leave inner_s)) ≡ Some (pos 1)
 unfolding typed
-row_tag_again = ap (λ f. (f (leave inner_s)).value) size_of_s.is
+row_tag_again = ap (λ f. constant_of (f (leave inner_s))) size_of_s.is
 
 -- ---- typedef char a; int f(int a, int b[sizeof a]); : the parameter hides the typedef, and only in its own scope
 
@@ -279,7 +279,7 @@ abbrev unknown_length : Name → OfDeclarator
 unknown_length name = built.array typing 0 (as_ name) [] None
 
 abbrev size_of_name : Name → Scope → Option ℤ
-size_of_name name s = ((built.sizeof_expr typing 0 (the name)).says s).value
+size_of_name name s = constant_of ((built.sizeof_expr typing 0 (the name)).says s)
 
 abbrev one_two_three : InitialSaid
 one_two_three = braces (value (number 1) ∷ value (number 2) ∷ value (number 3) ∷ [])

@@ -53,8 +53,9 @@ use Rattle.c_says.specs.declared.scope.Rule.TheVariants as rule
 use Rattle.c_says.specs.declared.scope.Tag.{Tag}
 use Rattle.c_says.specs.declared.scope.TagMeans.{TagMeans}
 use Rattle.c_says.specs.declared.scope.TagMeans.TheVariants as tag_
+use Rattle.c_says.specs.declared.shown.Shown.{Shown}
 use Rattle.c_says.specs.Scopes.{Name, Block, Scope, look_up, own_entry, tag_of, own_tag, innermost, declared, with_tag, enter, leave, next_aggregate, next_enumeration, next_signature, with_aggregate, with_content, with_enumeration, with_enumerators, with_signature}
-use Rattle.c_says.specs.Typing.{Typed, NamedType, fault_at, incomplete, too_large, no_constant, not_constant}
+use Rattle.c_says.specs.Typing.{Typed, constant_of, NamedType, fault_at, incomplete, too_large, no_constant, not_constant}
 
 -- ---- qualifiers (C99 6.7.3)
 
@@ -404,15 +405,15 @@ length_of None = None
 length_of (Some (pos n)) = Some (d.Array (Some n))
 length_of (Some (negsuc n)) = None
 
-abbrev pub length_faults_of : ℕ → Option CType → Option Derivation → List Fault
-length_faults_of at None x = []
-length_faults_of at (Some t) None = fault_at at no_constant
-length_faults_of at (Some t) (Some x) = []
+abbrev pub length_faults_of : ℕ → Option Shown → Option Derivation → List Fault
+length_faults_of at None d = []
+length_faults_of at (Some x) None = fault_at at no_constant
+length_faults_of at (Some x) (Some d) = []
 
 abbrev pub counted_by : Typed → Counted
 counted_by x = record {
-  step = length_of x.value;
-  faults = x.faults ++ length_faults_of x.at x.ctype (length_of x.value);
+  step = length_of (constant_of x);
+  faults = x.faults ++ length_faults_of x.at x.shown (length_of (constant_of x));
   after = x.after;
 }
 
@@ -715,7 +716,7 @@ enumerates at name z faults s = record {
 }
 
 abbrev pub enumerates_typed : ℕ → Name → Typed → List Fault → Counting
-enumerates_typed at name x faults = enumerates at name x.value (faults ++ x.faults ++ not_constant x) x.after
+enumerates_typed at name x faults = enumerates at name (constant_of x) (faults ++ x.faults ++ not_constant x) x.after
 
 abbrev pub enumerates_by : {E : Type 0} → (E → Scope → Typed) → ℕ → Name → Option E → Counting → Counting
 enumerates_by typed at name None x = enumerates at name x.next x.faults x.scope

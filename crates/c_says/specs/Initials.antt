@@ -20,8 +20,9 @@ use Rattle.c_type_terms.specs.Layouts.{size_of, is_sized, is_opaque, members_of}
 use Rattle.c_says.specs.declared.scope.Fault.{Fault}
 use Rattle.c_says.specs.declared.scope.Rule.{Rule}
 use Rattle.c_says.specs.declared.scope.Rule.TheVariants as rule
+use Rattle.c_says.specs.declared.shown.Shown.{Shown}
 use Rattle.c_says.specs.Scopes.{Name, Scope}
-use Rattle.c_says.specs.Typing.{Typed, used, fault_at, incomplete, no_constant, not_constant, is_assignable, same_aggregate}
+use Rattle.c_says.specs.Typing.{Typed, type_of, constant_of, used, fault_at, incomplete, no_constant, not_constant, is_assignable, same_aggregate}
 use Rattle.c_says.specs.Declares.{form_at}
 
 -- ---- the objects within an object
@@ -124,8 +125,12 @@ is_byte_type None = false
 is_byte_type (Some t) = is_byte (kind_of t)
 
 -- a string literal initialises a whole array of characters (C99 6.7.8p14)
+abbrev pub is_literal_in : Option Shown → Bool
+is_literal_in None = false
+is_literal_in (Some x) = x.is_literal
+
 abbrev pub is_text_of : CType → Typed → Bool
-is_text_of t x = x.is_literal && is_byte_type (element_of t)
+is_text_of t x = is_literal_in x.shown && is_byte_type (element_of t)
 
 abbrev pub same_in : CType → Option CType → Bool
 same_in t None = false
@@ -133,7 +138,7 @@ same_in t (Some u) = same_aggregate (aggregate_of t) (aggregate_of u)
 
 -- an expression of its structure or union type initialises a whole object (C99 6.7.8p13)
 abbrev pub is_whole_of : CType → Typed → Bool
-is_whole_of t x = is_text_of t x || same_in t x.ctype
+is_whole_of t x = is_text_of t x || same_in t (type_of x)
 
 abbrev pub length_in : List Derivation → ℕ
 length_in (d.Array (Some n) ∷ ds) = n
@@ -149,7 +154,7 @@ text_fits (d.Array (Some n) ∷ ds) bytes = nat_le bytes (suc n)
 text_fits _ bytes = true
 
 abbrev pub text_faults : CType → Typed → List Fault
-text_faults t x = cond (text_fits t.derivations (length_of_type x.ctype)) [] (fault_at x.at rule.TypeMismatch)
+text_faults t x = cond (text_fits t.derivations (length_of_type (type_of x))) [] (fault_at x.at rule.TypeMismatch)
 
 abbrev pub value_faults_as : CType → ℕ → Option CType → List Fault
 value_faults_as t at None = []
@@ -157,7 +162,7 @@ value_faults_as t at (Some u) = cond (is_floating t) (fault_at at rule.FloatUsed
 
 -- a value is converted as in an assignment (C99 6.7.8p11)
 abbrev pub value_faults : CType → Typed → List Fault
-value_faults t x = (used x).faults ++ value_faults_as t x.at (used x).ctype
+value_faults t x = (used x).faults ++ value_faults_as t x.at (type_of (used x))
 
 abbrev pub part_faults : CType → Typed → List Fault
 part_faults t x = cond (is_text_of t x) (x.faults ++ text_faults t x) (value_faults t x)
@@ -204,7 +209,7 @@ is_braced_text _ x = false
 
 abbrev pub braced_text : List Frame → Typed → Fills
 braced_text [] x y = is_surplus x y
-braced_text (f ∷ fs) x y = record (fills_part x f.whole (record f { next = length_of_type x.ctype } ∷ fs) y) { high = length_of_type x.ctype }
+braced_text (f ∷ fs) x y = record (fills_part x f.whole (record f { next = length_of_type (type_of x) } ∷ fs) y) { high = length_of_type (type_of x) }
 
 abbrev pub fills_value : Typed → Fills
 fills_value x y =
@@ -268,7 +273,7 @@ to_constant at (Some t) (Some z) [] y = y
 to_constant at (Some t) (Some z) (f ∷ fs) y = at_number at (element_number y.scope.tables f.whole.type (Some z)) (f ∷ fs) y
 
 abbrev pub to_element : ℕ → Typed → Fills
-to_element at x y = to_constant at x.ctype x.value y.frames (record y { faults = y.faults ++ x.faults ++ not_constant x; scope = x.after })
+to_element at x y = to_constant at (type_of x) (constant_of x) y.frames (record y { faults = y.faults ++ x.faults ++ not_constant x; scope = x.after })
 
 abbrev pub designates : {E : Type 0} → (E → Scope → Typed) → Designates E → Fills
 designates typed (ToMember at name) y = to_member at name y.frames y
@@ -298,7 +303,7 @@ pub record InitialSaid : Type 0 where
   pub alone : Part → Fills
 
 abbrev pub value_alone : Typed → Part → Fills
-value_alone x p y = fills_part x p (record { whole = p; next = length_of_type x.ctype } ∷ []) y
+value_alone x p y = fills_part x p (record { whole = p; next = length_of_type (type_of x) } ∷ []) y
 
 abbrev pub list_alone : List Fills → Part → Fills
 list_alone fs p y = fills_all fs (record y { frames = started p ∷ []; high = 0 })

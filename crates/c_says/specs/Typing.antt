@@ -40,21 +40,34 @@ use Rattle.c_says.specs.declared.scope.Means.{Means}
 use Rattle.c_says.specs.declared.scope.Means.TheVariants as means
 use Rattle.c_says.specs.declared.scope.Rule.{Rule}
 use Rattle.c_says.specs.declared.scope.Rule.TheVariants as rule
+use Rattle.c_says.specs.declared.shown.Argument.{Argument}
 use Rattle.c_says.specs.declared.shown.Shown.{Shown}
+use Rattle.c_says.specs.declared.shown.Told.{Told}
 use Rattle.c_says.specs.Scopes.{Name, Scope}
 
--- What an expression says. `at` is its own token, parentheses apart. `is_null` marks a null pointer constant (C99 6.3.2.3p3),
--- `is_literal` a string literal, and `designates` is the declaration of the name that the expression is, parentheses apart.
+-- What an expression says: its own token, parentheses apart; what it shows, where neither it nor a part breaks a rule; the rules that
+-- it and its parts break, in order; and the scope behind it.
 pub record Typed : Type 0 where
   pub at : ℕ
-  pub ctype : Option CType
-  pub value : Option ℤ
-  pub is_null : Bool
-  pub is_lvalue : Bool
-  pub is_literal : Bool
-  pub designates : Option Entry
+  pub shown : Option Shown
   pub faults : List Fault
   pub after : Scope
+
+abbrev pub type_in : Option Shown → Option CType
+type_in None = None
+type_in (Some x) = Some x.ctype
+
+abbrev pub value_in : Option Shown → Option ℤ
+value_in None = None
+value_in (Some x) = x.value
+
+-- its type as written, where it has one
+abbrev pub type_of : Typed → Option CType
+type_of x = type_in x.shown
+
+-- its value, where it is constant
+abbrev pub constant_of : Typed → Option ℤ
+constant_of x = value_in x.shown
 
 -- what a node says of itself, or the rule that it breaks: of several the first in the order of refusals
 abbrev pub Judgement : Type 0
@@ -92,53 +105,42 @@ an_integer kind z = record { ctype = integer kind; value = z; is_null = null_whe
 
 -- ---- nodes
 
-abbrev pub typeless : ℕ → List Fault → Scope → Typed
-typeless at faults s =
-    record { at = at; ctype = None; value = None; is_null = false; is_lvalue = false; is_literal = false; designates = None; faults = faults; after = s }
+-- in front of the scope that it leaves
+abbrev pub typed_in : Told → Scope → Typed
+typed_in x s = record { at = x.at; shown = x.shown; faults = x.faults; after = s }
+
+abbrev pub told_of : Typed → Told
+told_of x = record { at = x.at; shown = x.shown; faults = x.faults }
+
+-- a node that shows nothing, since it or a part breaks a rule
+abbrev pub typeless : ℕ → List Fault → Told
+typeless at faults = record { at = at; shown = None; faults = faults }
+
+-- a node that breaks a rule itself
+abbrev pub refused : ℕ → Rule → List Fault → Told
+refused at r faults = typeless at (faults ++ fault_at at r)
 
 -- an expression of floating type is refused where it stands
-abbrev pub node : ℕ → Judgement → List Fault → Scope → Typed
-node at (Err r) faults s = typeless at (faults ++ fault_at at r) s
-node at (Ok x) faults s =
-    cond (is_floating x.ctype) (typeless at (faults ++ fault_at at rule.FloatUsed) s)
-      (record {
-        at = at;
-        ctype = Some x.ctype;
-        value = x.value;
-        is_null = x.is_null;
-        is_lvalue = x.is_lvalue;
-        is_literal = x.is_literal;
-        designates = x.designates;
-        faults = faults;
-        after = s;
-      })
+abbrev pub node : ℕ → Judgement → List Fault → Told
+node at (Err r) faults = refused at r faults
+node at (Ok x) faults = cond (is_floating x.ctype) (refused at rule.FloatUsed faults) (record { at = at; shown = Some x; faults = faults })
 
-abbrev pub show_typed : Typed → CType → Shown
-show_typed x t = record { ctype = t; value = x.value; is_null = x.is_null; is_lvalue = x.is_lvalue; is_literal = x.is_literal; designates = x.designates }
+abbrev pub node_over : ℕ → Option Shown → (Shown → Judgement) → List Fault → Told
+node_over at None f faults = typeless at faults
+node_over at (Some x) f faults = node at (f x) faults
 
-abbrev pub shown_as : Typed → Option CType → Option Shown
-shown_as x None = None
-shown_as x (Some t) = Some (show_typed x t)
-
-abbrev pub shown : Typed → Option Shown
-shown x = shown_as x x.ctype
-
-abbrev pub node_over : ℕ → Option Shown → (Shown → Judgement) → List Fault → Scope → Typed
-node_over at None f faults s = typeless at faults s
-node_over at (Some x) f faults s = node at (f x) faults s
-
-abbrev pub node_over_two : ℕ → Option Shown → Option Shown → (Shown → Shown → Judgement) → List Fault → Scope → Typed
-node_over_two at None y f faults s = typeless at faults s
-node_over_two at (Some x) None f faults s = typeless at faults s
-node_over_two at (Some x) (Some y) f faults s = node at (f x y) faults s
+abbrev pub node_over_two : ℕ → Option Shown → Option Shown → (Shown → Shown → Judgement) → List Fault → Told
+node_over_two at None y f faults = typeless at faults
+node_over_two at (Some x) None f faults = typeless at faults
+node_over_two at (Some x) (Some y) f faults = node at (f x y) faults
 
 -- a node over one part
 abbrev pub over : ℕ → Typed → (Shown → Judgement) → Typed
-over at x f = node_over at (shown x) f x.faults x.after
+over at x f = typed_in (node_over at x.shown f x.faults) x.after
 
 -- a node over two parts, of which the second stands behind the first
 abbrev pub over_two : ℕ → Typed → Typed → (Shown → Shown → Judgement) → Typed
-over_two at x y f = node_over_two at (shown x) (shown y) f (x.faults ++ y.faults) y.after
+over_two at x y f = typed_in (node_over_two at x.shown y.shown f (x.faults ++ y.faults)) y.after
 
 -- ---- values of lvalues, arrays and functions (C99 6.3.2.1)
 
@@ -151,36 +153,39 @@ value_where false x = Err incomplete
 
 -- An array turns into a pointer to its first element, a function into a pointer to it, an object into its value, without
 -- qualifiers (C99 6.3.2.1p2 to p4). An array that is no lvalue has no first element, and an object whose size isn't known no value.
-abbrev pub value_in : Tables → Class → Shown → Judgement
-value_in tables class.Array x = value_of_array x
-value_in tables class.Function x = Ok (some_value (decayed x.ctype))
-value_in tables (class.Aggregate n) x = value_where (is_sized tables x.ctype) x
-value_in tables class.Opaque x = value_where false x
-value_in tables class.Void x = value_where true x
-value_in tables (class.Integer kind) x = value_where true x
-value_in tables class.Floating x = value_where true x
-value_in tables class.Pointer x = value_where true x
+abbrev pub value_by_class : Tables → Class → Shown → Judgement
+value_by_class tables class.Array x = value_of_array x
+value_by_class tables class.Function x = Ok (some_value (decayed x.ctype))
+value_by_class tables (class.Aggregate n) x = value_where (is_sized tables x.ctype) x
+value_by_class tables class.Opaque x = value_where false x
+value_by_class tables class.Void x = value_where true x
+value_by_class tables (class.Integer kind) x = value_where true x
+value_by_class tables class.Floating x = value_where true x
+value_by_class tables class.Pointer x = value_where true x
 
 abbrev pub value_of : Tables → Shown → Judgement
-value_of tables x = value_in tables (class_of x.ctype) x
+value_of tables x = value_by_class tables (class_of x.ctype) x
+
+abbrev pub used_told : Tables → Told → Told
+used_told tables x = node_over x.at x.shown (value_of tables) x.faults
 
 -- the part as a value
 abbrev pub used : Typed → Typed
-used x = over x.at x (value_of x.after.tables)
+used x = typed_in (used_told x.after.tables (told_of x)) x.after
 
 -- ---- primary expressions (C99 6.5.1)
 
 -- C99 6.4.4.1p5
 abbrev pub integer_constant : ℕ → IntegerConstant → Scope → Typed
-integer_constant at c s = node at (Ok (an_integer (of_constant c.integer_type) (Some (pos c.value)))) [] s
+integer_constant at c s = typed_in (node at (Ok (an_integer (of_constant c.integer_type) (Some (pos c.value)))) []) s
 
 -- C99 6.4.4.4p10
 abbrev pub character_constant : ℕ → ℤ → Scope → Typed
-character_constant at value s = node at (Ok (an_integer k.Int (Some value))) [] s
+character_constant at value s = typed_in (node at (Ok (an_integer k.Int (Some value))) []) s
 
 -- C99 6.4.4.2p4: a constant of floating type
 abbrev pub floating_constant : ℕ → Scope → Typed
-floating_constant at s = typeless at (fault_at at rule.FloatUsed) s
+floating_constant at s = typed_in (refused at rule.FloatUsed []) s
 
 abbrev pub total : List (List ℕ) → ℕ
 total [] = 0
@@ -193,28 +198,34 @@ literal_type pieces = array (Some (suc (total pieces))) (integer k.Char)
 abbrev pub within_limit : Tables → Shown → Judgement
 within_limit tables x = cond (is_too_large tables x.ctype) (Err too_large) (Ok x)
 
+abbrev pub literal_shown : Tables → List (List ℕ) → Judgement
+literal_shown tables pieces = within_limit tables (record (an_object (literal_type pieces)) { is_literal = true })
+
 abbrev pub string_literal : ℕ → List (List ℕ) → Scope → Typed
-string_literal at pieces s = node at (within_limit s.tables (record (an_object (literal_type pieces)) { is_literal = true })) [] s
+string_literal at pieces s = typed_in (node at (literal_shown s.tables pieces) []) s
 
 -- a literal of the function's name (C99 6.4.2.2); there is none outside a function
 abbrev pub function_name : ℕ → Option Name → Scope → Typed
-function_name at None s = typeless at (fault_at at rule.Undeclared) s
+function_name at None s = typed_in (refused at rule.Undeclared []) s
 function_name at (Some name) s = string_literal at (name ∷ []) s
 
 abbrev pub entry_shown : Entry → Shown → Shown
 entry_shown e x = record x { designates = Some e }
 
 -- a declared name of an object or function, or an enumeration constant (C99 6.5.1p2, p5); a typedef name is none
-abbrev pub named_as : ℕ → Scope → Entry → Means → Typed
-named_as at s e (means.Object t duration linkage) = node at (Ok (entry_shown e (an_object t))) [] s
-named_as at s e (means.Function t linkage) = node at (Ok (entry_shown e (some_value t))) [] s
-named_as at s e (means.Typedef t) = typeless at (fault_at at rule.Undeclared) s
-named_as at s e (means.Constant z) = node at (Ok (entry_shown e (an_integer k.Int (Some z)))) [] s
-named_as at s e means.Faulty = typeless at [] s
+abbrev pub named_as : ℕ → Entry → Means → Told
+named_as at e (means.Object t duration linkage) = node at (Ok (entry_shown e (an_object t))) []
+named_as at e (means.Function t linkage) = node at (Ok (entry_shown e (some_value t))) []
+named_as at e (means.Typedef t) = refused at rule.Undeclared []
+named_as at e (means.Constant z) = node at (Ok (entry_shown e (an_integer k.Int (Some z)))) []
+named_as at e means.Faulty = typeless at []
+
+abbrev pub named_told : ℕ → Option Entry → Told
+named_told at None = refused at rule.Undeclared []
+named_told at (Some e) = named_as at e e.means
 
 abbrev pub identifier : ℕ → Scope → Option Entry → Typed
-identifier at s None = typeless at (fault_at at rule.Undeclared) s
-identifier at s (Some e) = named_as at s e e.means
+identifier at s e = typed_in (named_told at e) s
 
 -- ---- operands
 
@@ -227,19 +238,6 @@ on_integers_of None b f = Err rule.TypeMismatch
 abbrev pub on_integers : Shown → Shown → (IntegerKind → IntegerKind → Judgement) → Judgement
 on_integers x y f = on_integers_of (kind_of x.ctype) (kind_of y.ctype) f
 
-abbrev pub both : {A B C : Type 0} → Option A → Option B → (A → B → Option C) → Option C
-both None y f = None
-both (Some x) None f = None
-both (Some x) (Some y) f = f x y
-
--- an operator that is undefined has no value (C99 6.6p4)
-abbrev pub defined : Answer → Option ℤ
-defined (Ok z) = Some z
-defined (Err reason) = None
-
-abbrev pub defined_on : Option ℤ → Option ℤ → (ℤ → ℤ → Answer) → Option ℤ
-defined_on x y f = both x y (λ x y. defined (f x y))
-
 -- a pointer to a type whose size is known moves by elements (C99 6.5.6p2, p8)
 abbrev pub moved_to : Tables → Shown → Option CType → Judgement
 moved_to tables x None = Err rule.TypeMismatch
@@ -250,20 +248,55 @@ moved tables x = moved_to tables x (target_of x.ctype)
 
 -- ---- binary operators (C99 6.5.5 to 6.5.14), over values
 
+abbrev pub truth : ℤ → Bool
+truth z = not (is_zero z)
+
+-- what an operator makes of two numbers, brought to the type in which it works; `&&` and `||` take them as they are
+abbrev pub worked : BinaryOperator → IntegerKind → ℤ → ℤ → Answer
+worked o.Multiply kind x y = product kind x y
+worked o.Divide kind x y = quotient kind x y
+worked o.Remainder kind x y = remainder kind x y
+worked o.Add kind x y = sum kind x y
+worked o.Subtract kind x y = difference kind x y
+worked o.ShiftLeft kind x y = shifted_left kind x y
+worked o.ShiftRight kind x y = shifted_right kind x y
+worked o.Less kind x y = Ok (less kind x y)
+worked o.Greater kind x y = Ok (less kind y x)
+worked o.LessEqual kind x y = Ok (less_equal kind x y)
+worked o.GreaterEqual kind x y = Ok (less_equal kind y x)
+worked o.Equal kind x y = Ok (equal kind x y)
+worked o.NotEqual kind x y = Ok (unequal kind x y)
+worked o.BitAnd kind x y = Ok (bits_and kind x y)
+worked o.BitXor kind x y = Ok (bits_xor kind x y)
+worked o.BitOr kind x y = Ok (bits_or kind x y)
+worked o.LogicalAnd kind x y = Ok (number_of (truth x && truth y))
+worked o.LogicalOr kind x y = Ok (number_of (truth x || truth y))
+
+-- an operator that is undefined has no value (C99 6.6p4)
+abbrev pub defined : Answer → Option ℤ
+defined (Ok z) = Some z
+defined (Err reason) = None
+
+-- constant where both operands are (C99 6.6p6)
+abbrev pub worked_on : BinaryOperator → IntegerKind → Option ℤ → Option ℤ → Option ℤ
+worked_on op kind None y = None
+worked_on op kind (Some x) None = None
+worked_on op kind (Some x) (Some y) = defined (worked op kind x y)
+
 -- C99 6.5.5, 6.5.10 to 6.5.12, and 6.5.6 on integers: the type that the usual conversions give
-abbrev pub arithmetic : (IntegerKind → ℤ → ℤ → Answer) → Shown → Shown → Judgement
-arithmetic f x y = on_integers x y (λ a b. Ok (an_integer (usual a b) (defined_on x.value y.value (f (usual a b)))))
+abbrev pub arithmetic : BinaryOperator → Shown → Shown → Judgement
+arithmetic op x y = on_integers x y (λ a b. Ok (an_integer (usual a b) (worked_on op (usual a b) x.value y.value)))
 
 -- C99 6.5.7p3: the type of the promoted left operand
-abbrev pub shift : (IntegerKind → ℤ → ℤ → Answer) → Shown → Shown → Judgement
-shift f x y = on_integers x y (λ a b. Ok (an_integer (promoted a) (defined_on x.value y.value (f (promoted a)))))
+abbrev pub shift : BinaryOperator → Shown → Shown → Judgement
+shift op x y = on_integers x y (λ a b. Ok (an_integer (promoted a) (worked_on op (promoted a) x.value y.value)))
 
 -- C99 6.5.6p2: integers, or a pointer and an integer
 abbrev pub addition_of : Tables → Bool → Bool → Shown → Shown → Judgement
 addition_of tables true false x y = cond (is_integer y.ctype) (moved tables x) (Err rule.TypeMismatch)
 addition_of tables false true x y = cond (is_integer x.ctype) (moved tables y) (Err rule.TypeMismatch)
 addition_of tables true true x y = Err rule.TypeMismatch
-addition_of tables false false x y = arithmetic sum x y
+addition_of tables false false x y = arithmetic o.Add x y
 
 abbrev pub addition : Tables → Shown → Shown → Judgement
 addition tables x y = addition_of tables (is_pointer x.ctype) (is_pointer y.ctype) x y
@@ -278,50 +311,46 @@ abbrev pub subtraction_of : Tables → Bool → Bool → Shown → Shown → Jud
 subtraction_of tables true true x y = as_distance (moved tables x) (moved tables y)
 subtraction_of tables true false x y = cond (is_integer y.ctype) (moved tables x) (Err rule.TypeMismatch)
 subtraction_of tables false true x y = Err rule.TypeMismatch
-subtraction_of tables false false x y = arithmetic difference x y
+subtraction_of tables false false x y = arithmetic o.Subtract x y
 
 abbrev pub subtraction : Tables → Shown → Shown → Judgement
 subtraction tables x y = subtraction_of tables (is_pointer x.ctype) (is_pointer y.ctype) x y
 
-abbrev pub compared_values : (IntegerKind → ℤ → ℤ → ℤ) → Shown → Shown → Option IntegerKind → Option IntegerKind → Option ℤ
-compared_values f x y a b = both a b (λ a b. both x.value y.value (λ m n. Some (f (usual a b) m n)))
+abbrev pub compared_values : BinaryOperator → Shown → Shown → Option IntegerKind → Option IntegerKind → Option ℤ
+compared_values op x y (Some a) (Some b) = worked_on op (usual a b) x.value y.value
+compared_values op x y (Some a) None = None
+compared_values op x y None b = None
 
 abbrev pub scalars : Shown → Shown → Shown → Judgement
 scalars x y z = cond (is_scalar x.ctype && is_scalar y.ctype) (Ok z) (Err rule.TypeMismatch)
 
 -- C99 6.5.8p6, 6.5.9p3: 1 or 0, of type `int`
-abbrev pub comparison : (IntegerKind → ℤ → ℤ → ℤ) → Shown → Shown → Judgement
-comparison f x y = scalars x y (an_integer k.Int (compared_values f x y (kind_of x.ctype) (kind_of y.ctype)))
-
-abbrev pub truth : ℤ → Bool
-truth z = not (is_zero z)
+abbrev pub comparison : BinaryOperator → Shown → Shown → Judgement
+comparison op x y = scalars x y (an_integer k.Int (compared_values op x y (kind_of x.ctype) (kind_of y.ctype)))
 
 -- C99 6.5.13p3, 6.5.14p3
-abbrev pub logical : (Bool → Bool → Bool) → Shown → Shown → Judgement
-logical f x y = scalars x y (an_integer k.Int (both x.value y.value (λ m n. Some (number_of (f (truth m) (truth n))))))
-
-abbrev pub plain : (IntegerKind → ℤ → ℤ → ℤ) → IntegerKind → ℤ → ℤ → Answer
-plain f kind x y = Ok (f kind x y)
+abbrev pub logical : BinaryOperator → Shown → Shown → Judgement
+logical op x y = scalars x y (an_integer k.Int (worked_on op k.Int x.value y.value))
 
 abbrev pub operated : Tables → BinaryOperator → Shown → Shown → Judgement
-operated tables o.Multiply x y = arithmetic product x y
-operated tables o.Divide x y = arithmetic quotient x y
-operated tables o.Remainder x y = arithmetic remainder x y
+operated tables o.Multiply x y = arithmetic o.Multiply x y
+operated tables o.Divide x y = arithmetic o.Divide x y
+operated tables o.Remainder x y = arithmetic o.Remainder x y
 operated tables o.Add x y = addition tables x y
 operated tables o.Subtract x y = subtraction tables x y
-operated tables o.ShiftLeft x y = shift shifted_left x y
-operated tables o.ShiftRight x y = shift shifted_right x y
-operated tables o.Less x y = comparison less x y
-operated tables o.Greater x y = comparison (λ kind m n. less kind n m) x y
-operated tables o.LessEqual x y = comparison less_equal x y
-operated tables o.GreaterEqual x y = comparison (λ kind m n. less_equal kind n m) x y
-operated tables o.Equal x y = comparison equal x y
-operated tables o.NotEqual x y = comparison unequal x y
-operated tables o.BitAnd x y = arithmetic (plain bits_and) x y
-operated tables o.BitXor x y = arithmetic (plain bits_xor) x y
-operated tables o.BitOr x y = arithmetic (plain bits_or) x y
-operated tables o.LogicalAnd x y = logical (λ m n. m && n) x y
-operated tables o.LogicalOr x y = logical (λ m n. m || n) x y
+operated tables o.ShiftLeft x y = shift o.ShiftLeft x y
+operated tables o.ShiftRight x y = shift o.ShiftRight x y
+operated tables o.Less x y = comparison o.Less x y
+operated tables o.Greater x y = comparison o.Greater x y
+operated tables o.LessEqual x y = comparison o.LessEqual x y
+operated tables o.GreaterEqual x y = comparison o.GreaterEqual x y
+operated tables o.Equal x y = comparison o.Equal x y
+operated tables o.NotEqual x y = comparison o.NotEqual x y
+operated tables o.BitAnd x y = arithmetic o.BitAnd x y
+operated tables o.BitXor x y = arithmetic o.BitXor x y
+operated tables o.BitOr x y = arithmetic o.BitOr x y
+operated tables o.LogicalAnd x y = logical o.LogicalAnd x y
+operated tables o.LogicalOr x y = logical o.LogicalOr x y
 
 abbrev pub binary : ℕ → BinaryOperator → Typed → Typed → Typed
 binary at op x y = over_two at (used x) (used y) (operated y.after.tables op)
@@ -347,17 +376,28 @@ abbrev pub on_integer_of : Option IntegerKind → (IntegerKind → Judgement) �
 on_integer_of None f = Err rule.TypeMismatch
 on_integer_of (Some a) f = f a
 
-abbrev pub value_by : Option ℤ → (ℤ → Answer) → Option ℤ
-value_by None f = None
-value_by (Some z) f = defined (f z)
+-- what a unary operator makes of a number, brought to the promoted type; `!` takes it as it is
+abbrev pub turned : UnaryOperator → IntegerKind → ℤ → Answer
+turned u.Plus kind z = Ok (converted kind z)
+turned u.Minus kind z = negation kind z
+turned u.Complement kind z = Ok (complement kind z)
+turned u.Not kind z = Ok (number_of (is_zero z))
+turned u.Address kind z = Ok z
+turned u.Indirection kind z = Ok z
+turned u.Increment kind z = Ok z
+turned u.Decrement kind z = Ok z
+
+abbrev pub turned_on : UnaryOperator → IntegerKind → Option ℤ → Option ℤ
+turned_on op kind None = None
+turned_on op kind (Some z) = defined (turned op kind z)
 
 -- C99 6.5.3.3p1 to p4
-abbrev pub signed_of : (IntegerKind → ℤ → Answer) → Shown → Judgement
-signed_of f x = on_integer_of (kind_of x.ctype) (λ a. Ok (an_integer (promoted a) (value_by x.value (f (promoted a)))))
+abbrev pub promoted_by : UnaryOperator → Shown → Judgement
+promoted_by op x = on_integer_of (kind_of x.ctype) (λ a. Ok (an_integer (promoted a) (turned_on op (promoted a) x.value)))
 
 -- C99 6.5.3.3p5
 abbrev pub negated : Shown → Judgement
-negated x = cond (is_scalar x.ctype) (Ok (an_integer k.Int (value_by x.value (λ z. Ok (number_of (is_zero z)))))) (Err rule.TypeMismatch)
+negated x = cond (is_scalar x.ctype) (Ok (an_integer k.Int (turned_on u.Not k.Int x.value))) (Err rule.TypeMismatch)
 
 -- A modifiable lvalue (C99 6.3.2.1p1): no array or function, not qualified by `const`.
 abbrev pub is_modifiable : Shown → Bool
@@ -372,9 +412,13 @@ abbrev pub on_modifiable : Shown → Judgement → Judgement
 on_modifiable x (Err rule.TypeMismatch) = Err (or_not_modifiable x)
 on_modifiable x j = cond (is_modifiable x) j (Err rule.NotModifiable)
 
+-- a pointer object that moves: its value has no qualifiers
+abbrev pub moved_plainly : Tables → Shown → Judgement
+moved_plainly tables x = moved tables (some_value (unqualified_version x.ctype))
+
 abbrev pub stepped_in : Tables → Class → Shown → Judgement
 stepped_in tables (class.Integer kind) x = Ok (some_value (unqualified_version x.ctype))
-stepped_in tables class.Pointer x = moved tables (record x { ctype = unqualified_version x.ctype })
+stepped_in tables class.Pointer x = moved_plainly tables x
 stepped_in tables class.Array x = Err rule.TypeMismatch
 stepped_in tables class.Function x = Err rule.TypeMismatch
 stepped_in tables class.Void x = Err rule.TypeMismatch
@@ -389,9 +433,9 @@ stepped tables x = on_modifiable x (stepped_in tables (class_of x.ctype) x)
 abbrev pub unary : ℕ → UnaryOperator → Typed → Typed
 unary at u.Address x = over at x address
 unary at u.Indirection x = over at (used x) indirection
-unary at u.Plus x = over at (used x) (signed_of (λ kind z. Ok (converted kind z)))
-unary at u.Minus x = over at (used x) (signed_of negation)
-unary at u.Complement x = over at (used x) (signed_of (λ kind z. Ok (complement kind z)))
+unary at u.Plus x = over at (used x) (promoted_by u.Plus)
+unary at u.Minus x = over at (used x) (promoted_by u.Minus)
+unary at u.Complement x = over at (used x) (promoted_by u.Complement)
 unary at u.Not x = over at (used x) negated
 unary at u.Increment x = over at x (stepped x.after.tables)
 unary at u.Decrement x = over at x (stepped x.after.tables)
@@ -417,13 +461,13 @@ size_of_expression at x = over at x (λ y. size_in x.after.tables y.ctype)
 abbrev pub NamedType : Type 0
 NamedType = Option (Result CType Rule)
 
-abbrev pub over_named : ℕ → NamedType → (CType → Judgement) → List Fault → Scope → Typed
-over_named at None f faults s = typeless at faults s
-over_named at (Some (Err r)) f faults s = typeless at (faults ++ fault_at at r) s
-over_named at (Some (Ok t)) f faults s = node at (f t) faults s
+abbrev pub over_named : ℕ → NamedType → (CType → Judgement) → List Fault → Told
+over_named at None f faults = typeless at faults
+over_named at (Some (Err r)) f faults = refused at r faults
+over_named at (Some (Ok t)) f faults = node at (f t) faults
 
 abbrev pub size_of_type : ℕ → NamedType → List Fault → Scope → Typed
-size_of_type at t faults s = over_named at t (size_in s.tables) faults s
+size_of_type at t faults s = typed_in (over_named at t (size_in s.tables) faults) s
 
 -- ---- casts (C99 6.5.4)
 
@@ -450,13 +494,13 @@ cast_shown to x =
 abbrev pub cast_to : CType → Shown → Judgement
 cast_to to x = cond (is_void to || (is_scalar to && is_scalar x.ctype)) (Ok (cast_shown to x)) (Err rule.TypeMismatch)
 
-abbrev pub cast_over : ℕ → NamedType → Typed → List Fault → Typed
-cast_over at None x faults = typeless at (faults ++ x.faults) x.after
-cast_over at (Some (Err r)) x faults = typeless at (faults ++ x.faults ++ fault_at at r) x.after
-cast_over at (Some (Ok t)) x faults = node_over at (shown x) (cast_to t) (faults ++ x.faults) x.after
+abbrev pub cast_over : ℕ → NamedType → Option Shown → List Fault → Told
+cast_over at None x faults = typeless at faults
+cast_over at (Some (Err r)) x faults = refused at r faults
+cast_over at (Some (Ok t)) x faults = node_over at x (cast_to t) faults
 
 abbrev pub cast : ℕ → NamedType → List Fault → Typed → Typed
-cast at t faults x = cast_over at t (used x) faults
+cast at t faults x = typed_in (cast_over at t (used x).shown (faults ++ (used x).faults)) x.after
 
 -- ---- subscripts (C99 6.5.2.1): the target of a sum
 
@@ -532,7 +576,8 @@ chosen (Some c) None y = None
 chosen None x y = None
 
 abbrev pub chosen_as : IntegerKind → Option ℤ → Option ℤ
-chosen_as kind z = value_by z (λ z. Ok (converted kind z))
+chosen_as kind None = None
+chosen_as kind (Some z) = Some (converted kind z)
 
 abbrev pub same_aggregate : Option ℕ → Option ℕ → Bool
 same_aggregate (Some m) (Some n) = nat_eq m n
@@ -544,8 +589,8 @@ abbrev pub joined_others : Shown → Shown → Judgement
 joined_others x y =
     cond ((is_void x.ctype && is_void y.ctype) || same_aggregate (aggregate_of x.ctype) (aggregate_of y.ctype)) (Ok (some_value x.ctype)) (Err rule.TypeMismatch)
 
-abbrev pub joined_kinds : Shown → Shown → Shown → Option IntegerKind → Option IntegerKind → Judgement
-joined_kinds c x y (Some a) (Some b) = Ok (an_integer (usual a b) (chosen_as (usual a b) (chosen c.value x.value y.value)))
+abbrev pub joined_kinds : Option ℤ → Shown → Shown → Option IntegerKind → Option IntegerKind → Judgement
+joined_kinds c x y (Some a) (Some b) = Ok (an_integer (usual a b) (chosen_as (usual a b) (chosen c x.value y.value)))
 joined_kinds c x y (Some a) None = joined_pointers x y (target_of x.ctype) (target_of y.ctype)
 joined_kinds c x y None (Some b) = joined_pointers x y (target_of x.ctype) (target_of y.ctype)
 joined_kinds c x y None None =
@@ -553,15 +598,15 @@ joined_kinds c x y None None =
 
 -- C99 6.5.15p2, p3, p5
 abbrev pub choice_of : Shown → Shown → Shown → Judgement
-choice_of c x y = cond (is_scalar c.ctype) (joined_kinds c x y (kind_of x.ctype) (kind_of y.ctype)) (Err rule.TypeMismatch)
+choice_of c x y = cond (is_scalar c.ctype) (joined_kinds c.value x y (kind_of x.ctype) (kind_of y.ctype)) (Err rule.TypeMismatch)
 
-abbrev pub choice_over : ℕ → Option Shown → Option Shown → Option Shown → List Fault → Scope → Typed
-choice_over at None x y faults s = typeless at faults s
-choice_over at (Some c) x y faults s = node_over_two at x y (choice_of c) faults s
+abbrev pub choice_over : ℕ → Option Shown → Option Shown → Option Shown → List Fault → Told
+choice_over at None x y faults = typeless at faults
+choice_over at (Some c) x y faults = node_over_two at x y (choice_of c) faults
 
 abbrev pub choice : ℕ → Typed → Typed → Typed → Typed
 choice at c x y =
-    choice_over at (shown (used c)) (shown (used x)) (shown (used y)) ((used c).faults ++ (used x).faults ++ (used y).faults) y.after
+    typed_in (choice_over at (used c).shown (used x).shown (used y).shown ((used c).faults ++ (used x).faults ++ (used y).faults)) y.after
 
 -- ---- assignment (C99 6.5.16)
 
@@ -577,13 +622,13 @@ assigned x y =
 -- C99 6.5.16.2p1, p2: the target is a pointer only in `+=` and `-=` of an integer, else both are of arithmetic type
 abbrev pub compound_of : Tables → BinaryOperator → Bool → Shown → Shown → Judgement
 compound_of tables op false x y = on_integers x y (λ a b. Ok (some_value (unqualified_version x.ctype)))
-compound_of tables o.Add true x y = cond (is_integer y.ctype) (moved tables x) (Err rule.TypeMismatch)
-compound_of tables o.Subtract true x y = cond (is_integer y.ctype) (moved tables x) (Err rule.TypeMismatch)
+compound_of tables o.Add true x y = cond (is_integer y.ctype) (moved_plainly tables x) (Err rule.TypeMismatch)
+compound_of tables o.Subtract true x y = cond (is_integer y.ctype) (moved_plainly tables x) (Err rule.TypeMismatch)
 compound_of tables _ true x y = Err rule.TypeMismatch
 
 abbrev pub compound : Tables → BinaryOperator → Shown → Shown → Judgement
 compound tables op x y =
-    on_modifiable x (compound_of tables op (is_pointer x.ctype) (record x { ctype = unqualified_version x.ctype }) y)
+    on_modifiable x (compound_of tables op (is_pointer x.ctype) x y)
 
 abbrev pub assignment : ℕ → Option BinaryOperator → Typed → Typed → Typed
 assignment at None x y = over_two at x (used y) assigned
@@ -621,30 +666,31 @@ argument_fault callee at from class.Function = fault_at callee rule.TypeMismatch
 abbrev pub loose_fault : ℕ → Class → List Fault
 loose_fault callee (class.Aggregate n) = fault_at callee rule.StructByValue
 loose_fault callee class.Void = fault_at callee rule.TypeMismatch
-loose_fault callee _ = []
+loose_fault callee (class.Integer kind) = []
+loose_fault callee class.Floating = []
+loose_fault callee class.Pointer = []
+loose_fault callee class.Array = []
+loose_fault callee class.Function = []
+loose_fault callee class.Opaque = []
 
-abbrev pub class_in : Option CType → Class
-class_in None = class.Void
-class_in (Some t) = class_of t
-
-abbrev pub loose_faults : ℕ → List Typed → List Fault
+abbrev pub loose_faults : ℕ → List Argument → List Fault
 loose_faults callee [] = []
-loose_faults callee (x ∷ xs) = loose_fault callee (class_in x.ctype) ++ loose_faults callee xs
+loose_faults callee (x ∷ xs) = loose_fault callee x.class ++ loose_faults callee xs
 
 -- arguments beyond the parameters: only behind `...`, or where nothing is said of parameters
-abbrev pub surplus_faults : ℕ → Prototype → List Typed → List Fault
+abbrev pub surplus_faults : ℕ → Prototype → List Argument → List Fault
 surplus_faults callee p [] = []
 surplus_faults callee prototype_.Fixed (x ∷ xs) = fault_at callee rule.TypeMismatch
 surplus_faults callee prototype_.Variadic (x ∷ xs) = loose_faults callee (x ∷ xs)
 surplus_faults callee prototype_.Unspecified (x ∷ xs) = loose_faults callee (x ∷ xs)
 surplus_faults callee prototype_.EmptyDefinition (x ∷ xs) = loose_faults callee (x ∷ xs)
 
-abbrev pub argument_faults : ℕ → Prototype → List CType → List Typed → List Fault
+abbrev pub argument_faults : ℕ → Prototype → List CType → List Argument → List Fault
 argument_faults callee p [] xs = surplus_faults callee p xs
 argument_faults callee p (t ∷ ts) [] = fault_at callee rule.TypeMismatch
-argument_faults callee p (t ∷ ts) (x ∷ xs) = argument_fault callee x.at (class_in x.ctype) (class_of t) ++ argument_faults callee p ts xs
+argument_faults callee p (t ∷ ts) (x ∷ xs) = argument_fault callee x.at x.class (class_of t) ++ argument_faults callee p ts xs
 
-abbrev pub signature_faults : ℕ → Option Signature → List Typed → List Fault
+abbrev pub signature_faults : ℕ → Option Signature → List Argument → List Fault
 signature_faults callee None xs = []
 signature_faults callee (Some g) xs = argument_faults callee g.prototype g.parameters xs
 
@@ -652,7 +698,11 @@ abbrev pub result_faults : ℕ → Class → List Fault
 result_faults callee (class.Aggregate n) = fault_at callee rule.StructByValue
 result_faults callee class.Floating = fault_at callee rule.FloatUsed
 result_faults callee class.Opaque = fault_at callee rule.StructByValue
-result_faults callee _ = []
+result_faults callee class.Void = []
+result_faults callee (class.Integer kind) = []
+result_faults callee class.Pointer = []
+result_faults callee class.Array = []
+result_faults callee class.Function = []
 
 abbrev pub type_where : List Fault → CType → Option CType
 type_where [] t = Some t
@@ -661,7 +711,7 @@ type_where (f ∷ fs) t = None
 abbrev pub called_with : List Fault → CType → Called
 called_with faults t = record { ctype = type_where faults (unqualified_version t); faults = faults }
 
-abbrev pub called_directly : Tables → ℕ → List Derivation → Option CType → List Typed → Called
+abbrev pub called_directly : Tables → ℕ → List Derivation → Option CType → List Argument → Called
 called_directly tables callee (d.Function n ∷ ds) (Some result) xs =
     called_with (signature_faults callee (slice_get tables.signatures n) xs ++ result_faults callee (class_of result)) result
 called_directly tables callee _ _ xs = broken callee rule.TypeMismatch
@@ -678,60 +728,58 @@ points_to_function None = false
 points_to_function (Some t) = is_function t
 
 -- the callee is the name of a function, perhaps in parentheses; every other call is indirect (C99 6.5.2.2p1)
-abbrev pub called_as : Tables → ℕ → ℕ → Option Entry → Bool → CType → List Typed → Called
+abbrev pub called_as : Tables → ℕ → ℕ → Option Entry → Bool → CType → List Argument → Called
 called_as tables at callee (Some e) true t xs = called_directly tables callee t.derivations (returned_of t) xs
 called_as tables at callee None true t xs = called_through at callee None true
 called_as tables at callee e false t xs = called_through at callee e (points_to_function (target_of t))
 
-abbrev pub all_faults : List Typed → List Fault
-all_faults [] = []
-all_faults (x ∷ xs) = x.faults ++ all_faults xs
+-- what is said of arguments together: as values, where each has a type
+pub record Arguments : Type 0 where
+  pub all : Option (List Argument)
+  pub faults : List Fault
 
-abbrev pub has_type : Option CType → Bool
-has_type None = false
-has_type (Some t) = true
+abbrev pub with_argument : ℕ → Option Shown → Option (List Argument) → Option (List Argument)
+with_argument at None xs = None
+with_argument at (Some x) None = None
+with_argument at (Some x) (Some xs) = Some (record { at = at; class = class_of x.ctype } ∷ xs)
 
-abbrev pub all_typed : List Typed → Bool
-all_typed [] = true
-all_typed (x ∷ xs) = has_type x.ctype && all_typed xs
+abbrev pub with_value : Typed → Arguments → Arguments
+with_value x more = record { all = with_argument x.at x.shown more.all; faults = x.faults ++ more.faults }
 
-abbrev pub all_used : List Typed → List Typed
-all_used [] = []
-all_used (x ∷ xs) = used x ∷ all_used xs
+-- arguments from left to right
+abbrev pub arguments_of : List Typed → Arguments
+arguments_of [] = record { all = Some []; faults = [] }
+arguments_of (x ∷ xs) = with_value (used x) (arguments_of xs)
 
-abbrev pub call_of : ℕ → List Fault → Called → Scope → Typed
-call_of at faults c s = record {
-  at = at;
-  ctype = c.ctype;
-  value = None;
-  is_null = false;
-  is_lvalue = false;
-  is_literal = false;
-  designates = None;
-  faults = faults ++ c.faults;
-  after = s;
-}
+abbrev pub called_shown : Option CType → Option Shown
+called_shown None = None
+called_shown (Some t) = Some (some_value t)
 
-abbrev pub call_over : ℕ → Typed → Option CType → List Typed → Scope → Typed
-call_over at f None xs s = typeless at (f.faults ++ all_faults xs) s
-call_over at f (Some t) xs s =
-    cond (all_typed xs)
-      (call_of at (f.faults ++ all_faults xs) (called_as s.tables at f.at f.designates (is_function t) t xs) s)
-      (typeless at (f.faults ++ all_faults xs) s)
+abbrev pub call_of : ℕ → List Fault → Called → Told
+call_of at faults c = record { at = at; shown = called_shown c.ctype; faults = faults ++ c.faults }
 
-abbrev pub call : ℕ → Typed → List Typed → Scope → Typed
-call at f xs s = call_over at f f.ctype (all_used xs) s
+abbrev pub call_over : Tables → ℕ → ℕ → Option Shown → Option (List Argument) → List Fault → Told
+call_over tables at callee None xs faults = typeless at faults
+call_over tables at callee (Some f) None faults = typeless at faults
+call_over tables at callee (Some f) (Some xs) faults =
+    call_of at faults (called_as tables at callee f.designates (is_function f.ctype) f.ctype xs)
+
+abbrev pub call : ℕ → Typed → Arguments → Scope → Typed
+call at f xs s = typed_in (call_over s.tables at f.at f.shown xs.all (f.faults ++ xs.faults)) s
 
 -- ---- constant expressions (C99 6.6)
 
 -- the value that must be constant, at the expression's own token where it isn't
-abbrev pub not_constant_of : ℕ → Option CType → Option ℤ → List Fault
-not_constant_of at None value = []
-not_constant_of at (Some t) None = fault_at at no_constant
-not_constant_of at (Some t) (Some z) = []
+abbrev pub not_constant_value : ℕ → Option ℤ → List Fault
+not_constant_value at None = fault_at at no_constant
+not_constant_value at (Some z) = []
+
+abbrev pub not_constant_of : ℕ → Option Shown → List Fault
+not_constant_of at None = []
+not_constant_of at (Some x) = not_constant_value at x.value
 
 abbrev pub not_constant : Typed → List Fault
-not_constant x = not_constant_of x.at x.ctype x.value
+not_constant x = not_constant_of x.at x.shown
 
 abbrev pub cause_in : List Fault → LayoutRule
 cause_in [] = layout.NotConstant
@@ -743,9 +791,12 @@ constant_as (Some z) faults = Ok z
 
 -- the constant value of an expression, or why there is none: a size that isn't known, one that is too large, or that it isn't constant
 abbrev pub const_value : Typed → Result ℤ LayoutRule
-const_value x = constant_as x.value x.faults
+const_value x = constant_as (constant_of x) x.faults
 
 -- a scalar condition of a statement, which stands at the statement's keyword (C99 6.8.4.1p1, 6.8.5p2)
-abbrev pub condition_faults : ℕ → Option CType → List Fault
-condition_faults at None = []
-condition_faults at (Some t) = cond (is_scalar t) [] (fault_at at rule.TypeMismatch)
+abbrev pub condition_faults_of : ℕ → Option Shown → List Fault
+condition_faults_of at None = []
+condition_faults_of at (Some x) = cond (is_scalar x.ctype) [] (fault_at at rule.TypeMismatch)
+
+abbrev pub condition_faults : ℕ → Typed → List Fault
+condition_faults at x = (used x).faults ++ condition_faults_of at (used x).shown
