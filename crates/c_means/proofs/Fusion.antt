@@ -44,7 +44,7 @@ use Rattle.c_says.specs.Trees.{enumerator_says, member_says, parameter_says, typ
 use Rattle.c_says.specs.Trees as says_trees
 use Rattle.c_says.proofs.Equations as types
 use Rattle.c_means.specs.Parts.{Part}
-use Rattle.c_means.specs.Expressions.{Passed, all_typed, binary, call, call_of, identifier, member_by, named_as, postfix, unary}
+use Rattle.c_means.specs.Expressions.{Passed, all_typed, binary, call, call_of, designated, identifier, member_by, named_as, postfix, unary}
 use Rattle.c_means.specs.Trees.{ExprMeans, said, through, Through, part, part_step, declarator_said, specifier_said}
 use Rattle.c_means.specs.Trees.{field_said, enumerator_said, member_said, parameter_said, type_name_said}
 use Rattle.c_means.proofs.Equations as meaning
@@ -116,8 +116,8 @@ binary_typed at o.LogicalAnd x y = refl
 binary_typed at o.LogicalOr x y = refl
 
 call_typed :
-    (at : ℕ) (f : Part) (ps : List Part) (s : Scope) → (call at f ps s).typed ≡ says.call at f.typed (all_typed ps) s
-call_typed at f ps s = called_typed f.typed.designates f.typed _ _
+    (at : ℕ) (f : Part) (ps : List Part) (s : Scope) → (call at f ps s).typed ≡ says.call at f.typed (says.arguments_of (all_typed ps)) s
+call_typed at f ps s = called_typed (designated f.typed.shown) f.typed _ _
   where
     called_typed : (e : Option Entry) (f x : Typed) (qs : List Passed) → (call_of e f x qs).typed ≡ x
     called_typed None f x qs = refl
@@ -163,8 +163,8 @@ call_same : (at : ℕ) (f : Expr) (es : List Expr) → SameExpr f → Each SameE
 call_same at f es hf hs s =
     let xs = through (map part es) (part f s).typed.after in
     call_typed at (part f s) xs.all xs.after
-    ∙ ap (λ z. let ys = seen (through (map part es) z.after) in says.call at z ys.all ys.after) (hf s)
-    ∙ ap (λ ys. says.call at (typed f s) ys.all ys.after) (seen_same es hs (typed f s).after)
+    ∙ ap (λ z. let ys = seen (through (map part es) z.after) in says.call at z (says.arguments_of ys.all) ys.after) (hf s)
+    ∙ ap (λ ys. says.call at (typed f s) (says.arguments_of ys.all) ys.after) (seen_same es hs (typed f s).after)
 
 cast_same : (at : ℕ) (t : TypeName) (e : Expr) → type_name_said t ≡ type_name_says t → SameExpr e → (s : Scope) →
     (part_step (open_.Cast at (type_name_said t) (part e)) s).typed ≡ typed_step (open_.Cast at (type_name_says t) (typed e)) s

@@ -28,15 +28,16 @@ use Rattle.c_says.specs.declared.scope.Duration.{Duration}
 use Rattle.c_says.specs.declared.scope.Duration.TheVariants as duration
 use Rattle.c_says.specs.declared.scope.Entry.{Entry}
 use Rattle.c_says.specs.declared.scope.Means.{Means}
+use Rattle.c_says.specs.declared.shown.Shown.{Shown}
 use Rattle.c_says.specs.declared.scope.Means.TheVariants as means
 use Rattle.c_says.specs.Scopes.{Name, Scope}
-use Rattle.c_says.specs.Typing.{Typed, NamedType, class_in}
+use Rattle.c_says.specs.Typing.{Typed, NamedType, type_of, constant_of}
 use Rattle.c_says.specs.Typing as says
 use Rattle.c_says.specs.declared.scope.Fault.{Fault}
 use Rattle.c_means.specs.Parts.{State, Outcome, Env, Run, Level, Site, Part, ◌>>=◌, note, stop, refused, returned}
-use Rattle.c_means.specs.Values.{address, bytes_of, bytes_within, converted_to, value_of_bytes}
+use Rattle.c_means.specs.Values.{address, class_in, bytes_of, bytes_within, converted_to, value_of_bytes}
 use Rattle.c_means.specs.Objects.{load, put}
-use Rattle.c_means.specs.Operators.{Operand, operand, one, value_type, target_in, addition, operated, plus, minus, turned, negated}
+use Rattle.c_means.specs.Operators.{Operand, operand, one, value_type, target_in, addition, operated, turned_value, negated}
 
 -- ---- kinds of parts
 
@@ -166,7 +167,7 @@ behind offset a = (a + offset) % 2 ^ 64
 
 -- what bytes of a value that is no lvalue's are worth
 abbrev pub part_of_value : ℕ → Typed → ℤ → ℤ
-part_of_value offset x z = value_of_bytes (class_in x.ctype) (bytes_within offset (bytes_of x.after.tables x.ctype) (unsigned_abs z))
+part_of_value offset x z = value_of_bytes (class_in (type_of x)) (bytes_within offset (bytes_of x.after.tables (type_of x)) (unsigned_abs z))
 
 -- C99 6.5.2.3p3: of an lvalue the bytes in it, which has the same root; else some bytes of the value
 abbrev pub member_of_lvalue : ℕ → Typed → Part → Part
@@ -185,9 +186,13 @@ abbrev pub member_by : Bool → ℕ → Typed → Part → Part
 member_by true offset x p = member_of_lvalue offset x p
 member_by false offset x p = member_of_value offset x p
 
+abbrev pub is_lvalue : Option Shown → Bool
+is_lvalue None = false
+is_lvalue (Some x) = x.is_lvalue
+
 abbrev pub member : ℕ → Name → Part → Part
 member at name p =
-    member_by p.typed.is_lvalue (offset_of p.typed.after.tables p.typed.ctype name) (says.member at name p.typed) p
+    member_by (is_lvalue p.typed.shown) (offset_of p.typed.after.tables (type_of p.typed) name) (says.member at name p.typed) p
 
 -- C99 6.5.2.3p4
 abbrev pub arrow : ℕ → Name → Part → Part
@@ -248,9 +253,9 @@ on_value at operator f x = valued (says.unary at operator x.typed) x.room
 abbrev pub unary : ℕ → UnaryOperator → Part → Part
 unary at u.Address x = address_of at x
 unary at u.Indirection x = indirection at x
-unary at u.Plus x = on_value at u.Plus (plus at) x
-unary at u.Minus x = on_value at u.Minus (minus at) x
-unary at u.Complement x = on_value at u.Complement (turned at) x
+unary at u.Plus x = on_value at u.Plus (turned_value at u.Plus) x
+unary at u.Minus x = on_value at u.Minus (turned_value at u.Minus) x
+unary at u.Complement x = on_value at u.Complement (turned_value at u.Complement) x
 unary at u.Not x = on_value at u.Not negated x
 unary at u.Increment x = prefix at u.Increment o.Add x
 unary at u.Decrement x = prefix at u.Decrement o.Subtract x
@@ -258,7 +263,7 @@ unary at u.Decrement x = prefix at u.Decrement o.Subtract x
 -- ---- `sizeof` (C99 6.5.3.4p2): its operand isn't evaluated, and takes no place
 
 abbrev pub unevaluated : Typed → Part
-unevaluated x = constant x (unwrap_or x.value (pos 0))
+unevaluated x = constant x (unwrap_or (constant_of x) (pos 0))
 
 abbrev pub size_of_expression : ℕ → Part → Part
 size_of_expression at p = unevaluated (says.size_of_expression at p.typed)
@@ -279,7 +284,7 @@ cast_as c x p = valued x p.room
       Ok (converted_to c v.0, v.1))
 
 abbrev pub cast : ℕ → NamedType → List Fault → Part → Part
-cast at t faults p = let x = says.cast at t faults p.typed in cast_as (class_in x.ctype) x p
+cast at t faults p = let x = says.cast at t faults p.typed in cast_as (class_in (type_of x)) x p
 
 -- ---- binary operators
 
@@ -336,7 +341,7 @@ abbrev pub choice_as : ℕ → Typed → Part → Part → Part → Part
 choice_as at t c x y = valued t (λ l. c.room l + (x.room l + y.room l))
     (λ l env base d. do
       v ← c.run l env base d
-      on_branch at v.0 (chosen (class_in t.ctype) x y l env (base + c.room l)) v.1)
+      on_branch at v.0 (chosen (class_in (type_of t)) x y l env (base + c.room l)) v.1)
 
 abbrev pub choice : ℕ → Part → Part → Part → Part
 choice at c x y = choice_as at (says.choice at c.typed x.typed y.typed) c x y
@@ -432,7 +437,7 @@ abbrev pub site : ℕ → Entry → Typed → List Passed → Level → Site
 site at callee x qs l = record {
   at = at;
   callee = callee;
-  ctype = x.ctype;
+  ctype = type_of x;
   types = passed_types qs;
   texts = passed_texts qs l;
   scope = x.after;
@@ -467,7 +472,7 @@ direct_call at x g qs = record {
   reach = nowhere;
   run = λ l env base d. do
     v ← calling g qs l env base d
-    needed at (class_in x.ctype) v.0 v.1;
+    needed at (class_in (type_of x)) v.0 v.1;
   effect = λ l env base d. do
     v ← calling g qs l env base d
     Ok (unwrap_or v.0 (pos 0), v.1);
@@ -481,7 +486,12 @@ abbrev pub all_typed : List Part → List Typed
 all_typed [] = []
 all_typed (p ∷ ps) = p.typed ∷ all_typed ps
 
+abbrev pub designated : Option Shown → Option Entry
+designated None = None
+designated (Some x) = x.designates
+
 -- the callee is a name, perhaps in parentheses: every other call is refused, as one by a pointer is
 abbrev pub call : ℕ → Part → List Part → Scope → Part
 call at f ps s =
-    call_of f.typed.designates f.typed (says.call at f.typed (all_typed ps) s) (passed ps (parameters_of s.tables f.typed.ctype))
+    call_of (designated f.typed.shown) f.typed (says.call at f.typed (says.arguments_of (all_typed ps)) s)
+      (passed ps (parameters_of s.tables (type_of f.typed)))

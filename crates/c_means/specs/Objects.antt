@@ -8,9 +8,9 @@ use Rattle.c_type_terms.specs.declared.class.Class.{Class}
 use Rattle.c_type_terms.specs.declared.class.Class.TheVariants as class
 use Rattle.c_store.specs.Store.{Store, read, write}
 use Rattle.c_store.specs.Access.{can_access, can_write}
-use Rattle.c_says.specs.Typing.{Typed, class_in}
+use Rattle.c_says.specs.Typing.{Typed, type_of}
 use Rattle.c_means.specs.Parts.{State, Outcome, stop, with_store}
-use Rattle.c_means.specs.Values.{bytes_of, converted_to, value_of_bytes, bytes_of_value}
+use Rattle.c_means.specs.Values.{class_in, bytes_of, converted_to, value_of_bytes, bytes_of_value}
 
 -- An array turns into the address of its first element, a function into its own, and a void expression has no value: none of these is
 -- read (C99 6.3.2.1p2 to p4, 6.3.2.2).
@@ -36,7 +36,7 @@ load_as c n at rooted a d =
 
 -- the value of an lvalue at its address (C99 6.3.2.1p2)
 abbrev pub load : Typed → Bool → ℕ → State → Outcome ℤ
-load x rooted a d = load_as (class_in x.ctype) (bytes_of x.after.tables x.ctype) x.at rooted a d
+load x rooted a d = load_as (class_in (type_of x)) (bytes_of x.after.tables (type_of x)) x.at rooted a d
 
 -- of the two undefined kinds the access comes first
 abbrev pub put_as : Class → ℕ → ℕ → ℕ → Bool → ℕ → ℤ → State → Outcome ℤ
@@ -49,4 +49,4 @@ put_as c n at operator rooted a z d =
 -- that was stored (C99 6.5.16p3, 6.5.16.1p2).
 abbrev pub put : ℕ → Typed → Bool → ℕ → ℤ → State → Outcome ℤ
 put operator x rooted a z d =
-    put_as (class_in x.ctype) (bytes_of x.after.tables x.ctype) x.at operator rooted a (converted_to (class_in x.ctype) z) d
+    put_as (class_in (type_of x)) (bytes_of x.after.tables (type_of x)) x.at operator rooted a (converted_to (class_in (type_of x)) z) d

@@ -8,8 +8,14 @@ use Rattle.c_type_terms.specs.declared.class.Class.TheVariants as class
 use Rattle.c_type_terms.specs.declared.ctype.CType.{CType}
 use Rattle.c_type_terms.specs.declared.ctype.IntegerKind.{IntegerKind}
 use Rattle.c_type_terms.specs.declared.tables.Tables.{Tables}
+use Rattle.c_type_terms.specs.Types.{class_of}
 use Rattle.c_type_terms.specs.Integers.{width_of, value_of_word, converted}
 use Rattle.c_type_terms.specs.Layouts.{size_of}
+
+-- where a type belongs; what has no type breaks a rule, and is taken as void
+abbrev pub class_in : Option CType → Class
+class_in None = class.Void
+class_in (Some t) = class_of t
 
 -- the bytes of an object of a type: none where its size isn't known
 abbrev pub bytes_of : Tables → Option CType → ℕ
