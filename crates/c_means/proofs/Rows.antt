@@ -1,5 +1,5 @@
 -- Worked rows: what expressions come to, in the scene of `Scene`.
-use Rattle.std.proofs.Common.{◌≡◌, ℕ, ℤ, pos, negsuc, List, [], ◌∷◌, Bool, true, false, Option, Some, None, Ok, Err, refl, ap}
+use Rattle.std.proofs.Common.{◌≡◌, ℕ, pos, [], ◌∷◌, Some, Err, ap}
 use Rattle.bit_words.specs.declared.run.Finish.TheVariants as finish
 use Rattle.bit_words.specs.declared.run.Happening.{Happening}
 use Rattle.bit_words.specs.declared.run.Happening.TheVariants as happening
@@ -13,9 +13,12 @@ use Rattle.c_type_terms.specs.Operators.{exact}
 use Rattle.c_says.specs.Declarations.{declaration_by}
 use Rattle.c_means.specs.declared.kind.Kind.TheVariants as kind
 use Rattle.c_means.specs.Trees.{part}
-use Rattle.c_means.proofs.Scene.{OfExpr, OfTypeName, a', b', c', e', f', h', k', m', n', p', q', r', s', t', u', v', w', x', z'}
-use Rattle.c_means.proofs.Scene.{int, unsigned, text, the, op, un, minus, address, deref, element, dot, arrow, set, set_at, set_by}
-use Rattle.c_means.proofs.Scene.{after_increment, after_decrement, ◌then◌, call, choice, word, omitted, pointer, type, to, size_of, struct_s}
+use Rattle.c_means.proofs.Scene.{OfExpr, OfTypeName, a', b', c', e', f', h', k', m', n', p', q', r', s', t', u', v'}
+use Rattle.c_means.proofs.Scene.{w', x', z'}
+use Rattle.c_means.proofs.Scene.{int, unsigned, text, the, op, un, minus, address, deref, element, dot, arrow, set}
+use Rattle.c_means.proofs.Scene.{set_at, set_by}
+use Rattle.c_means.proofs.Scene.{after_increment, after_decrement, ◌then◌, call, choice, word, omitted, pointer, type}
+use Rattle.c_means.proofs.Scene.{to, size_of, struct_s}
 use Rattle.c_means.proofs.Scene.{Found, found, done, gives, gives_less, stops, happens, printed_before, prints}
 
 -- ---- spelling
@@ -458,7 +461,8 @@ row_pointer_steps_too_far = ap found pointer_steps_too_far.is
 
 -- p = a, p += 4, p - 1 == &a[3]
 abbrev pointer_moves : OfExpr
-pointer_moves = set (the p') (the a') then set_by 9 o.Add (the p') (int 4) then op 8 o.Equal (op 6 o.Subtract (the p') (int 1)) (address (a_at 3))
+pointer_moves = set (the p') (the a') then set_by 9 o.Add (the p') (int 4)
+    then op 8 o.Equal (op 6 o.Subtract (the p') (int 1)) (address (a_at 3))
 
 pub row_pointer_moves : found (part pointer_moves.tree) ≡ gives 1
 unfolding part converted exact
@@ -466,7 +470,8 @@ row_pointer_moves = ap found pointer_moves.is
 
 -- h[1][2] = 7, h[2][0]
 abbrev rows_of_arrays : OfExpr
-rows_of_arrays = set (element 3 (element 2 (the h') (int 1)) (int 2)) (int 7) then element 4 (element 5 (the h') (int 2)) (int 0)
+rows_of_arrays = set (element 3 (element 2 (the h') (int 1)) (int 2)) (int 7)
+    then element 4 (element 5 (the h') (int 2)) (int 0)
 
 pub row_rows_of_arrays : found (part rows_of_arrays.tree) ≡ gives 7
 unfolding part converted exact
@@ -748,7 +753,8 @@ row_structure_past_the_end = ap found structure_past_the_end.is
 
 -- r = &s, r->t[3] = 9, s.t[3]
 abbrev member_by_pointer : OfExpr
-member_by_pointer = set (the r') (address (the s')) then set (element 0 (arrow 0 (the r') t') (int 3)) (int 9) then element 0 (dot (the s') t') (int 3)
+member_by_pointer = set (the r') (address (the s')) then set (element 0 (arrow 0 (the r') t') (int 3)) (int 9)
+    then element 0 (dot (the s') t') (int 3)
 
 pub row_member_by_pointer : found (part member_by_pointer.tree) ≡ gives 9
 unfolding part converted exact
@@ -816,7 +822,8 @@ row_branch_of_or = ap happens branch_of_or.is
 abbrev branch_of_choice : OfExpr
 branch_of_choice = choice 9 (call 2 f' (int 2 ∷ [])) (call 3 f' (int 3 ∷ [])) (call 4 f' (int 4 ∷ []))
 
-pub row_branch_of_choice : happens (part branch_of_choice.tree) ≡ happening.Call 2 ∷ happening.Branch 9 side.Yes ∷ happening.Call 3 ∷ []
+pub row_branch_of_choice : happens (part branch_of_choice.tree)
+    ≡ happening.Call 2 ∷ happening.Branch 9 side.Yes ∷ happening.Call 3 ∷ []
 unfolding part converted exact
 row_branch_of_choice = ap happens branch_of_choice.is
 

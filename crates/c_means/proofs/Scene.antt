@@ -1,6 +1,7 @@
--- The scene of the worked rows: some objects and functions of a file, how trees over them are spelled, and what they come to. Each object
--- has the number of its declaration's offset, a literal that of its own offset.
-use Rattle.std.proofs.Common.{ℕ, ◌+◌, ℤ, pos, negsuc, List, [], ◌∷◌, Bool, true, false, cond, Option, Some, None, Result, Ok, Err}
+-- The scene of the worked rows: some objects and functions of a file, how trees over them are spelled, and what they
+-- come to. Each object has the number of its declaration's offset, a literal that of its own offset.
+use Rattle.std.proofs.Common.{ℕ, ◌+◌, ℤ, pos, negsuc, List, [], ◌∷◌, Bool, true, false, cond, Option, Some, None}
+use Rattle.std.proofs.Common.{Result, Ok, Err}
 use Rattle.std.specs.Str.{bytes_eq}
 use Rattle.bit_words.specs.declared.run.Event.{Event}
 use Rattle.bit_words.specs.declared.run.Finish.TheVariants as finish
@@ -218,8 +219,8 @@ overlay = built.aggregate meaning 0 kind_.Union None
 abbrev taking : OfSpecifier → OfDeclarator → OfDeclarator
 taking t d = built.function meaning 0 d (built.parameter meaning (t ∷ []) omitted ∷ []) false
 
--- int x; int a[4]; char c; _Bool b; int *p; struct s { .. } s; struct s u; int f(int); int m(void); void e(void); unsigned n; char *q;
--- struct s *r; short h[3][2]; union { .. } v; char w[16]; void z(int); long k;
+-- int x; int a[4]; char c; _Bool b; int *p; struct s { .. } s; struct s u; int f(int); int m(void); void e(void);
+-- unsigned n; char *q; struct s *r; short h[3][2]; union { .. } v; char w[16]; void z(int); long k;
 abbrev pub file : Scope
 file =
       declare 18 k' (word w.Long ∷ []) plain
@@ -255,7 +256,8 @@ store =
     ( make 3 (of_size object.Static 1) (make 2 (of_size object.Static 16) (make 1 (of_size object.Static 4)
     ( initial (λ _. 0))))))))))))))))))
 
--- ---- what calls do here: `f` gives its argument back, `m` reaches its `}` without a value, `z` ends the run, and the others print A
+-- ---- what calls do here: `f` gives its argument back, `m` reaches its `}` without a value, `z` ends the run, and the
+-- others print A
 
 abbrev first : List ℤ → ℤ
 first [] = pos 0

@@ -1,5 +1,6 @@
 -- What an expression does (C99 6.5): one function a form, over what its parts do, from left to right.
-use Rattle.std.specs.Prelude.{ℕ, ◌+◌, ◌%◌, ◌^◌, ℤ, pos, Bool, true, false, cond, not, List, [], ◌∷◌, ◌++◌, Option, Some, None, Result, Ok, Err, slice_get, unwrap_or, unsigned_abs}
+use Rattle.std.specs.Prelude.{ℕ, ◌+◌, ◌%◌, ◌^◌, ℤ, pos, Bool, true, false, cond, not, List, [], ◌∷◌, ◌++◌, Option}
+use Rattle.std.specs.Prelude.{Some, None, Result, Ok, Err, slice_get, unwrap_or, unsigned_abs}
 use Rattle.bit_words.specs.declared.run.Undefined.TheVariants.{MissingValue}
 use Rattle.bit_words.specs.declared.run.Side.{Side}
 use Rattle.bit_words.specs.declared.run.Side.TheVariants as side
@@ -37,7 +38,8 @@ use Rattle.c_says.specs.declared.scope.Fault.{Fault}
 use Rattle.c_means.specs.Parts.{State, Outcome, Env, Run, Level, Site, Part, ◌>>=◌, note, stop, refused, returned}
 use Rattle.c_means.specs.Values.{address, class_in, bytes_of, bytes_within, converted_to, value_of_bytes}
 use Rattle.c_means.specs.Objects.{load, put}
-use Rattle.c_means.specs.Operators.{Operand, operand, one, value_type, target_in, addition, operated, turned_value, negated}
+use Rattle.c_means.specs.Operators.{Operand, operand, one, value_type, target_in, addition, operated, turned_value}
+use Rattle.c_means.specs.Operators.{negated}
 
 -- ---- kinds of parts
 
@@ -53,7 +55,15 @@ nowhere l env base d = Ok (0, d)
 
 -- a value, whose use makes no difference to what is done
 abbrev pub valued : Typed → (Level → ℕ) → (Level → Run ℤ) → Part
-valued x room run = record { typed = x; rooted = false; text = no_text; room = room; reach = nowhere; run = run; effect = run }
+valued x room run = record {
+  typed = x;
+  rooted = false;
+  text = no_text;
+  room = room;
+  reach = nowhere;
+  run = run;
+  effect = run;
+}
 
 abbrev pub loading : Typed → Bool → (Level → Run ℕ) → Level → Run ℤ
 loading x rooted reach l env base d = do
@@ -103,7 +113,8 @@ joined [] = []
 joined (piece ∷ pieces) = piece ++ joined pieces
 
 abbrev pub string_literal : ℕ → List (List ℕ) → Scope → Part
-string_literal at pieces s = record (made_for at (says.string_literal at pieces s)) { text = λ l. Some (joined pieces) }
+string_literal at pieces s =
+    record (made_for at (says.string_literal at pieces s)) { text = λ l. Some (joined pieces) }
 
 abbrev pub function_name : ℕ → Option Name → Scope → Part
 function_name at name s = made_for at (says.function_name at name s)
@@ -167,7 +178,9 @@ behind offset a = (a + offset) % 2 ^ 64
 
 -- what bytes of a value that is no lvalue's are worth
 abbrev pub part_of_value : ℕ → Typed → ℤ → ℤ
-part_of_value offset x z = value_of_bytes (class_in (type_of x)) (bytes_within offset (bytes_of x.after.tables (type_of x)) (unsigned_abs z))
+part_of_value offset x z =
+    value_of_bytes (class_in (type_of x))
+      (bytes_within offset (bytes_of x.after.tables (type_of x)) (unsigned_abs z))
 
 -- C99 6.5.2.3p3: of an lvalue the bytes in it, which has the same root; else some bytes of the value
 abbrev pub member_of_lvalue : ℕ → Typed → Part → Part
@@ -192,7 +205,8 @@ is_lvalue (Some x) = x.is_lvalue
 
 abbrev pub member : ℕ → Name → Part → Part
 member at name p =
-    member_by (is_lvalue p.typed.shown) (offset_of p.typed.after.tables (type_of p.typed) name) (says.member at name p.typed) p
+    member_by (is_lvalue p.typed.shown) (offset_of p.typed.after.tables (type_of p.typed) name)
+      (says.member at name p.typed) p
 
 -- C99 6.5.2.3p4
 abbrev pub arrow : ℕ → Name → Part → Part

@@ -1,7 +1,9 @@
--- Objects read and written (C99 6.3.2.1, 6.5.3.2p4, 6.5.16.1): what an lvalue's value is, and where an access is undefined.
+-- Objects read and written (C99 6.3.2.1, 6.5.3.2p4, 6.5.16.1): what an lvalue's value is, and where an access is
+-- undefined.
 --
--- An lvalue whose root is a name is an object that lives, so it is accessed without a test. Any other may be of no live object, which is
--- undefined at the lvalue's own token, or of a string literal, to write which is undefined at the operator that writes.
+-- An lvalue whose root is a name is an object that lives, so it is accessed without a test. Any other may be of no
+-- live object, which is undefined at the lvalue's own token, or of a string literal, to write which is undefined at
+-- the operator that writes.
 use Rattle.std.specs.Prelude.{ℕ, ℤ, pos, Bool, true, false, cond, not, ◌||◌, Option, Result, Ok, Err}
 use Rattle.bit_words.specs.declared.run.Undefined.TheVariants.{Dereference, LiteralWrite}
 use Rattle.c_type_terms.specs.declared.class.Class.{Class}
@@ -12,8 +14,8 @@ use Rattle.c_says.specs.Typing.{Typed, type_of}
 use Rattle.c_means.specs.Parts.{State, Outcome, stop, with_store}
 use Rattle.c_means.specs.Values.{class_in, bytes_of, converted_to, value_of_bytes, bytes_of_value}
 
--- An array turns into the address of its first element, a function into its own, and a void expression has no value: none of these is
--- read (C99 6.3.2.1p2 to p4, 6.3.2.2).
+-- An array turns into the address of its first element, a function into its own, and a void expression has no value:
+-- none of these is read (C99 6.3.2.1p2 to p4, 6.3.2.2).
 abbrev pub is_read : Class → Bool
 is_read (class.Integer kind) = true
 is_read class.Pointer = true
@@ -42,11 +44,14 @@ load x rooted a d = load_as (class_in (type_of x)) (bytes_of x.after.tables (typ
 abbrev pub put_as : Class → ℕ → ℕ → ℕ → Bool → ℕ → ℤ → State → Outcome ℤ
 put_as c n at operator rooted a z d =
     cond (rooted || can_access d.store a n)
-    (cond (rooted || can_write d.store a n) (Ok (z, with_store (write n a (bytes_of_value c z) d.store) d)) (stop operator LiteralWrite d))
-    (stop at Dereference d)
+      (cond (rooted || can_write d.store a n)
+        (Ok (z, with_store (write n a (bytes_of_value c z) d.store) d))
+        (stop operator LiteralWrite d))
+      (stop at Dereference d)
 
--- A value is converted to the type of an lvalue and stored at its address, by the operator that stands at a token; the value is the one
--- that was stored (C99 6.5.16p3, 6.5.16.1p2).
+-- A value is converted to the type of an lvalue and stored at its address, by the operator that stands at a token; the
+-- value is the one that was stored (C99 6.5.16p3, 6.5.16.1p2).
 abbrev pub put : ℕ → Typed → Bool → ℕ → ℤ → State → Outcome ℤ
 put operator x rooted a z d =
-    put_as (class_in (type_of x)) (bytes_of x.after.tables (type_of x)) x.at operator rooted a (converted_to (class_in (type_of x)) z) d
+    let c = class_in (type_of x) in
+    put_as c (bytes_of x.after.tables (type_of x)) x.at operator rooted a (converted_to c z) d

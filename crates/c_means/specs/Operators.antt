@@ -1,5 +1,7 @@
--- Operators on values (C99 6.5.3.3, 6.5.5 to 6.5.12): the value, or the undefined kind that is met, at the operator's token.
-use Rattle.std.specs.Prelude.{ℕ, ℤ, pos, neg_ℤ, nat_eq, nat_le, nat_lt, Bool, true, false, cond, not, Option, Some, None, Result, Ok, Err}
+-- Operators on values (C99 6.5.3.3, 6.5.5 to 6.5.12): the value, or the undefined kind that is met, at the operator's
+-- token.
+use Rattle.std.specs.Prelude.{ℕ, ℤ, pos, neg_ℤ, nat_eq, nat_le, nat_lt, Bool, true, false, cond, not, Option, Some}
+use Rattle.std.specs.Prelude.{None, Result, Ok, Err}
 use Rattle.c_tree.specs.declared.expr.BinaryOperator.{BinaryOperator}
 use Rattle.c_tree.specs.declared.expr.BinaryOperator.TheVariants as o
 use Rattle.c_tree.specs.declared.expr.UnaryOperator.{UnaryOperator}
@@ -16,8 +18,8 @@ use Rattle.c_means.specs.Parts.{State, Outcome, or_stop, refused}
 use Rattle.c_means.specs.Values.{address, bytes_of}
 use Rattle.c_means.specs.Pointers.{moved, ordered, apart}
 
--- What an operator sees of an operand: the kind of integer that it is, where it is no pointer, the bytes of what it points to, where it is
--- one, and its value.
+-- What an operator sees of an operand: the kind of integer that it is, where it is no pointer, the bytes of what it
+-- points to, where it is one, and its value.
 pub record Operand : Type 0 where
   pub kind : Option IntegerKind
   pub element : ℕ
@@ -94,9 +96,11 @@ relation at op order x y d =
 -- C99 6.5.9: any two pointers may be compared so, and are equal where their addresses are
 abbrev pub equality : ℕ → BinaryOperator → (ℕ → ℕ → Bool) → Operand → Operand → State → Outcome ℤ
 equality at op same x y d =
-    cond (are_integers x.kind y.kind) (arithmetic at op x y d) (Ok (number_of (same (address x.value) (address y.value)), d))
+    cond (are_integers x.kind y.kind) (arithmetic at op x y d)
+      (Ok (number_of (same (address x.value) (address y.value)), d))
 
--- The binary operators whose operands are both evaluated: `&&` and `||`, which stand last, have a meaning of their own.
+-- The binary operators whose operands are both evaluated: `&&` and `||`, which stand last, have a meaning of their
+-- own.
 abbrev pub operated : ℕ → BinaryOperator → Operand → Operand → State → Outcome ℤ
 operated at o.Multiply x y d = arithmetic at o.Multiply x y d
 operated at o.Divide x y d = arithmetic at o.Divide x y d

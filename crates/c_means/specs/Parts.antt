@@ -1,5 +1,5 @@
--- What parts of a program are worth: states and how they follow one another, `Level`, in which a function runs, and `Part`, what an
--- expression says, where its places lie, and what it does.
+-- What parts of a program are worth: states and how they follow one another, `Level`, in which a function runs, and
+-- `Part`, what an expression says, where its places lie, and what it does.
 use Rattle.std.specs.Prelude.{ℕ, ◌+◌, ℤ, pos, Bool, List, [], ◌∷◌, ◌++◌, length, Option, Some, None, Result, Ok, Err}
 use Rattle.bit_words.specs.declared.run.Undefined.{Undefined}
 use Rattle.bit_words.specs.declared.run.Side.{Side}
@@ -19,8 +19,8 @@ use Rattle.c_means.specs.declared.kind.Kind.TheVariants as kind
 
 -- ---- states
 
--- Where a run stands, the value that a `return` gave, the store, how many bytes were printed in the whole run, and what the function
--- that runs has printed and noted since it was called.
+-- Where a run stands, the value that a `return` gave, the store, how many bytes were printed in the whole run, and
+-- what the function that runs has printed and noted since it was called.
 pub record State : Type 0 where
   pub kind : Kind
   pub value : Option ℤ
@@ -64,7 +64,8 @@ abbrev pub or_stop : ℕ → Answer → State → Outcome ℤ
 or_stop at (Ok z) d = Ok (z, d)
 or_stop at (Err u) d = stop at u d
 
--- What breaks a rule isn't run: no accepted program has it. That the meaning is a function of every tree, it is given the value 0.
+-- What breaks a rule isn't run: no accepted program has it. That the meaning is a function of every tree, it is given
+-- the value 0.
 abbrev pub refused : State → Outcome ℤ
 refused d = Ok (pos 0, d)
 
@@ -85,8 +86,8 @@ pub record World : Type 0 where
   pub word : ℕ → ℕ
   pub byte : ℕ → ℕ
 
--- The bounds besides the depth: the turns of a loop, the bytes of a heap object, those of a string from outside (less its last, 0), the
--- turns of a loop in a function of the prelude, and how many arguments a program has at most.
+-- The bounds besides the depth: the turns of a loop, the bytes of a heap object, those of a string from outside (less
+-- its last, 0), the turns of a loop in a function of the prelude, and how many arguments a program has at most.
 pub record Limits : Type 0 where
   pub turns : ℕ
   pub heap : ℕ
@@ -96,8 +97,9 @@ pub record Limits : Type 0 where
 
 -- ---- calls
 
--- A call as it stands in the source: the offset of the callee's name, the declaration that the name has, the type of the call, the
--- types of its arguments as they are converted, the texts of those that are string literals, and the names in force behind them.
+-- A call as it stands in the source: the offset of the callee's name, the declaration that the name has, the type of
+-- the call, the types of its arguments as they are converted, the texts of those that are string literals, and the
+-- names in force behind them.
 pub record Site : Type 0 where
   pub at : ℕ
   pub callee : Entry
@@ -106,16 +108,17 @@ pub record Site : Type 0 where
   pub texts : List (Option (List ℕ))
   pub scope : Scope
 
--- What a call does: a function of the call, the objects in force there, the arguments' values, the first place that is given to it, the
--- store and the count of bytes printed before. It begins as `entered` says; its state is running where the call comes back, and its
--- value is none where `}` was reached without one.
+-- What a call does: a function of the call, the objects in force there, the arguments' values, the first place that is
+-- given to it, the store and the count of bytes printed before. It begins as `entered` says; its state is running
+-- where the call comes back, and its value is none where `}` was reached without one.
 abbrev pub Calls : Type 0
 Calls = Site → Env → List ℤ → ℕ → Store → ℕ → State
 
--- What a function runs in. `turns` is how many turns a loop of this function takes: in a function of the prelude the limit of texts.
--- `static` is the number of a function, of an object that lives throughout the run, of a string literal and of `__func__`, each by its
--- offset (that of the first declaration). `identity` tells which argument is answered by a function that hands on its argument. `room`
--- is how many places a call takes behind those of its arguments, and `call` what it does, each with one level of depth fewer.
+-- What a function runs in. `turns` is how many turns a loop of this function takes: in a function of the prelude the
+-- limit of texts. `static` is the number of a function, of an object that lives throughout the run, of a string
+-- literal and of `__func__`, each by its offset (that of the first declaration). `identity` tells which argument is
+-- answered by a function that hands on its argument. `room` is how many places a call takes behind those of its
+-- arguments, and `call` what it does, each with one level of depth fewer.
 pub record Level : Type 0 where
   pub world : World
   pub limits : Limits
@@ -127,7 +130,8 @@ pub record Level : Type 0 where
 
 -- the caller goes on behind what was called, with its output and events behind its own
 abbrev pub resumed : State → State → State
-resumed d r = record d { store = r.store; count = r.count; printed = d.printed ++ r.printed; events = d.events ++ r.events }
+resumed d r = record d { store = r.store; count = r.count; printed = d.printed ++ r.printed; events =
+    d.events ++ r.events }
 
 abbrev pub returned_in : State → State → Kind → Outcome (Option ℤ)
 returned_in d r (kind.Ended f) = ended f (resumed d r)
@@ -139,9 +143,9 @@ returned d r = returned_in d r r.kind
 
 -- ---- expressions
 
--- What an expression says to the types, whether the root of the lvalue that it is is a name, its bytes where it is a string literal
--- (through parentheses, and calls of identity functions), and how many places it takes. `reach` is the address of an lvalue or
--- function, `run` its value, and `effect` what it does where its value isn't used.
+-- What an expression says to the types, whether the root of the lvalue that it is is a name, its bytes where it is a
+-- string literal (through parentheses, and calls of identity functions), and how many places it takes. `reach` is the
+-- address of an lvalue or function, `run` its value, and `effect` what it does where its value isn't used.
 pub record Part : Type 0 where
   pub typed : Typed
   pub rooted : Bool

@@ -1,4 +1,5 @@
--- Pointers moved, compared and subtracted (C99 6.5.6p7 to p9, 6.5.8p5, 6.5.9p6): undefined where an object is left, or two are mixed.
+-- Pointers moved, compared and subtracted (C99 6.5.6p7 to p9, 6.5.8p5, 6.5.9p6): undefined where an object is left, or
+-- two are mixed.
 use Rattle.std.specs.Prelude.{ℕ, zero, suc, ℤ, pos, negsuc, ◌+ℤ◌, ◌-ℤ◌, ◌*ℤ◌, int_div, Bool, cond, Result, Ok, Err}
 use Rattle.bit_words.specs.declared.run.Undefined.TheVariants.{PointerRange, PointerOrder}
 use Rattle.c_type_terms.specs.Integers.{number_of}
@@ -25,4 +26,5 @@ elements_in bytes (suc n) = int_div bytes (pos (suc n))
 
 -- how many elements of a size are between two addresses in, or one past, one live object (C99 6.5.6p9)
 abbrev pub apart : ℕ → ℕ → ℕ → ℕ → State → Outcome ℤ
-apart at size a b d = cond (in_one_object d.store a b) (Ok (elements_in (pos a -ℤ pos b) size, d)) (stop at PointerOrder d)
+apart at size a b d =
+    cond (in_one_object d.store a b) (Ok (elements_in (pos a -ℤ pos b) size, d)) (stop at PointerOrder d)

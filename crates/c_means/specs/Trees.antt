@@ -1,5 +1,5 @@
--- What the expressions of C do: one fold over the whole syntax. `part` is what an expression is worth in a scope; what declares, and
--- stands in expressions, says what it says to the types.
+-- What the expressions of C do: one fold over the whole syntax. `part` is what an expression is worth in a scope; what
+-- declares, and stands in expressions, says what it says to the types.
 use Rattle.std.specs.Prelude.{List, [], ◌∷◌, Option, Some, None}
 use Rattle.c_tree.specs.declared.expr.Declarator.{Declarator}
 use Rattle.c_tree.specs.declared.expr.Enumerator.{Enumerator}
@@ -10,13 +10,16 @@ use Rattle.c_tree.specs.declared.expr.Parameter.{Parameter}
 use Rattle.c_tree.specs.declared.expr.Specifier.{Specifier}
 use Rattle.c_tree.specs.declared.expr.TypeName.{TypeName}
 use Rattle.c_tree.specs.declared.expr.Declarator.TheOpen as open_
-use Rattle.c_tree.specs.Folds.{Algebra, ExprLayer, fold_declarator, fold_expr, fold_field, fold_specifier, fold_enumerator, fold_member, fold_parameter, fold_type_name}
+use Rattle.c_tree.specs.Folds.{Algebra, ExprLayer, fold_declarator, fold_expr, fold_field, fold_specifier}
+use Rattle.c_tree.specs.Folds.{fold_enumerator, fold_member, fold_parameter, fold_type_name}
 use Rattle.c_says.specs.Scopes.{Scope, look_up}
 use Rattle.c_says.specs.Typing.{Typed}
 use Rattle.c_says.specs.Declares.{Says, DeclaratorSays, NamedSays, TypeSays, Laying, FieldSays, Saying, Counting}
 use Rattle.c_says.specs.Trees.{saying}
 use Rattle.c_means.specs.Parts.{Part}
-use Rattle.c_means.specs.Expressions.{integer_constant, floating_constant, character_constant, string_literal, function_name, identifier, subscript, call, member, arrow, postfix, unary, size_of_expression, size_of_type, cast, binary, choice, assignment, comma}
+use Rattle.c_means.specs.Expressions.{integer_constant, floating_constant, character_constant, string_literal}
+use Rattle.c_means.specs.Expressions.{function_name, identifier, subscript, call, member, arrow, postfix, unary}
+use Rattle.c_means.specs.Expressions.{size_of_expression, size_of_type, cast, binary, choice, assignment, comma}
 
 -- what an expression is worth, by the names in force before it
 abbrev pub ExprMeans : Type 0
@@ -63,7 +66,8 @@ part_step (open_.Conditional at condition positive negative) s =
     let c = condition s in
     let x = positive c.typed.after in
     choice at c x (negative x.typed.after)
-part_step (open_.Assign at operator target value) s = let x = target s in assignment at operator x (value x.typed.after)
+part_step (open_.Assign at operator target value) s = let x =
+    target s in assignment at operator x (value x.typed.after)
 part_step (open_.Comma at left right) s = let x = left s in comma at x (right x.typed.after)
 
 abbrev pub meaning : Algebra (Says ExprMeans)

@@ -1,5 +1,5 @@
--- Values as whole numbers (C99 6.2.6, 6.3): of an integer type the number itself, of a pointer its address, of a structure or union the
--- number that its bytes spell, the least first.
+-- Values as whole numbers (C99 6.2.6, 6.3): of an integer type the number itself, of a pointer its address, of a
+-- structure or union the number that its bytes spell, the least first.
 use Rattle.std.specs.Prelude.{ℕ, ◌*◌, ◌/◌, ◌%◌, ◌^◌, ℤ, pos, Option, Some, None, unwrap_or, unsigned_abs}
 use Rattle.bit_words.specs.declared.width.Width.TheVariants as width
 use Rattle.bit_words.specs.Words.{word}
@@ -26,8 +26,8 @@ bytes_of tables (Some t) = unwrap_or (size_of tables t) 0
 abbrev pub address : ℤ → ℕ
 address z = word width.W64 z
 
--- Conversion to a type, as by a cast or an assignment (C99 6.3.1.2, 6.3.1.3, 6.3.2.2, 6.3.2.3): a void expression has no value, and
--- nothing but itself becomes a structure.
+-- Conversion to a type, as by a cast or an assignment (C99 6.3.1.2, 6.3.1.3, 6.3.2.2, 6.3.2.3): a void expression has
+-- no value, and nothing but itself becomes a structure.
 abbrev pub converted_to : Class → ℤ → ℤ
 converted_to (class.Integer kind) z = converted kind z
 converted_to class.Pointer z = pos (address z)
