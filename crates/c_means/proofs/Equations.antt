@@ -13,8 +13,6 @@ use Rattle.c_tree.specs.declared.expr.ArrayWord.{ArrayWord}
 use Rattle.c_tree.specs.declared.expr.TagName.{TagName}
 use Rattle.c_tree.specs.declared.expr.Expr.{Expr}
 use Rattle.c_tree.specs.declared.expr.Declarator.{Declarator}
-use Rattle.c_tree.specs.declared.expr.Field.{Field}
-use Rattle.c_tree.specs.declared.expr.Specifier.{Specifier}
 use Rattle.c_tree.specs.declared.expr.Enumerator.{Enumerator}
 use Rattle.c_tree.specs.declared.expr.MemberDeclaration.{MemberDeclaration}
 use Rattle.c_tree.specs.declared.expr.Parameter.{Parameter}
@@ -220,19 +218,28 @@ unfolding part declarator_said specifier_said field_said enumerator_said member_
 means-Enumerator x = eq.fold-Enumerator meaning x
 
 pub means-MemberDeclaration : (x : MemberDeclaration) → member_said x
-    ≡ member_step {E = ExprMeans} (record { specifiers = (map specifier_said x.specifiers); fields =
-    (map field_said x.fields) })
+    ≡ member_step {E = ExprMeans} (record {
+      specifiers = (map specifier_said x.specifiers);
+      fields =
+          (map field_said x.fields);
+    })
 unfolding part declarator_said specifier_said field_said enumerator_said member_said parameter_said type_name_said
 means-MemberDeclaration x = eq.fold-MemberDeclaration meaning x
 
 pub means-Parameter : (x : Parameter) → parameter_said x
-    ≡ parameter_step {E = ExprMeans} (record { specifiers = (map specifier_said x.specifiers); declarator =
-    (declarator_said x.declarator) })
+    ≡ parameter_step {E = ExprMeans} (record {
+      specifiers = (map specifier_said x.specifiers);
+      declarator =
+          (declarator_said x.declarator);
+    })
 unfolding part declarator_said specifier_said field_said enumerator_said member_said parameter_said type_name_said
 means-Parameter x = eq.fold-Parameter meaning x
 
 pub means-TypeName : (x : TypeName) → type_name_said x
-    ≡ type_name_step {E = ExprMeans} (record { specifiers = (map specifier_said x.specifiers); declarator =
-    (declarator_said x.declarator) })
+    ≡ type_name_step {E = ExprMeans} (record {
+      specifiers = (map specifier_said x.specifiers);
+      declarator =
+          (declarator_said x.declarator);
+    })
 unfolding part declarator_said specifier_said field_said enumerator_said member_said parameter_said type_name_said
 means-TypeName x = eq.fold-TypeName meaning x

@@ -1,31 +1,21 @@
 -- What the meaning of a tree says to the types is what the types say of the tree: one induction over all trees.
-use Rattle.std.proofs.Common.{◌≡◌, ℕ, ℤ, List, [], ◌∷◌, Option, Some, None, Bool, true, false, refl, sym, ap, ◌∙◌}
+use Rattle.std.proofs.Common.{◌≡◌, ℕ, List, [], ◌∷◌, Option, Some, None, Bool, true, false, refl, sym, ap, ◌∙◌}
 use Rattle.std.proofs.Math.Path.{fun_ext}
 use Rattle.std.specs.Prelude.{map, option_map}
-use Rattle.c_lexer.specs.declared.token.IntegerConstant.{IntegerConstant}
-use Rattle.c_tree.specs.declared.expr.AggregateKind.{AggregateKind}
 use Rattle.c_tree.specs.declared.expr.ArrayWord.{ArrayWord}
 use Rattle.c_tree.specs.declared.expr.BinaryOperator.{BinaryOperator}
 use Rattle.c_tree.specs.declared.expr.BinaryOperator.TheVariants as o
 use Rattle.c_tree.specs.declared.expr.Declarator.{Declarator}
 use Rattle.c_tree.specs.declared.expr.Declarator.TheOpen as open_
-use Rattle.c_tree.specs.declared.expr.Declarator.TheVariants as declarator
 use Rattle.c_tree.specs.declared.expr.Enumerator.{Enumerator}
 use Rattle.c_tree.specs.declared.expr.Expr.{Expr}
-use Rattle.c_tree.specs.declared.expr.Expr.TheVariants as expr
 use Rattle.c_tree.specs.declared.expr.Field.{Field}
-use Rattle.c_tree.specs.declared.expr.Field.TheVariants as field
 use Rattle.c_tree.specs.declared.expr.MemberDeclaration.{MemberDeclaration}
 use Rattle.c_tree.specs.declared.expr.Parameter.{Parameter}
 use Rattle.c_tree.specs.declared.expr.PostfixOperator.{PostfixOperator}
 use Rattle.c_tree.specs.declared.expr.PostfixOperator.TheVariants as postfix_
-use Rattle.c_tree.specs.declared.expr.Qualifier.{Qualifier}
 use Rattle.c_tree.specs.declared.expr.Specifier.{Specifier}
-use Rattle.c_tree.specs.declared.expr.Specifier.TheVariants as specifier
-use Rattle.c_tree.specs.declared.expr.StorageClass.{StorageClass}
-use Rattle.c_tree.specs.declared.expr.TagName.{TagName}
 use Rattle.c_tree.specs.declared.expr.TypeName.{TypeName}
-use Rattle.c_tree.specs.declared.expr.TypeWord.{TypeWord}
 use Rattle.c_tree.specs.declared.expr.UnaryOperator.{UnaryOperator}
 use Rattle.c_tree.specs.declared.expr.UnaryOperator.TheVariants as u
 use Rattle.c_tree.specs.Folds.{DeclaratorLayer, FieldLayer, SpecifierLayer, MemberDeclarationLayer, ParameterLayer}
@@ -40,7 +30,7 @@ use Rattle.c_says.specs.Typing.{Typed}
 use Rattle.c_says.specs.Typing as says
 use Rattle.c_says.specs.Declares.{Says, Counting, DeclaratorSays, FieldSays, NamedSays, Laying, Saying, TypeSays}
 use Rattle.c_says.specs.Declares.{declarator_step, field_step}
-use Rattle.c_says.specs.Declares.{specifier_step, enumerator_step, member_step, parameter_step, type_name_step}
+use Rattle.c_says.specs.Declares.{specifier_step, member_step, parameter_step, type_name_step}
 use Rattle.c_says.specs.Declares.{to_array, qualifiers_among, counted_by, enumerates_by, enumerates_typed}
 use Rattle.c_says.specs.Declares.{bits_declared, bits_wide}
 use Rattle.c_says.specs.Trees.{ExprSays, itself, typed, typed_step, declarator_says, specifier_says, field_says}
@@ -302,7 +292,7 @@ steps = record {
   on_specifier_enum_tag = λ at t. meaning.means-EnumTag at t ∙ fun_ext (λ x. refl) ∙ sym (types.says-EnumTag at t);
   on_specifier_enumeration = λ at t es b h. meaning.means-Enumeration at t es b
       ∙ fun_ext (λ x. ap (λ ys. specifiers (open_.Enumeration at t ys b) x)
-        (each_same enumerator_said enumerator_says es h))
+      (each_same enumerator_said enumerator_says es h))
       ∙ sym (types.says-Enumeration at t es b);
   on_field_plain = λ d h. meaning.means-Plain d
       ∙ fun_ext (λ t. fun_ext (λ x. ap (λ f. fields (open_.Plain f) t x) h))
@@ -323,25 +313,25 @@ steps = record {
   on_declarator_function = λ at d ps b hd hs. meaning.means-Function at d ps b
       ∙ fun_ext (λ s. ap (λ f. declarators (open_.Function at f (map parameter_said ps) b) s) hd
       ∙ ap (λ qs. declarators (open_.Function at (declarator_says d) qs b) s)
-        (each_same parameter_said parameter_says ps hs))
+      (each_same parameter_said parameter_says ps hs))
       ∙ sym (types.says-Function at d ps b);
   on_type_name = λ t hs hd. meaning.means-TypeName t
       ∙ fun_ext (λ s. ap (λ ss. type_names (record { specifiers = ss; declarator = declarator_said t.declarator }) s)
-        (each_same specifier_said specifier_says t.specifiers hs)
+      (each_same specifier_said specifier_says t.specifiers hs)
       ∙ ap (λ f. type_names (record { specifiers = map specifier_says t.specifiers; declarator = f }) s) hd)
       ∙ sym (types.says-TypeName t);
   on_member_declaration = λ m hs hf. meaning.means-MemberDeclaration m
       ∙ fun_ext (λ x. ap (λ ss. members (record { specifiers = ss; fields = map field_said m.fields }) x)
-        (each_same specifier_said specifier_says m.specifiers hs)
+      (each_same specifier_said specifier_says m.specifiers hs)
       ∙ ap (λ fs. members (record { specifiers = map specifier_says m.specifiers; fields = fs }) x)
-        (each_same field_said field_says m.fields hf))
+      (each_same field_said field_says m.fields hf))
       ∙ sym (types.says-MemberDeclaration m);
   on_enumerator = λ e h. meaning.means-Enumerator e
       ∙ fun_ext (enumerates_same e.at e.name e.value h)
       ∙ sym (types.says-Enumerator e);
   on_parameter = λ p hs hd. meaning.means-Parameter p
       ∙ fun_ext (λ s. ap (λ ss. parameters (record { specifiers = ss; declarator = declarator_said p.declarator }) s)
-        (each_same specifier_said specifier_says p.specifiers hs)
+      (each_same specifier_said specifier_says p.specifiers hs)
       ∙ ap (λ f. parameters (record { specifiers = map specifier_says p.specifiers; declarator = f }) s) hd)
       ∙ sym (types.says-Parameter p);
 }
@@ -350,24 +340,24 @@ steps = record {
 pub part_typed : (e : Expr) (s : Scope) → (part e s).typed ≡ typed e s
 part_typed e =
     of_expr SameDeclarator SameExpr SameField SameSpecifier SameEnumerator SameMember SameParameter SameTypeName
-      steps e
+    steps e
 
 pub type_name_same : (t : TypeName) → type_name_said t ≡ type_name_says t
 type_name_same t =
     of_type_name SameDeclarator SameExpr SameField SameSpecifier SameEnumerator SameMember SameParameter SameTypeName
-      steps t
+    steps t
 
 pub declarator_same : (d : Declarator) → declarator_said d ≡ declarator_says d
 declarator_same d =
     of_declarator SameDeclarator SameExpr SameField SameSpecifier SameEnumerator SameMember SameParameter SameTypeName
-      steps d
+    steps d
 
 pub specifier_same : (x : Specifier) → specifier_said x ≡ specifier_says x
 specifier_same x =
     of_specifier SameDeclarator SameExpr SameField SameSpecifier SameEnumerator SameMember SameParameter SameTypeName
-      steps x
+    steps x
 
 pub parameter_same : (p : Parameter) → parameter_said p ≡ parameter_says p
 parameter_same p =
     of_parameter SameDeclarator SameExpr SameField SameSpecifier SameEnumerator SameMember SameParameter SameTypeName
-      steps p
+    steps p

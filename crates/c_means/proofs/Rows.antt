@@ -1,7 +1,6 @@
 -- Worked rows: what expressions come to, in the scene of `Scene`.
 use Rattle.std.proofs.Common.{◌≡◌, ℕ, pos, [], ◌∷◌, Some, Err, ap}
 use Rattle.bit_words.specs.declared.run.Finish.TheVariants as finish
-use Rattle.bit_words.specs.declared.run.Happening.{Happening}
 use Rattle.bit_words.specs.declared.run.Happening.TheVariants as happening
 use Rattle.bit_words.specs.declared.run.Side.TheVariants as side
 use Rattle.bit_words.specs.declared.run.Undefined.TheVariants as undefined
@@ -10,16 +9,15 @@ use Rattle.c_tree.specs.declared.expr.UnaryOperator.TheVariants as u
 use Rattle.c_tree.specs.declared.expr.TypeWord.TheVariants as w
 use Rattle.c_type_terms.specs.Integers.{converted}
 use Rattle.c_type_terms.specs.Operators.{exact}
-use Rattle.c_says.specs.Declarations.{declaration_by}
 use Rattle.c_means.specs.declared.kind.Kind.TheVariants as kind
 use Rattle.c_means.specs.Trees.{part}
-use Rattle.c_means.proofs.Scene.{OfExpr, OfTypeName, a', b', c', e', f', h', k', m', n', p', q', r', s', t', u', v'}
+use Rattle.c_means.proofs.Scene.{OfExpr, OfTypeName, a', b', c', e', f', h', m', p', r', s', t', u', v'}
 use Rattle.c_means.proofs.Scene.{w', x', z'}
 use Rattle.c_means.proofs.Scene.{int, unsigned, text, the, op, un, minus, address, deref, element, dot, arrow, set}
 use Rattle.c_means.proofs.Scene.{set_at, set_by}
 use Rattle.c_means.proofs.Scene.{after_increment, after_decrement, ◌then◌, call, choice, word, omitted, pointer, type}
 use Rattle.c_means.proofs.Scene.{to, size_of, struct_s}
-use Rattle.c_means.proofs.Scene.{Found, found, done, gives, gives_less, stops, happens, printed_before, prints}
+use Rattle.c_means.proofs.Scene.{found, done, gives, gives_less, stops, happens, printed_before, prints}
 
 -- ---- spelling
 

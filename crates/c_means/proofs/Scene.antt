@@ -1,6 +1,6 @@
 -- The scene of the worked rows: some objects and functions of a file, how trees over them are spelled, and what they
 -- come to. Each object has the number of its declaration's offset, a literal that of its own offset.
-use Rattle.std.proofs.Common.{ℕ, ◌+◌, ℤ, pos, negsuc, List, [], ◌∷◌, Bool, true, false, cond, Option, Some, None}
+use Rattle.std.proofs.Common.{ℕ, ◌+◌, ℤ, pos, negsuc, List, [], ◌∷◌, false, cond, Option, Some, None}
 use Rattle.std.proofs.Common.{Result, Ok, Err}
 use Rattle.std.specs.Str.{bytes_eq}
 use Rattle.bit_words.specs.declared.run.Event.{Event}
@@ -15,7 +15,7 @@ use Rattle.c_tree.specs.declared.expr.UnaryOperator.{UnaryOperator}
 use Rattle.c_tree.specs.declared.expr.UnaryOperator.TheVariants as u
 use Rattle.c_tree.specs.declared.expr.TypeWord.{TypeWord}
 use Rattle.c_tree.specs.declared.expr.TypeWord.TheVariants as w
-use Rattle.c_tree.specs.Folds.{fold_expr, fold_declarator, fold_specifier, fold_member, fold_type_name, fold_parameter}
+use Rattle.c_tree.specs.Folds.{fold_expr, fold_declarator, fold_specifier, fold_member, fold_type_name}
 use Rattle.c_store.specs.declared.object.Object.{Object}
 use Rattle.c_store.specs.declared.object.ObjectKind.{ObjectKind}
 use Rattle.c_store.specs.declared.object.ObjectKind.TheVariants as object
@@ -28,7 +28,7 @@ use Rattle.c_says.proofs.Built.{Built}
 use Rattle.c_says.proofs.Built as built
 use Rattle.c_means.specs.declared.kind.Kind.{Kind}
 use Rattle.c_means.specs.declared.kind.Kind.TheVariants as kind
-use Rattle.c_means.specs.Parts.{State, Outcome, Env, Calls, Level, Limits, World, Part, Site, entered, print}
+use Rattle.c_means.specs.Parts.{State, Outcome, Env, Calls, Level, entered, print}
 use Rattle.c_means.specs.Trees.{ExprMeans, meaning}
 
 abbrev pub OfExpr : Type 0
@@ -205,8 +205,8 @@ field t d = built.member_declaration meaning (t ∷ []) (built.plain meaning d �
 -- struct s { int a; int b; char t[4]; }
 abbrev structure : OfSpecifier
 structure = built.aggregate meaning 0 kind_.Struct (Some (record { at = 0; name = s' }))
-    (   field (word w.Int) (built.named meaning 0 a') ∷ field (word w.Int) (built.named meaning 0 b')
-      ∷ field (word w.Char) (array 4 (built.named meaning 0 t')) ∷ [])
+    (field (word w.Int) (built.named meaning 0 a') ∷ field (word w.Int) (built.named meaning 0 b')
+    ∷ field (word w.Char) (array 4 (built.named meaning 0 t')) ∷ [])
 
 abbrev pub struct_s : OfSpecifier
 struct_s = built.tag meaning 0 kind_.Struct (record { at = 0; name = s' })
@@ -223,24 +223,24 @@ taking t d = built.function meaning 0 d (built.parameter meaning (t ∷ []) omit
 -- unsigned n; char *q; struct s *r; short h[3][2]; union { .. } v; char w[16]; void z(int); long k;
 abbrev pub file : Scope
 file =
-      declare 18 k' (word w.Long ∷ []) plain
-    ( declare 17 z' (word w.Void ∷ []) (taking (word w.Int))
-    ( declare 16 w' (word w.Char ∷ []) (array 16)
-    ( declare 15 v' (overlay ∷ []) plain
-    ( declare 14 h' (word w.Short ∷ []) (λ d. array 2 (array 3 d))
-    ( declare 13 r' (struct_s ∷ []) pointer
-    ( declare 12 q' (word w.Char ∷ []) pointer
-    ( declare 11 n' (word w.Unsigned ∷ []) plain
-    ( declare 10 e' (word w.Void ∷ []) (taking (word w.Void))
-    ( declare 9 m' (word w.Int ∷ []) (taking (word w.Void))
-    ( declare 8 f' (word w.Int ∷ []) (taking (word w.Int))
-    ( declare 7 u' (struct_s ∷ []) plain
-    ( declare 6 s' (structure ∷ []) plain
-    ( declare 5 p' (word w.Int ∷ []) pointer
-    ( declare 4 b' (word w.Bool ∷ []) plain
-    ( declare 3 c' (word w.Char ∷ []) plain
-    ( declare 2 a' (word w.Int ∷ []) (array 4)
-    ( declare 1 x' (word w.Int ∷ []) plain empty)))))))))))))))))
+    declare 18 k' (word w.Long ∷ []) plain
+    (declare 17 z' (word w.Void ∷ []) (taking (word w.Int))
+    (declare 16 w' (word w.Char ∷ []) (array 16)
+    (declare 15 v' (overlay ∷ []) plain
+    (declare 14 h' (word w.Short ∷ []) (λ d. array 2 (array 3 d))
+    (declare 13 r' (struct_s ∷ []) pointer
+    (declare 12 q' (word w.Char ∷ []) pointer
+    (declare 11 n' (word w.Unsigned ∷ []) plain
+    (declare 10 e' (word w.Void ∷ []) (taking (word w.Void))
+    (declare 9 m' (word w.Int ∷ []) (taking (word w.Void))
+    (declare 8 f' (word w.Int ∷ []) (taking (word w.Int))
+    (declare 7 u' (struct_s ∷ []) plain
+    (declare 6 s' (structure ∷ []) plain
+    (declare 5 p' (word w.Int ∷ []) pointer
+    (declare 4 b' (word w.Bool ∷ []) plain
+    (declare 3 c' (word w.Char ∷ []) plain
+    (declare 2 a' (word w.Int ∷ []) (array 4)
+    (declare 1 x' (word w.Int ∷ []) plain empty)))))))))))))))))
 
 abbrev of_size : ObjectKind → ℕ → Object
 of_size what size = record { kind = what; size = size }
@@ -248,13 +248,13 @@ of_size what size = record { kind = what; size = size }
 -- the objects of the file, and the literals that stand at 200 and 201, of two bytes and the last, 0
 abbrev pub store : Store
 store =
-      make 201 (of_size object.Literal 3) (make 200 (of_size object.Literal 3)
-    ( make 18 (of_size object.Static 8) (make 16 (of_size object.Static 16) (make 15 (of_size object.Static 4)
-    ( make 14 (of_size object.Static 12) (make 13 (of_size object.Static 8) (make 12 (of_size object.Static 8)
-    ( make 11 (of_size object.Static 4) (make 8 (of_size object.Static 0) (make 7 (of_size object.Static 12)
-    ( make 6 (of_size object.Static 12) (make 5 (of_size object.Static 8) (make 4 (of_size object.Static 1)
-    ( make 3 (of_size object.Static 1) (make 2 (of_size object.Static 16) (make 1 (of_size object.Static 4)
-    ( initial (λ _. 0))))))))))))))))))
+    make 201 (of_size object.Literal 3) (make 200 (of_size object.Literal 3)
+    (make 18 (of_size object.Static 8) (make 16 (of_size object.Static 16) (make 15 (of_size object.Static 4)
+    (make 14 (of_size object.Static 12) (make 13 (of_size object.Static 8) (make 12 (of_size object.Static 8)
+    (make 11 (of_size object.Static 4) (make 8 (of_size object.Static 0) (make 7 (of_size object.Static 12)
+    (make 6 (of_size object.Static 12) (make 5 (of_size object.Static 8) (make 4 (of_size object.Static 1)
+    (make 3 (of_size object.Static 1) (make 2 (of_size object.Static 16) (make 1 (of_size object.Static 4)
+    (initial (λ _. 0))))))))))))))))))
 
 -- ---- what calls do here: `f` gives its argument back, `m` reaches its `}` without a value, `z` ends the run, and the
 -- others print A
@@ -267,8 +267,8 @@ abbrev pub calls : Calls
 calls g env vs base s count =
     let d = entered s count in
     cond (bytes_eq g.callee.name f') (record d { value = Some (first vs) })
-      (cond (bytes_eq g.callee.name m') d
-      (cond (bytes_eq g.callee.name z') (record d { kind = kind.Ended (finish.Exit (first vs)) }) (print (65 ∷ []) d)))
+    (cond (bytes_eq g.callee.name m') d
+    (cond (bytes_eq g.callee.name z') (record d { kind = kind.Ended (finish.Exit (first vs)) }) (print (65 ∷ []) d)))
 
 abbrev pub level : Level
 level = record {

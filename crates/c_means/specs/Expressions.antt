@@ -1,8 +1,7 @@
 -- What an expression does (C99 6.5): one function a form, over what its parts do, from left to right.
 use Rattle.std.specs.Prelude.{ℕ, ◌+◌, ◌%◌, ◌^◌, ℤ, pos, Bool, true, false, cond, not, List, [], ◌∷◌, ◌++◌, Option}
-use Rattle.std.specs.Prelude.{Some, None, Result, Ok, Err, slice_get, unwrap_or, unsigned_abs}
+use Rattle.std.specs.Prelude.{Some, None, Ok, slice_get, unwrap_or, unsigned_abs}
 use Rattle.bit_words.specs.declared.run.Undefined.TheVariants.{MissingValue}
-use Rattle.bit_words.specs.declared.run.Side.{Side}
 use Rattle.bit_words.specs.declared.run.Side.TheVariants as side
 use Rattle.bit_words.specs.declared.run.Happening.TheVariants as happening
 use Rattle.c_lexer.specs.declared.token.IntegerConstant.{IntegerConstant}
@@ -180,7 +179,7 @@ behind offset a = (a + offset) % 2 ^ 64
 abbrev pub part_of_value : ℕ → Typed → ℤ → ℤ
 part_of_value offset x z =
     value_of_bytes (class_in (type_of x))
-      (bytes_within offset (bytes_of x.after.tables (type_of x)) (unsigned_abs z))
+    (bytes_within offset (bytes_of x.after.tables (type_of x)) (unsigned_abs z))
 
 -- C99 6.5.2.3p3: of an lvalue the bytes in it, which has the same root; else some bytes of the value
 abbrev pub member_of_lvalue : ℕ → Typed → Part → Part
@@ -206,7 +205,7 @@ is_lvalue (Some x) = x.is_lvalue
 abbrev pub member : ℕ → Name → Part → Part
 member at name p =
     member_by (is_lvalue p.typed.shown) (offset_of p.typed.after.tables (type_of p.typed) name)
-      (says.member at name p.typed) p
+    (says.member at name p.typed) p
 
 -- C99 6.5.2.3p4
 abbrev pub arrow : ℕ → Name → Part → Part
@@ -508,4 +507,4 @@ designated (Some x) = x.designates
 abbrev pub call : ℕ → Part → List Part → Scope → Part
 call at f ps s =
     call_of (designated f.typed.shown) f.typed (says.call at f.typed (says.arguments_of (all_typed ps)) s)
-      (passed ps (parameters_of s.tables (type_of f.typed)))
+    (passed ps (parameters_of s.tables (type_of f.typed)))

@@ -4,7 +4,7 @@
 -- An lvalue whose root is a name is an object that lives, so it is accessed without a test. Any other may be of no
 -- live object, which is undefined at the lvalue's own token, or of a string literal, to write which is undefined at
 -- the operator that writes.
-use Rattle.std.specs.Prelude.{ℕ, ℤ, pos, Bool, true, false, cond, not, ◌||◌, Option, Result, Ok, Err}
+use Rattle.std.specs.Prelude.{ℕ, ℤ, pos, Bool, true, false, cond, not, ◌||◌, Ok}
 use Rattle.bit_words.specs.declared.run.Undefined.TheVariants.{Dereference, LiteralWrite}
 use Rattle.c_type_terms.specs.declared.class.Class.{Class}
 use Rattle.c_type_terms.specs.declared.class.Class.TheVariants as class
@@ -44,10 +44,10 @@ load x rooted a d = load_as (class_in (type_of x)) (bytes_of x.after.tables (typ
 abbrev pub put_as : Class → ℕ → ℕ → ℕ → Bool → ℕ → ℤ → State → Outcome ℤ
 put_as c n at operator rooted a z d =
     cond (rooted || can_access d.store a n)
-      (cond (rooted || can_write d.store a n)
-        (Ok (z, with_store (write n a (bytes_of_value c z) d.store) d))
-        (stop operator LiteralWrite d))
-      (stop at Dereference d)
+    (cond (rooted || can_write d.store a n)
+    (Ok (z, with_store (write n a (bytes_of_value c z) d.store) d))
+    (stop operator LiteralWrite d))
+    (stop at Dereference d)
 
 -- A value is converted to the type of an lvalue and stored at its address, by the operator that stands at a token; the
 -- value is the one that was stored (C99 6.5.16p3, 6.5.16.1p2).

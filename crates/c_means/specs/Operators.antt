@@ -1,11 +1,10 @@
 -- Operators on values (C99 6.5.3.3, 6.5.5 to 6.5.12): the value, or the undefined kind that is met, at the operator's
 -- token.
 use Rattle.std.specs.Prelude.{ℕ, ℤ, pos, neg_ℤ, nat_eq, nat_le, nat_lt, Bool, true, false, cond, not, Option, Some}
-use Rattle.std.specs.Prelude.{None, Result, Ok, Err}
+use Rattle.std.specs.Prelude.{None, Ok}
 use Rattle.c_tree.specs.declared.expr.BinaryOperator.{BinaryOperator}
 use Rattle.c_tree.specs.declared.expr.BinaryOperator.TheVariants as o
 use Rattle.c_tree.specs.declared.expr.UnaryOperator.{UnaryOperator}
-use Rattle.c_tree.specs.declared.expr.UnaryOperator.TheVariants as u
 use Rattle.c_type_terms.specs.declared.ctype.CType.{CType}
 use Rattle.c_type_terms.specs.declared.ctype.IntegerKind.{IntegerKind}
 use Rattle.c_type_terms.specs.declared.ctype.IntegerKind.TheVariants as k
@@ -97,7 +96,7 @@ relation at op order x y d =
 abbrev pub equality : ℕ → BinaryOperator → (ℕ → ℕ → Bool) → Operand → Operand → State → Outcome ℤ
 equality at op same x y d =
     cond (are_integers x.kind y.kind) (arithmetic at op x y d)
-      (Ok (number_of (same (address x.value) (address y.value)), d))
+    (Ok (number_of (same (address x.value) (address y.value)), d))
 
 -- The binary operators whose operands are both evaluated: `&&` and `||`, which stand last, have a meaning of their
 -- own.

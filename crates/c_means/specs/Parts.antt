@@ -1,10 +1,8 @@
 -- What parts of a program are worth: states and how they follow one another, `Level`, in which a function runs, and
 -- `Part`, what an expression says, where its places lie, and what it does.
-use Rattle.std.specs.Prelude.{ℕ, ◌+◌, ℤ, pos, Bool, List, [], ◌∷◌, ◌++◌, length, Option, Some, None, Result, Ok, Err}
+use Rattle.std.specs.Prelude.{ℕ, ◌+◌, ℤ, pos, Bool, List, [], ◌∷◌, ◌++◌, length, Option, None, Result, Ok, Err}
 use Rattle.bit_words.specs.declared.run.Undefined.{Undefined}
-use Rattle.bit_words.specs.declared.run.Side.{Side}
 use Rattle.bit_words.specs.declared.run.Happening.{Happening}
-use Rattle.bit_words.specs.declared.run.Happening.TheVariants as happening
 use Rattle.bit_words.specs.declared.run.Event.{Event}
 use Rattle.bit_words.specs.declared.run.Finish.{Finish}
 use Rattle.bit_words.specs.declared.run.Finish.TheVariants as finish
@@ -130,8 +128,13 @@ pub record Level : Type 0 where
 
 -- the caller goes on behind what was called, with its output and events behind its own
 abbrev pub resumed : State → State → State
-resumed d r = record d { store = r.store; count = r.count; printed = d.printed ++ r.printed; events =
-    d.events ++ r.events }
+resumed d r = record d {
+  store = r.store;
+  count = r.count;
+  printed = d.printed ++ r.printed;
+  events =
+      d.events ++ r.events;
+}
 
 abbrev pub returned_in : State → State → Kind → Outcome (Option ℤ)
 returned_in d r (kind.Ended f) = ended f (resumed d r)

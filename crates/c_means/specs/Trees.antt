@@ -1,6 +1,6 @@
 -- What the expressions of C do: one fold over the whole syntax. `part` is what an expression is worth in a scope; what
 -- declares, and stands in expressions, says what it says to the types.
-use Rattle.std.specs.Prelude.{List, [], ◌∷◌, Option, Some, None}
+use Rattle.std.specs.Prelude.{List, [], ◌∷◌}
 use Rattle.c_tree.specs.declared.expr.Declarator.{Declarator}
 use Rattle.c_tree.specs.declared.expr.Enumerator.{Enumerator}
 use Rattle.c_tree.specs.declared.expr.Expr.{Expr}

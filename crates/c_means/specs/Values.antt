@@ -1,12 +1,11 @@
 -- Values as whole numbers (C99 6.2.6, 6.3): of an integer type the number itself, of a pointer its address, of a
 -- structure or union the number that its bytes spell, the least first.
-use Rattle.std.specs.Prelude.{ℕ, ◌*◌, ◌/◌, ◌%◌, ◌^◌, ℤ, pos, Option, Some, None, unwrap_or, unsigned_abs}
+use Rattle.std.specs.Prelude.{ℕ, ◌/◌, ◌%◌, ◌^◌, ℤ, pos, Option, Some, None, unwrap_or, unsigned_abs}
 use Rattle.bit_words.specs.declared.width.Width.TheVariants as width
 use Rattle.bit_words.specs.Words.{word}
 use Rattle.c_type_terms.specs.declared.class.Class.{Class}
 use Rattle.c_type_terms.specs.declared.class.Class.TheVariants as class
 use Rattle.c_type_terms.specs.declared.ctype.CType.{CType}
-use Rattle.c_type_terms.specs.declared.ctype.IntegerKind.{IntegerKind}
 use Rattle.c_type_terms.specs.declared.tables.Tables.{Tables}
 use Rattle.c_type_terms.specs.Types.{class_of}
 use Rattle.c_type_terms.specs.Integers.{width_of, value_of_word, converted}
