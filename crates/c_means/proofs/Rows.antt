@@ -1,6 +1,7 @@
 -- Worked rows: what expressions come to, in the scene of `Scene`.
-use Rattle.std.proofs.Common.{◌≡◌, ℕ, pos, [], ◌∷◌, Some, Err, ap}
+use Rattle.std.proofs.Common.{◌≡◌, ℕ, pos, [], ◌∷◌, Some, None, Err, ap}
 use Rattle.bit_words.specs.declared.run.Finish.TheVariants as finish
+use Rattle.bit_words.specs.declared.run.Happening.{Happening}
 use Rattle.bit_words.specs.declared.run.Happening.TheVariants as happening
 use Rattle.bit_words.specs.declared.run.Side.TheVariants as side
 use Rattle.bit_words.specs.declared.run.Undefined.TheVariants as undefined
@@ -9,15 +10,18 @@ use Rattle.c_tree.specs.declared.expr.UnaryOperator.TheVariants as u
 use Rattle.c_tree.specs.declared.expr.TypeWord.TheVariants as w
 use Rattle.c_type_terms.specs.Integers.{converted}
 use Rattle.c_type_terms.specs.Operators.{exact}
+use Rattle.c_says.specs.Declarations.{declaration_by}
 use Rattle.c_means.specs.declared.kind.Kind.TheVariants as kind
-use Rattle.c_means.specs.Trees.{part}
-use Rattle.c_means.proofs.Scene.{OfExpr, OfTypeName, a', b', c', e', f', h', m', p', r', s', t', u', v'}
-use Rattle.c_means.proofs.Scene.{w', x', z'}
+use Rattle.c_says.proofs.Built as built
+use Rattle.c_means.specs.Trees.{part, meaning}
+use Rattle.c_means.proofs.Scene.{OfExpr, OfTypeName, a', b', c', e', f', g', h', m', p', r', s', t', u', v', w', x'}
+use Rattle.c_means.proofs.Scene.{y', z'}
 use Rattle.c_means.proofs.Scene.{int, unsigned, text, the, op, un, minus, address, deref, element, dot, arrow, set}
 use Rattle.c_means.proofs.Scene.{set_at, set_by}
 use Rattle.c_means.proofs.Scene.{after_increment, after_decrement, ◌then◌, call, choice, word, omitted, pointer, type}
-use Rattle.c_means.proofs.Scene.{to, size_of, struct_s}
-use Rattle.c_means.proofs.Scene.{found, done, gives, gives_less, stops, happens, printed_before, prints}
+use Rattle.c_means.proofs.Scene.{to, size_of, struct_s, grouped}
+use Rattle.c_means.proofs.Scene.{Found, found, found_in, block, done, text_of, gives, gives_less, stops, happens}
+use Rattle.c_means.proofs.Scene.{printed_before, prints}
 
 -- ---- spelling
 
@@ -29,6 +33,9 @@ char_type = type (word w.Char ∷ []) omitted
 
 abbrev unsigned_char_type : OfTypeName
 unsigned_char_type = type (word w.Unsigned ∷ word w.Char ∷ []) omitted
+
+abbrev long_type : OfTypeName
+long_type = type (word w.Long ∷ []) omitted
 
 abbrev void_type : OfTypeName
 void_type = type (word w.Void ∷ []) omitted
@@ -946,3 +953,111 @@ function_address = op 9 o.Equal (the f') (deref 7 (the f'))
 pub row_function_address : found (part function_address.tree) ≡ gives 1
 unfolding part converted exact
 row_function_address = ap found function_address.is
+
+-- ---- places
+
+-- y() + y() * 1000
+abbrev places_of_operands : OfExpr
+places_of_operands = op 9 o.Add (call 1 y' []) (op 8 o.Multiply (call 2 y' []) (int 1000))
+
+pub row_places_of_operands : found (part places_of_operands.tree) ≡ gives 104100
+unfolding part converted exact
+row_places_of_operands = ap found places_of_operands.is
+
+-- f(y()), y()
+abbrev places_of_arguments : OfExpr
+places_of_arguments = call 1 f' (call 2 y' [] ∷ []) then call 3 y' []
+
+pub row_places_of_arguments : found (part places_of_arguments.tree) ≡ gives 108
+unfolding part converted exact
+row_places_of_arguments = ap found places_of_arguments.is
+
+-- x ? y() : y()
+abbrev places_of_what_is_skipped : OfExpr
+places_of_what_is_skipped = choice 9 x (call 1 y' []) (call 2 y' [])
+
+pub row_places_of_what_is_skipped : found (part places_of_what_is_skipped.tree) ≡ gives 104
+unfolding part converted exact
+row_places_of_what_is_skipped = ap found places_of_what_is_skipped.is
+
+-- x || y() == 100
+abbrev places_of_right_operand : OfExpr
+places_of_right_operand = op 9 o.LogicalOr x (op 8 o.Equal (call 1 y' []) (int 100))
+
+pub row_places_of_right_operand : found (part places_of_right_operand.tree) ≡ gives 1
+unfolding part converted exact
+row_places_of_right_operand = ap found places_of_right_operand.is
+
+-- sizeof y(), y()
+abbrev size_of_takes_no_place : OfExpr
+size_of_takes_no_place = size_of (call 1 y' []) then call 2 y' []
+
+pub row_size_of_takes_no_place : found (part size_of_takes_no_place.tree) ≡ gives 100
+unfolding part converted exact
+row_size_of_takes_no_place = ap found size_of_takes_no_place.is
+
+-- a[y() - 100] = y()
+abbrev places_of_target : OfExpr
+places_of_target = set (element 0 (the a') (op 0 o.Subtract (call 1 y' []) (int 100))) (call 2 y' [])
+
+pub row_places_of_target : found (part places_of_target.tree) ≡ gives 104
+unfolding part converted exact
+row_places_of_target = ap found places_of_target.is
+
+-- ---- names and literals
+
+-- g + 1
+abbrev enumeration_constant : OfExpr
+enumeration_constant = op 9 o.Add (the g') (int 1)
+
+pub row_enumeration_constant : found (part enumeration_constant.tree) ≡ gives 8
+unfolding part converted exact
+row_enumeration_constant = ap found enumeration_constant.is
+
+-- (long)&x
+abbrev object_of_file : OfExpr
+object_of_file = to long_type (address x)
+
+pub row_object_of_file : found (part object_of_file.tree) ≡ gives 4294967296
+unfolding part converted exact
+row_object_of_file = ap found object_of_file.is
+
+-- (long)&x, in the block
+abbrev object_of_block : OfExpr
+object_of_block = to long_type (address x)
+
+pub row_object_of_block : found_in block (part object_of_block.tree) ≡ gives 1460288880640
+unfolding part converted exact
+row_object_of_block = ap (found_in block) object_of_block.is
+
+-- sizeof __func__, in the block
+abbrev name_of_function : OfExpr
+name_of_function = size_of (built.function_name meaning 50)
+
+pub row_name_of_function : found_in block (part name_of_function.tree) ≡ gives 2
+unfolding part converted exact
+row_name_of_function = ap (found_in block) name_of_function.is
+
+-- ("ab")
+abbrev text_in_parentheses : OfExpr
+text_in_parentheses = grouped (text 200 (97 ∷ 98 ∷ []))
+
+pub row_text_in_parentheses : text_of (part text_in_parentheses.tree) ≡ Some (97 ∷ 98 ∷ [])
+unfolding part converted exact
+row_text_in_parentheses = ap text_of text_in_parentheses.is
+
+-- f("ab")
+abbrev text_of_identity : OfExpr
+text_of_identity = call 1 f' (text 200 (97 ∷ 98 ∷ []) ∷ [])
+
+pub row_text_of_identity : text_of (part text_of_identity.tree) ≡ Some (97 ∷ 98 ∷ [])
+unfolding part converted exact
+row_text_of_identity = ap text_of text_of_identity.is
+
+-- z("ab")
+abbrev text_of_another_call : OfExpr
+text_of_another_call = call 1 z' (text 200 (97 ∷ 98 ∷ []) ∷ [])
+
+pub row_text_of_another_call : text_of (part text_of_another_call.tree) ≡ None
+unfolding part converted exact
+row_text_of_another_call = ap text_of text_of_another_call.is
