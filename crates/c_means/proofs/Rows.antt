@@ -1,26 +1,30 @@
 -- Worked rows: what expressions come to, in the scene of `Scene`.
 use Rattle.std.proofs.Common.{◌≡◌, ℕ, pos, [], ◌∷◌, Some, None, Err, ap}
 use Rattle.bit_words.specs.declared.run.Finish.TheVariants as finish
-use Rattle.bit_words.specs.declared.run.Happening.{Happening}
 use Rattle.bit_words.specs.declared.run.Happening.TheVariants as happening
 use Rattle.bit_words.specs.declared.run.Side.TheVariants as side
 use Rattle.bit_words.specs.declared.run.Undefined.TheVariants as undefined
+use Rattle.c_tree.specs.declared.expr.AggregateKind.TheVariants as aggregate_kind
 use Rattle.c_tree.specs.declared.expr.BinaryOperator.TheVariants as o
+use Rattle.c_tree.specs.declared.expr.TagName.{TagName}
+use Rattle.c_tree.specs.Folds.{fold_field}
+use Rattle.c_says.specs.Scopes.{Name}
+use Rattle.c_says.specs.Declares.{Says}
+use Rattle.c_says.proofs.Built.{Built}
 use Rattle.c_tree.specs.declared.expr.UnaryOperator.TheVariants as u
 use Rattle.c_tree.specs.declared.expr.TypeWord.TheVariants as w
 use Rattle.c_type_terms.specs.Integers.{converted}
 use Rattle.c_type_terms.specs.Operators.{exact}
-use Rattle.c_says.specs.Declarations.{declaration_by}
 use Rattle.c_means.specs.declared.kind.Kind.TheVariants as kind
 use Rattle.c_says.proofs.Built as built
-use Rattle.c_means.specs.Trees.{part, meaning}
-use Rattle.c_means.proofs.Scene.{OfExpr, OfTypeName, a', b', c', e', f', g', h', m', p', r', s', t', u', v', w', x'}
-use Rattle.c_means.proofs.Scene.{y', z'}
+use Rattle.c_means.specs.Trees.{ExprMeans, part, meaning}
+use Rattle.c_means.proofs.Scene.{OfExpr, OfMember, OfTypeName, a', b', c', e', f', g', h', m', p', r', s', t', u', v'}
+use Rattle.c_means.proofs.Scene.{w', x', y', z'}
 use Rattle.c_means.proofs.Scene.{int, unsigned, text, the, op, un, minus, address, deref, element, dot, arrow, set}
 use Rattle.c_means.proofs.Scene.{set_at, set_by}
 use Rattle.c_means.proofs.Scene.{after_increment, after_decrement, ◌then◌, call, choice, word, omitted, pointer, type}
 use Rattle.c_means.proofs.Scene.{to, size_of, struct_s, grouped}
-use Rattle.c_means.proofs.Scene.{Found, found, found_in, block, done, text_of, gives, gives_less, stops, happens}
+use Rattle.c_means.proofs.Scene.{found, found_in, block, done, text_of, gives, gives_less, stops, happens}
 use Rattle.c_means.proofs.Scene.{printed_before, prints}
 
 -- ---- spelling
@@ -51,6 +55,21 @@ int_pointer = type (word w.Int ∷ []) (pointer omitted)
 
 abbrev struct_pointer : OfTypeName
 struct_pointer = type (struct_s ∷ []) (pointer omitted)
+
+abbrev b_tag : TagName
+b_tag = record { at = 0; name = b' }
+
+abbrev b_pointer : OfTypeName
+b_pointer = type (built.tag meaning 0 aggregate_kind.Struct b_tag ∷ []) (pointer omitted)
+
+abbrev b_type : OfTypeName
+b_type = type (built.aggregate meaning 0 aggregate_kind.Struct (Some b_tag) (chars ∷ []) ∷ []) omitted
+  where
+    chars : OfMember
+    chars = built.member_declaration meaning (word w.Char ∷ []) (named a' ∷ named b' ∷ named c' ∷ [])
+      where
+        named : Name → Built (fold_field {c = Says ExprMeans} meaning)
+        named n = built.plain meaning (built.named meaning 0 n)
 
 abbrev x : OfExpr
 x = the x'
@@ -481,6 +500,15 @@ rows_of_arrays = set (element 3 (element 2 (the h') (int 1)) (int 2)) (int 7)
 pub row_rows_of_arrays : found (part rows_of_arrays.tree) ≡ gives 7
 unfolding part converted exact
 row_rows_of_arrays = ap found rows_of_arrays.is
+
+-- (char *)((struct b *)w + sizeof (struct b { char a; char b; char c; })) - w
+abbrev completed_behind : OfExpr
+completed_behind =
+    op 9 o.Subtract (to char_pointer (op 8 o.Add (to b_pointer (the w')) (built.sizeof_type meaning 0 b_type))) (the w')
+
+pub row_completed_behind : found (part completed_behind.tree) ≡ gives 9
+unfolding part converted exact
+row_completed_behind = ap found completed_behind.is
 
 -- ---- null, and what is no pointer to a live object
 

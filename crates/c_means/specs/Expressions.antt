@@ -37,7 +37,7 @@ use Rattle.c_says.specs.declared.scope.Fault.{Fault}
 use Rattle.c_means.specs.Parts.{State, Outcome, Env, Run, Level, Site, Part, ◌>>=◌, note, stop, refused, returned}
 use Rattle.c_means.specs.Values.{address, class_in, bytes_of, bytes_within, converted_to, value_of_bytes}
 use Rattle.c_means.specs.Objects.{load, put}
-use Rattle.c_means.specs.Operators.{Operand, operand, one, value_type, target_in, addition, operated, turned_value}
+use Rattle.c_means.specs.Operators.{Operand, operand, one, value_type, target_in, operated, operated_on, turned_value}
 use Rattle.c_means.specs.Operators.{negated}
 
 -- ---- kinds of parts
@@ -158,7 +158,7 @@ abbrev pub subscript : ℕ → Part → Part → Part
 subscript at x y = placed (says.subscript at x.typed y.typed) false (both_rooms x y)
     (λ l env base d. do
       v ← both_run x y l env base d
-      a ← addition at (operand x.typed v.0.0) (operand y.typed v.0.1) v.1
+      a ← operated_on at o.Add x.typed y.typed v.0.0 v.0.1 v.1
       Ok (address a.0, a.1))
 
 -- ---- members (C99 6.5.2.3)
@@ -220,8 +220,8 @@ abbrev pub stepped : ℕ → BinaryOperator → Part → Level → Run (ℤ × �
 stepped at op x l env base d = do
   a ← x.reach l env base d
   v ← load x.typed x.rooted a.0 a.1
-  w ← operated at op (operand x.typed v.0) one v.1
-  z ← put at x.typed x.rooted a.0 w.0 w.1
+  w ← operated at op (operand x.typed.after.tables x.typed v.0) one v.1
+  z ← put at x.typed.after.tables x.typed x.rooted a.0 w.0 w.1
   Ok ((v.0, z.0), z.1)
 
 abbrev pub postfix_by : ℕ → BinaryOperator → Part → Part
@@ -261,7 +261,7 @@ abbrev pub on_value : ℕ → UnaryOperator → (Operand → State → Outcome �
 on_value at operator f x = valued (says.unary at operator x.typed) x.room
     (λ l env base d. do
       v ← x.run l env base d
-      f (operand x.typed v.0) v.1)
+      f (operand x.typed.after.tables x.typed v.0) v.1)
 
 abbrev pub unary : ℕ → UnaryOperator → Part → Part
 unary at u.Address x = address_of at x
@@ -306,7 +306,7 @@ abbrev pub both_evaluated : ℕ → BinaryOperator → Part → Part → Part
 both_evaluated at op x y = valued (says.binary at op x.typed y.typed) (both_rooms x y)
     (λ l env base d. do
       v ← both_run x y l env base d
-      operated at op (operand x.typed v.0.0) (operand y.typed v.0.1) v.1)
+      operated_on at op x.typed y.typed v.0.0 v.0.1 v.1)
 
 -- a value is taken as a condition, and the branch is noted
 abbrev pub on_branch : {A : Type 0} → ℕ → ℤ → (Bool → State → A) → State → A
@@ -366,7 +366,7 @@ abbrev pub simple : ℕ → Part → Part → Level → Run ℤ
 simple at x y l env base d = do
   a ← x.reach l env base d
   w ← y.run l env (base + x.room l) a.1
-  put at x.typed x.rooted a.0 w.0 w.1
+  put at y.typed.after.tables x.typed x.rooted a.0 w.0 w.1
 
 -- C99 6.5.16.2p3: the target is evaluated once, and its value is taken before the right operand is evaluated
 abbrev pub compound : ℕ → BinaryOperator → Part → Part → Level → Run ℤ
@@ -374,8 +374,8 @@ compound at op x y l env base d = do
   a ← x.reach l env base d
   v ← load x.typed x.rooted a.0 a.1
   w ← y.run l env (base + x.room l) v.1
-  z ← operated at op (operand x.typed v.0) (operand y.typed w.0) w.1
-  put at x.typed x.rooted a.0 z.0 z.1
+  z ← operated_on at op x.typed y.typed v.0 w.0 w.1
+  put at y.typed.after.tables x.typed x.rooted a.0 z.0 z.1
 
 abbrev pub assigned : ℕ → Option BinaryOperator → Part → Part → Level → Run ℤ
 assigned at None x y = simple at x y
