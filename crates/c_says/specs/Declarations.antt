@@ -303,31 +303,30 @@ pub record Declares : Type 0 where
   pub faults : List Fault
   pub after : Scope
 
-abbrev pub entry_of : Option Entry → List Entry → List Entry
-entry_of None es = es
-entry_of (Some e) es = e ∷ es
+abbrev pub with_entry_of : List Entry → Option Entry → List Entry
+with_entry_of es None = es
+with_entry_of es (Some e) = es ++ e ∷ []
 
-abbrev pub with_first : Declared → Declares → Declares
-with_first x more = record { entries = entry_of x.entry more.entries; faults = x.faults ++ more.faults; after = more.after }
+abbrev pub and_declared : Declares → Declared → Declares
+and_declared x y = record { entries = with_entry_of x.entries y.entry; faults = x.faults ++ y.faults; after = y.after }
 
-abbrev pub each_item : Said → List Item → Scope → Declares
-each_item said [] s = record { entries = []; faults = []; after = s }
-each_item said (x ∷ xs) s =
-    let first = declares said (x.declarator s) x.initial in
-    with_first first (each_item said xs first.after)
+-- each declarator in the scope that those before it leave
+abbrev pub each_item : Said → Declares → List Item → Declares
+each_item said x [] = x
+each_item said x (y ∷ ys) = each_item said (and_declared x (declares said (y.declarator x.after) y.initial)) ys
 
 abbrev pub is_alone : List Item → Bool
 is_alone [] = true
 is_alone (x ∷ xs) = false
 
-abbrev pub with_specifiers : Said → Declares → Declares
-with_specifiers said x = record x { faults = said.faults ++ x.faults }
+abbrev pub behind_specifiers : Said → Declares
+behind_specifiers said = record { entries = []; faults = said.faults; after = said.scope }
 
 -- specifiers, then each declarator with its initializer, in the scope that those before it leave
 abbrev pub declaration_by : List Saying → List Item → Scope → Declares
 declaration_by specifiers items s =
     let said = said_by specifiers (is_alone items) [] s in
-    with_specifiers said (each_item said items said.scope)
+    each_item said (behind_specifiers said) items
 
 -- a tentative array of unknown length has one element (C99 6.9.2p5)
 abbrev pub tentative_type : CType → CType

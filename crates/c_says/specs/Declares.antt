@@ -465,33 +465,37 @@ abbrev pub with_parameter : Option (ℕ × Name) → Option CType → Scope → 
 with_parameter None t s = s
 with_parameter (Some n) t s = declared n.0 n.1 (parameter_means t) s
 
--- the parameters from left to right
+-- the parameters so far, and the scope behind them
 pub record Listed : Type 0 where
   pub types : Option (List CType)
   pub are_named : Bool
   pub faults : List Fault
   pub after : Scope
 
-abbrev pub listed_types : Option CType → Option (List CType) → Option (List CType)
-listed_types None ts = None
-listed_types (Some t) None = None
-listed_types (Some t) (Some ts) = Some (t ∷ ts)
+abbrev pub none_listed : Scope → Listed
+none_listed s = record { types = Some []; are_named = true; faults = []; after = s }
+
+abbrev pub listed_types : Option (List CType) → Option CType → Option (List CType)
+listed_types (Some ts) (Some t) = Some (ts ++ t ∷ [])
+listed_types (Some ts) None = None
+listed_types None t = None
 
 abbrev pub is_named : Option (ℕ × Name) → Bool
 is_named None = false
 is_named (Some n) = true
 
-abbrev pub listed_after : Named → Listed → Listed
-listed_after x more = record {
-  types = listed_types x.type more.types;
-  are_named = is_named x.name && more.are_named;
-  faults = x.faults ++ duplicate_name x.name x.after ++ more.faults;
-  after = more.after;
+abbrev pub and_parameter : Listed → Named → Listed
+and_parameter x p = record {
+  types = listed_types x.types p.type;
+  are_named = x.are_named && is_named p.name;
+  faults = x.faults ++ p.faults ++ duplicate_name p.name p.after;
+  after = with_parameter p.name p.type p.after;
 }
 
-abbrev pub listed : List NamedSays → Scope → Listed
-listed [] s = record { types = Some []; are_named = true; faults = []; after = s }
-listed (p ∷ ps) s = let x = p s in listed_after x (listed ps (with_parameter x.name x.type x.after))
+-- from left to right
+abbrev pub listed : Listed → List NamedSays → Listed
+listed x [] = x
+listed x (p ∷ ps) = listed (and_parameter x (p x.after)) ps
 
 -- `void` alone, without name and qualifiers, is no parameter (C99 6.7.5.3p10)
 abbrev pub is_plain_void : CType → Bool
@@ -848,7 +852,7 @@ declarator_step typed (open_.Grouped at inner) s = inner s
 declarator_step typed (open_.Pointer at qualifiers inner) s = to_pointer qualifiers (inner s)
 declarator_step typed (open_.Array at inner words length) s = let x = inner s in to_array (qualifiers_among words) x (counted typed length x.after)
 declarator_step typed (open_.Function at inner parameters variadic) s =
-    let x = inner s in to_function (prototype_of parameters variadic) x (listed parameters (enter x.after))
+    let x = inner s in to_function (prototype_of parameters variadic) x (listed (none_listed (enter x.after)) parameters)
 
 abbrev pub parameter_step : {E : Type 0} → ParameterLayer (Says E) → NamedSays
 parameter_step p s = let said = said_by p.specifiers false [] s in parameter_formed said (p.declarator said.scope)

@@ -41,6 +41,7 @@ use Rattle.c_says.specs.declared.scope.Means.TheVariants as means
 use Rattle.c_says.specs.declared.scope.Rule.{Rule}
 use Rattle.c_says.specs.declared.scope.Rule.TheVariants as rule
 use Rattle.c_says.specs.declared.shown.Argument.{Argument}
+use Rattle.c_says.specs.declared.shown.Called.{Called}
 use Rattle.c_says.specs.declared.shown.Shown.{Shown}
 use Rattle.c_says.specs.declared.shown.Told.{Told}
 use Rattle.c_says.specs.Scopes.{Name, Scope}
@@ -430,15 +431,32 @@ stepped_in tables class.Opaque x = Err rule.TypeMismatch
 abbrev pub stepped : Tables → Shown → Judgement
 stepped tables x = on_modifiable x (stepped_in tables (class_of x.ctype) x)
 
+-- `&`, `++` and `--` take the operand as it stands, the others its value
+abbrev pub operand_told : Tables → UnaryOperator → Told → Told
+operand_told tables u.Address x = x
+operand_told tables u.Increment x = x
+operand_told tables u.Decrement x = x
+operand_told tables u.Indirection x = used_told tables x
+operand_told tables u.Plus x = used_told tables x
+operand_told tables u.Minus x = used_told tables x
+operand_told tables u.Complement x = used_told tables x
+operand_told tables u.Not x = used_told tables x
+
+abbrev pub operand : UnaryOperator → Typed → Typed
+operand op x = typed_in (operand_told x.after.tables op (told_of x)) x.after
+
+abbrev pub unary_judged : Tables → UnaryOperator → Shown → Judgement
+unary_judged tables u.Address x = address x
+unary_judged tables u.Indirection x = indirection x
+unary_judged tables u.Plus x = promoted_by u.Plus x
+unary_judged tables u.Minus x = promoted_by u.Minus x
+unary_judged tables u.Complement x = promoted_by u.Complement x
+unary_judged tables u.Not x = negated x
+unary_judged tables u.Increment x = stepped tables x
+unary_judged tables u.Decrement x = stepped tables x
+
 abbrev pub unary : ℕ → UnaryOperator → Typed → Typed
-unary at u.Address x = over at x address
-unary at u.Indirection x = over at (used x) indirection
-unary at u.Plus x = over at (used x) (promoted_by u.Plus)
-unary at u.Minus x = over at (used x) (promoted_by u.Minus)
-unary at u.Complement x = over at (used x) (promoted_by u.Complement)
-unary at u.Not x = over at (used x) negated
-unary at u.Increment x = over at x (stepped x.after.tables)
-unary at u.Decrement x = over at x (stepped x.after.tables)
+unary at op x = over at (operand op x) (unary_judged x.after.tables op)
 
 abbrev pub postfix : ℕ → Typed → Typed
 postfix at x = over at x (stepped x.after.tables)
@@ -452,9 +470,12 @@ size_as (Some n) = Ok (an_integer k.UnsignedLong (Some (pos n)))
 abbrev pub size_in : Tables → CType → Judgement
 size_in tables t = cond (is_too_large tables t) (Err too_large) (size_as (size_of tables t))
 
+abbrev pub size_shown : Tables → Shown → Judgement
+size_shown tables x = size_in tables x.ctype
+
 -- the operand isn't evaluated, and doesn't turn into a pointer
 abbrev pub size_of_expression : ℕ → Typed → Typed
-size_of_expression at x = over at x (λ y. size_in x.after.tables y.ctype)
+size_of_expression at x = over at x (size_shown x.after.tables)
 
 -- ---- type names (C99 6.7.6) as other definitions tell them: the type, or the rule that it breaks, where its parts have types
 
@@ -630,21 +651,22 @@ abbrev pub compound : Tables → BinaryOperator → Shown → Shown → Judgemen
 compound tables op x y =
     on_modifiable x (compound_of tables op (is_pointer x.ctype) x y)
 
+abbrev pub assignment_judged : Tables → Option BinaryOperator → Shown → Shown → Judgement
+assignment_judged tables None x y = assigned x y
+assignment_judged tables (Some op) x y = compound tables op x y
+
 abbrev pub assignment : ℕ → Option BinaryOperator → Typed → Typed → Typed
-assignment at None x y = over_two at x (used y) assigned
-assignment at (Some op) x y = over_two at x (used y) (compound y.after.tables op)
+assignment at op x y = over_two at x (used y) (assignment_judged y.after.tables op)
 
 -- ---- the comma operator (C99 6.5.17): a void expression, then a value, which isn't constant (C99 6.6p3)
 
+abbrev pub second_judged : Shown → Judgement
+second_judged x = Ok (some_value x.ctype)
+
 abbrev pub comma : ℕ → Typed → Typed → Typed
-comma at x y = over_two at x (used y) (λ a b. Ok (some_value b.ctype))
+comma at x y = over_two at x (used y) (λ a b. second_judged b)
 
 -- ---- calls (C99 6.5.2.2)
-
--- what is said of a call besides its parts: the result's type, where no rule is broken
-pub record Called : Type 0 where
-  pub ctype : Option CType
-  pub faults : List Fault
 
 abbrev pub broken : ℕ → Rule → Called
 broken at r = record { ctype = None; faults = fault_at at r }
@@ -733,23 +755,22 @@ called_as tables at callee (Some e) true t xs = called_directly tables callee t.
 called_as tables at callee None true t xs = called_through at callee None true
 called_as tables at callee e false t xs = called_through at callee e (points_to_function (target_of t))
 
--- what is said of arguments together: as values, where each has a type
+-- what is said of arguments together, as values, from left to right: none where one has no type
 pub record Arguments : Type 0 where
   pub all : Option (List Argument)
   pub faults : List Fault
 
+abbrev pub no_arguments : List Fault → Arguments
+no_arguments faults = record { all = Some []; faults = faults }
+
 abbrev pub with_argument : ℕ → Option Shown → Option (List Argument) → Option (List Argument)
-with_argument at None xs = None
+with_argument at (Some x) (Some xs) = Some (xs ++ record { at = at; class = class_of x.ctype } ∷ [])
 with_argument at (Some x) None = None
-with_argument at (Some x) (Some xs) = Some (record { at = at; class = class_of x.ctype } ∷ xs)
+with_argument at None xs = None
 
-abbrev pub with_value : Typed → Arguments → Arguments
-with_value x more = record { all = with_argument x.at x.shown more.all; faults = x.faults ++ more.faults }
-
--- arguments from left to right
-abbrev pub arguments_of : List Typed → Arguments
-arguments_of [] = record { all = Some []; faults = [] }
-arguments_of (x ∷ xs) = with_value (used x) (arguments_of xs)
+-- one more, as a value
+abbrev pub and_argument : Arguments → Told → Arguments
+and_argument xs x = record { all = with_argument x.at x.shown xs.all; faults = xs.faults ++ x.faults }
 
 abbrev pub called_shown : Option CType → Option Shown
 called_shown None = None
@@ -764,8 +785,9 @@ call_over tables at callee (Some f) None faults = typeless at faults
 call_over tables at callee (Some f) (Some xs) faults =
     call_of at faults (called_as tables at callee f.designates (is_function f.ctype) f.ctype xs)
 
-abbrev pub call : ℕ → Typed → Arguments → Scope → Typed
-call at f xs s = typed_in (call_over s.tables at f.at f.shown xs.all (f.faults ++ xs.faults)) s
+-- a call of what stands at `callee`, whose faults stand before those of the arguments
+abbrev pub call : ℕ → ℕ → Option Shown → Arguments → Scope → Typed
+call at callee f xs s = typed_in (call_over s.tables at callee f xs.all xs.faults) s
 
 -- ---- constant expressions (C99 6.6)
 

@@ -7,4 +7,4 @@ mod shown;
 pub use scope::{
     Duration, Entry, Fault, LayoutRule, Linkage, Linked, Means, Rule, Tag, TagMeans,
 };
-pub use shown::{Argument, Shown, Told};
+pub use shown::{Argument, Called, Shown, Told};

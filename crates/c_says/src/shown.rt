@@ -32,3 +32,10 @@ pub struct Told {
     pub shown: Option<Shown>,
     pub faults: Items<Fault>,
 }
+
+/// What is said of a call besides its parts: the type of its result, where no rule is broken (C99 6.5.2.2).
+#[derive(Drop)]
+pub struct Called {
+    pub ctype: Option<CType>,
+    pub faults: Items<Fault>,
+}
