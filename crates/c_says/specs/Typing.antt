@@ -282,16 +282,25 @@ used x = typed_in (used_told x.after.tables (told_of x)) x.after
 -- ---- primary expressions (C99 6.5.1)
 
 -- C99 6.4.4.1p5
+abbrev pub integer_told : ℕ → IntegerConstant → Told
+integer_told at c = node at (Ok (an_integer (of_constant c.integer_type) (Some (pos c.value)))) []
+
 abbrev pub integer_constant : ℕ → IntegerConstant → Scope → Typed
-integer_constant at c s = typed_in (node at (Ok (an_integer (of_constant c.integer_type) (Some (pos c.value)))) []) s
+integer_constant at c s = typed_in (integer_told at c) s
 
 -- C99 6.4.4.4p10
+abbrev pub character_told : ℕ → ℤ → Told
+character_told at value = node at (Ok (an_integer k.Int (Some value))) []
+
 abbrev pub character_constant : ℕ → ℤ → Scope → Typed
-character_constant at value s = typed_in (node at (Ok (an_integer k.Int (Some value))) []) s
+character_constant at value s = typed_in (character_told at value) s
 
 -- C99 6.4.4.2p4: a constant of floating type
+abbrev pub floating_told : ℕ → Told
+floating_told at = refused at rule.FloatUsed []
+
 abbrev pub floating_constant : ℕ → Scope → Typed
-floating_constant at s = typed_in (refused at rule.FloatUsed []) s
+floating_constant at s = typed_in (floating_told at) s
 
 abbrev pub total : List (List ℕ) → ℕ
 total [] = 0
@@ -871,22 +880,27 @@ called_directly tables callee (d.Function n ∷ ds) (Some result) xs =
     ++ result_faults callee (class_of result)) result
 called_directly tables callee _ _ xs = broken callee rule.TypeMismatch
 
+abbrev pub is_named : Option Entry → Bool
+is_named None = false
+is_named (Some e) = true
+
+abbrev pub named_place : Bool → ℕ → ℕ → ℕ
+named_place is_name at callee = cond is_name callee at
+
 -- a call by a pointer stands at the name of the pointer, else at the `(` of the call
-abbrev pub called_through : ℕ → ℕ → Option Entry → Bool → Called
-called_through at callee None true = broken at rule.IndirectCall
-called_through at callee (Some e) true = broken callee rule.IndirectCall
-called_through at callee None false = broken at rule.TypeMismatch
-called_through at callee (Some e) false = broken callee rule.TypeMismatch
+abbrev pub called_through : ℕ → ℕ → Bool → Bool → Called
+called_through at callee is_name is_indirect =
+    broken (named_place is_name at callee) (cond is_indirect rule.IndirectCall rule.TypeMismatch)
 
 abbrev pub points_to_function : Option CType → Bool
 points_to_function None = false
 points_to_function (Some t) = is_function t
 
 -- the callee is the name of a function, perhaps in parentheses; every other call is indirect (C99 6.5.2.2p1)
-abbrev pub called_as : Tables → ℕ → ℕ → Option Entry → Bool → CType → List Argument → Called
-called_as tables at callee (Some e) true t xs = called_directly tables callee t.derivations (returned_of t) xs
-called_as tables at callee None true t xs = called_through at callee None true
-called_as tables at callee e false t xs = called_through at callee e (points_to_function (target_of t))
+abbrev pub called_as : Tables → ℕ → ℕ → Bool → Bool → CType → List Argument → Called
+called_as tables at callee true true t xs = called_directly tables callee t.derivations (returned_of t) xs
+called_as tables at callee false true t xs = called_through at callee false true
+called_as tables at callee is_name false t xs = called_through at callee is_name (points_to_function (target_of t))
 
 -- what is said of arguments together, as values, from left to right: none where one has no type
 pub record Arguments : Type 0 where
@@ -916,7 +930,7 @@ abbrev pub call_over : Tables → ℕ → ℕ → Option Shown → Option (List 
 call_over tables at callee None xs faults = typeless at faults
 call_over tables at callee (Some f) None faults = typeless at faults
 call_over tables at callee (Some f) (Some xs) faults =
-    call_of at faults (called_as tables at callee f.designates (is_function f.ctype) f.ctype xs)
+    call_of at faults (called_as tables at callee (is_named f.designates) (is_function f.ctype) f.ctype xs)
 
 -- a call of what stands at `callee`, whose faults stand before those of the arguments
 abbrev pub call : ℕ → ℕ → Option Shown → Arguments → Scope → Typed
