@@ -3,6 +3,7 @@
 
 mod aggregates;
 mod assigning;
+mod calling;
 mod operators;
 mod told;
 mod unary;
