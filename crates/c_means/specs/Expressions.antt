@@ -31,7 +31,8 @@ use Rattle.c_says.specs.declared.scope.Means.{Means}
 use Rattle.c_says.specs.declared.shown.Shown.{Shown}
 use Rattle.c_says.specs.declared.scope.Means.TheVariants as means
 use Rattle.c_says.specs.Scopes.{Name, Scope}
-use Rattle.c_says.specs.Typing.{Typed, NamedType, type_of, constant_of}
+use Rattle.c_says.specs.Typing.{Typed, NamedType, Arguments, type_of, constant_of, no_arguments, and_argument, told_of}
+use Rattle.c_says.specs.Typing.{used}
 use Rattle.c_says.specs.Typing as says
 use Rattle.c_says.specs.declared.scope.Fault.{Fault}
 use Rattle.c_means.specs.Parts.{State, Outcome, Env, Run, Level, Site, Part, ◌>>=◌, note, stop, refused, returned}
@@ -495,9 +496,10 @@ abbrev pub call_of : Option Entry → Typed → Typed → List Passed → Part
 call_of None f x qs = unmeant x
 call_of (Some e) f x qs = direct_call f.at x (site f.at e x qs) qs
 
-abbrev pub all_typed : List Part → List Typed
-all_typed [] = []
-all_typed (p ∷ ps) = p.typed ∷ all_typed ps
+-- what the arguments say to the types, behind those before them
+abbrev pub arguments_said : Arguments → List Part → Arguments
+arguments_said xs [] = xs
+arguments_said xs (p ∷ ps) = arguments_said (and_argument xs (told_of (used p.typed))) ps
 
 abbrev pub designated : Option Shown → Option Entry
 designated None = None
@@ -506,5 +508,8 @@ designated (Some x) = x.designates
 -- the callee is a name, perhaps in parentheses: every other call is refused, as one by a pointer is
 abbrev pub call : ℕ → Part → List Part → Scope → Part
 call at f ps s =
-    call_of (designated f.typed.shown) f.typed (says.call at f.typed (says.arguments_of (all_typed ps)) s)
+    call_of (designated f.typed.shown) f.typed (call_said at f.typed ps s)
     (passed ps (parameters_of s.tables (type_of f.typed)))
+  where
+    call_said : ℕ → Typed → List Part → Scope → Typed
+    call_said at f ps s = says.call at f.at f.shown (arguments_said (no_arguments f.faults) ps) s
