@@ -24,8 +24,8 @@ use Rattle.c_means.proofs.Scene.{int, unsigned, text, the, op, un, minus, addres
 use Rattle.c_means.proofs.Scene.{set_at, set_by}
 use Rattle.c_means.proofs.Scene.{after_increment, after_decrement, ◌then◌, call, choice, word, omitted, pointer, type}
 use Rattle.c_means.proofs.Scene.{to, size_of, struct_s, grouped}
-use Rattle.c_means.proofs.Scene.{found, found_in, block, done, text_of, gives, gives_less, stops, happens}
-use Rattle.c_means.proofs.Scene.{printed_before, prints}
+use Rattle.c_means.proofs.Scene.{found, found_in, block, done, text_of, size_in_file, gives, gives_less, stops}
+use Rattle.c_means.proofs.Scene.{happens, printed_before, prints}
 
 -- ---- spelling
 
@@ -982,7 +982,31 @@ pub row_function_address : found (part function_address.tree) ≡ gives 1
 unfolding part converted exact
 row_function_address = ap found function_address.is
 
--- ---- places
+-- ---- nodes and places
+
+-- (x) + x * 2
+abbrev nodes : OfExpr
+nodes = op 9 o.Add (grouped x) (op 8 o.Multiply x (int 2))
+
+pub row_nodes : size_in_file (part nodes.tree) ≡ 5
+unfolding part converted exact
+row_nodes = ap size_in_file nodes.is
+
+-- f(x + 1), with 100 nodes in its body
+abbrev nodes_of_call : OfExpr
+nodes_of_call = call 1 f' (op 8 o.Add x (int 1) ∷ [])
+
+pub row_nodes_of_call : size_in_file (part nodes_of_call.tree) ≡ 104
+unfolding part converted exact
+row_nodes_of_call = ap size_in_file nodes_of_call.is
+
+-- sizeof (x + 1)
+abbrev nodes_of_size_of : OfExpr
+nodes_of_size_of = size_of (grouped (op 8 o.Add x (int 1)))
+
+pub row_nodes_of_size_of : size_in_file (part nodes_of_size_of.tree) ≡ 1
+unfolding part converted exact
+row_nodes_of_size_of = ap size_in_file nodes_of_size_of.is
 
 -- y() + y() * 1000
 abbrev places_of_operands : OfExpr

@@ -286,6 +286,7 @@ level = record {
   turns = 8;
   static = λ at. at;
   identity = λ name. cond (bytes_eq name f') (Some 0) None;
+  size = λ g. 100;
   room = λ g. 4;
   call = calls;
 }
@@ -353,3 +354,7 @@ prints m = (state_behind ((m file).run level env 100 (entered store 0))).printed
 -- the bytes of the literal that an expression is
 abbrev pub text_of : ExprMeans → Option (List ℕ)
 text_of m = (m file).text level
+
+-- the nodes that an expression unrolls to
+abbrev pub size_in_file : ExprMeans → ℕ
+size_in_file m = (m file).size level

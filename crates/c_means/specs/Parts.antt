@@ -129,14 +129,15 @@ Calls = Site → Env → List ℤ → ℕ → Store → ℕ → State
 -- What a function runs in. `turns` is how many turns a loop of this function takes: in a function of the prelude the
 -- limit of texts. `static` is the number of a function, of an object that lives throughout the run, of a string
 -- literal and of `__func__`, each by its offset (that of the first declaration). `identity` tells which argument is
--- answered by a function that hands on its argument. `room` is how many places a call takes behind those of its
--- arguments, and `call` what it does, each with one level of depth fewer.
+-- answered by a function that hands on its argument. `size` and `room` are how many nodes and places a call adds to
+-- those of its arguments, and `call` is what it does, each with one level of depth fewer.
 pub record Level : Type 0 where
   pub world : World
   pub limits : Limits
   pub turns : ℕ
   pub static : ℕ → ℕ
   pub identity : Name → Option ℕ
+  pub size : Site → ℕ
   pub room : Site → ℕ
   pub call : Calls
 
@@ -161,12 +162,14 @@ returned d r = returned_in d r r.kind
 -- ---- expressions
 
 -- What an expression says to the types, whether the root of the lvalue that it is is a name, its bytes where it is a
--- string literal (through parentheses, and calls of identity functions), and how many places it takes. `reach` is the
--- address of an lvalue or function, `run` its value, and `effect` what it does where its value isn't used.
+-- string literal (through parentheses, and calls of identity functions), how many nodes it unrolls to, those of called
+-- bodies too, and how many places it takes. `reach` is the address of an lvalue or function, `run` its value, and
+-- `effect` what it does where its value isn't used.
 pub record Part : Type 0 where
   pub typed : Typed
   pub rooted : Bool
   pub text : Level → Option (List ℕ)
+  pub size : Level → ℕ
   pub room : Level → ℕ
   pub reach : Level → Run ℕ
   pub run : Level → Run ℤ
