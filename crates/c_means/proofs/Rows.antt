@@ -503,8 +503,8 @@ row_rows_of_arrays = ap found rows_of_arrays.is
 
 -- (char *)((struct b *)w + sizeof (struct b { char a; char b; char c; })) - w
 abbrev completed_behind : OfExpr
-completed_behind =
-    op 9 o.Subtract (to char_pointer (op 8 o.Add (to b_pointer (the w')) (built.sizeof_type meaning 0 b_type))) (the w')
+completed_behind = op 9 o.Subtract
+    (to char_pointer (op 8 o.Add (to b_pointer (the w')) (built.sizeof_type meaning 0 b_type))) (the w')
 
 pub row_completed_behind : found (part completed_behind.tree) ≡ gives 9
 unfolding part converted exact
