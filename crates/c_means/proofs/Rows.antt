@@ -4,6 +4,7 @@ use Rattle.bit_words.specs.declared.run.Finish.TheVariants as finish
 use Rattle.bit_words.specs.declared.run.Happening.TheVariants as happening
 use Rattle.bit_words.specs.declared.run.Side.TheVariants as side
 use Rattle.bit_words.specs.declared.run.Undefined.TheVariants as undefined
+use Rattle.c_lexer.specs.declared.token.IntegerType.TheVariants as i
 use Rattle.c_tree.specs.declared.expr.AggregateKind.TheVariants as aggregate_kind
 use Rattle.c_tree.specs.declared.expr.BinaryOperator.TheVariants as o
 use Rattle.c_tree.specs.declared.expr.TagName.{TagName}
@@ -28,6 +29,12 @@ use Rattle.c_means.proofs.Scene.{found, found_in, block, done, text_of, size_in_
 use Rattle.c_means.proofs.Scene.{happens, printed_before, prints}
 
 -- ---- spelling
+
+abbrev long : ℕ → OfExpr
+long n = built.integer meaning 0 (record { value = n; integer_type = i.Long })
+
+abbrev unsigned_long : ℕ → OfExpr
+unsigned_long n = built.integer meaning 0 (record { value = n; integer_type = i.UnsignedLong })
 
 abbrev int_type : OfTypeName
 int_type = type (word w.Int ∷ []) omitted
@@ -193,6 +200,63 @@ pub row_remainder_sign : found (part remainder_sign.tree) ≡ gives_less 0
 unfolding part converted exact
 row_remainder_sign = ap found remainder_sign.is
 
+-- 9223372036854775807l + 1
+abbrev long_overflows : OfExpr
+long_overflows = op 7 o.Add (long 9223372036854775807) (int 1)
+
+pub row_long_overflows : found (part long_overflows.tree) ≡ stops undefined.Overflow 7
+unfolding part converted exact
+row_long_overflows = ap found long_overflows.is
+
+-- -9223372036854775807l - 1
+abbrev long_fits : OfExpr
+long_fits = op 7 o.Subtract (minus (long 9223372036854775807)) (int 1)
+
+pub row_long_fits : found (part long_fits.tree) ≡ gives_less 9223372036854775807
+unfolding part converted exact
+row_long_fits = ap found long_fits.is
+
+-- 18446744073709551615ul + 1
+abbrev unsigned_long_wraps : OfExpr
+unsigned_long_wraps = op 7 o.Add (unsigned_long 18446744073709551615) (int 1)
+
+pub row_unsigned_long_wraps : found (part unsigned_long_wraps.tree) ≡ gives 0
+unfolding part converted exact
+row_unsigned_long_wraps = ap found unsigned_long_wraps.is
+
+-- (unsigned char)255 + 1
+abbrev unsigned_char_promoted : OfExpr
+unsigned_char_promoted = op 7 o.Add (to unsigned_char_type (int 255)) (int 1)
+
+pub row_unsigned_char_promoted : found (part unsigned_char_promoted.tree) ≡ gives 256
+unfolding part converted exact
+row_unsigned_char_promoted = ap found unsigned_char_promoted.is
+
+-- h[0][0] = 32767, ++h[0][0]
+abbrev short_increment_wraps : OfExpr
+short_increment_wraps = set (element 3 (element 2 (the h') (int 0)) (int 0)) (int 32767)
+    then un 9 u.Increment (element 3 (element 2 (the h') (int 0)) (int 0))
+
+pub row_short_increment_wraps : found (part short_increment_wraps.tree) ≡ gives_less 32767
+unfolding part converted exact
+row_short_increment_wraps = ap found short_increment_wraps.is
+
+-- 65536u * 65536
+abbrev unsigned_product_wraps : OfExpr
+unsigned_product_wraps = op 7 o.Multiply (unsigned 65536) (int 65536)
+
+pub row_unsigned_product_wraps : found (part unsigned_product_wraps.tree) ≡ gives 0
+unfolding part converted exact
+row_unsigned_product_wraps = ap found unsigned_product_wraps.is
+
+-- -1u
+abbrev unsigned_negation : OfExpr
+unsigned_negation = un 7 u.Minus (unsigned 1)
+
+pub row_unsigned_negation : found (part unsigned_negation.tree) ≡ gives 4294967295
+unfolding part converted exact
+row_unsigned_negation = ap found unsigned_negation.is
+
 -- ---- a zero divisor, and shifts
 
 -- 1 / 0
@@ -276,6 +340,62 @@ usual_conversions = op 7 o.Less (minus (int 1)) (unsigned 0)
 pub row_usual_conversions : found (part usual_conversions.tree) ≡ gives 0
 unfolding part converted exact
 row_usual_conversions = ap found usual_conversions.is
+
+-- -1l < 0u
+abbrev long_has_unsigned : OfExpr
+long_has_unsigned = op 7 o.Less (minus (long 1)) (unsigned 0)
+
+pub row_long_has_unsigned : found (part long_has_unsigned.tree) ≡ gives 1
+unfolding part converted exact
+row_long_has_unsigned = ap found long_has_unsigned.is
+
+-- -1l < 0ul
+abbrev unsigned_long_beside_long : OfExpr
+unsigned_long_beside_long = op 7 o.Less (minus (long 1)) (unsigned_long 0)
+
+pub row_unsigned_long_beside_long : found (part unsigned_long_beside_long.tree) ≡ gives 0
+unfolding part converted exact
+row_unsigned_long_beside_long = ap found unsigned_long_beside_long.is
+
+-- 6 & 3
+abbrev bits_of_both : OfExpr
+bits_of_both = op 7 o.BitAnd (int 6) (int 3)
+
+pub row_bits_of_both : found (part bits_of_both.tree) ≡ gives 2
+unfolding part converted exact
+row_bits_of_both = ap found bits_of_both.is
+
+-- 6 | 3
+abbrev bits_of_either : OfExpr
+bits_of_either = op 7 o.BitOr (int 6) (int 3)
+
+pub row_bits_of_either : found (part bits_of_either.tree) ≡ gives 7
+unfolding part converted exact
+row_bits_of_either = ap found bits_of_either.is
+
+-- -1 ^ 3
+abbrev bits_of_one : OfExpr
+bits_of_one = op 7 o.BitXor (minus (int 1)) (int 3)
+
+pub row_bits_of_one : found (part bits_of_one.tree) ≡ gives_less 3
+unfolding part converted exact
+row_bits_of_one = ap found bits_of_one.is
+
+-- !3 == 0
+abbrev negated : OfExpr
+negated = op 7 o.Equal (un 6 u.Not (int 3)) (int 0)
+
+pub row_negated : found (part negated.tree) ≡ gives 1
+unfolding part converted exact
+row_negated = ap found negated.is
+
+-- 1 = 2
+abbrev refused_assignment : OfExpr
+refused_assignment = set (int 1) (int 2)
+
+pub row_refused_assignment : found (part refused_assignment.tree) ≡ None
+unfolding part converted exact
+row_refused_assignment = ap found refused_assignment.is
 
 -- (char)200
 abbrev char_is_signed : OfExpr
