@@ -21,7 +21,7 @@ use Rattle.c_tree.specs.declared.expr.UnaryOperator.TheVariants as u
 use Rattle.c_tree.specs.Folds.{DeclaratorLayer, FieldLayer, SpecifierLayer, MemberDeclarationLayer, ParameterLayer}
 use Rattle.c_tree.specs.Folds.{TypeNameLayer}
 use Rattle.c_tree.proofs.Induction.{Each, Maybe, Steps, of_expr, of_type_name, of_declarator, of_specifier}
-use Rattle.c_tree.proofs.Induction.{of_parameter}
+use Rattle.c_tree.proofs.Induction.{of_parameter, of_field, of_enumerator, of_member_declaration}
 use Rattle.c_says.specs.declared.scope.Entry.{Entry}
 use Rattle.c_says.specs.declared.scope.Means.{Means}
 use Rattle.c_says.specs.declared.scope.Means.TheVariants as means
@@ -359,3 +359,18 @@ pub parameter_same : (p : Parameter) → parameter_said p ≡ parameter_says p
 parameter_same p =
     of_parameter SameDeclarator SameExpr SameField SameSpecifier SameEnumerator SameMember SameParameter SameTypeName
     steps p
+
+pub field_same : (x : Field) → field_said x ≡ field_says x
+field_same x =
+    of_field SameDeclarator SameExpr SameField SameSpecifier SameEnumerator SameMember SameParameter SameTypeName
+    steps x
+
+pub enumerator_same : (x : Enumerator) → enumerator_said x ≡ enumerator_says x
+enumerator_same x =
+    of_enumerator SameDeclarator SameExpr SameField SameSpecifier SameEnumerator SameMember SameParameter SameTypeName
+    steps x
+
+pub member_same : (x : MemberDeclaration) → member_said x ≡ member_says x
+member_same x =
+    of_member_declaration SameDeclarator SameExpr SameField SameSpecifier SameEnumerator SameMember SameParameter
+    SameTypeName steps x
