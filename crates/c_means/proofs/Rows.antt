@@ -19,8 +19,8 @@ use Rattle.c_type_terms.specs.Operators.{exact}
 use Rattle.c_means.specs.declared.kind.Kind.TheVariants as kind
 use Rattle.c_says.proofs.Built as built
 use Rattle.c_means.specs.Trees.{ExprMeans, part, meaning}
-use Rattle.c_means.proofs.Scene.{OfExpr, OfMember, OfTypeName, a', b', c', e', f', g', h', m', p', r', s', t', u', v'}
-use Rattle.c_means.proofs.Scene.{w', x', y', z'}
+use Rattle.c_means.proofs.Scene.{OfExpr, OfMember, OfTypeName, a', b', c', e', f', g', h', k', m', p', r', s', t', u'}
+use Rattle.c_means.proofs.Scene.{v', w', x', y', z'}
 use Rattle.c_means.proofs.Scene.{int, unsigned, text, the, op, un, minus, address, deref, element, dot, arrow, set}
 use Rattle.c_means.proofs.Scene.{set_at, set_by}
 use Rattle.c_means.proofs.Scene.{after_increment, after_decrement, ◌then◌, call, choice, word, omitted, pointer, type}
@@ -769,6 +769,56 @@ difference_toward_zero = op 9 o.Subtract (to int_pointer (the w')) (to int_point
 pub row_difference_toward_zero : found (part difference_toward_zero.tree) ≡ gives_less 0
 unfolding part converted exact
 row_difference_toward_zero = ap found difference_toward_zero.is
+
+-- ---- objects that have ended
+
+-- p = a, k(), *p
+abbrev ended_read : OfExpr
+ended_read = set (the p') (the a') then call 1 k' [] then deref 7 (the p')
+
+pub row_ended_read : found (part ended_read.tree) ≡ stops undefined.Dereference 7
+unfolding part converted exact
+row_ended_read = ap found ended_read.is
+
+-- k(), a[0]
+abbrev ended_element : OfExpr
+ended_element = call 1 k' [] then element 7 (the a') (int 0)
+
+pub row_ended_element : found (part ended_element.tree) ≡ stops undefined.PointerRange 7
+unfolding part converted exact
+row_ended_element = ap found ended_element.is
+
+-- p = a, *p = k()
+abbrev ended_by_value : OfExpr
+ended_by_value = set (the p') (the a') then set_at 9 (deref 7 (the p')) (call 1 k' [])
+
+pub row_ended_by_value : found (part ended_by_value.tree) ≡ stops undefined.Dereference 7
+unfolding part converted exact
+row_ended_by_value = ap found ended_by_value.is
+
+-- p = a, *p += k()
+abbrev ended_by_operand : OfExpr
+ended_by_operand = set (the p') (the a') then set_by 9 o.Add (deref 7 (the p')) (call 1 k' [])
+
+pub row_ended_by_operand : found (part ended_by_operand.tree) ≡ stops undefined.Dereference 7
+unfolding part converted exact
+row_ended_by_operand = ap found ended_by_operand.is
+
+-- p = a, k(), p <= p
+abbrev ended_order : OfExpr
+ended_order = set (the p') (the a') then call 1 k' [] then op 9 o.LessEqual (the p') (the p')
+
+pub row_ended_order : found (part ended_order.tree) ≡ stops undefined.PointerOrder 9
+unfolding part converted exact
+row_ended_order = ap found ended_order.is
+
+-- p = a, k(), p == p
+abbrev ended_equality : OfExpr
+ended_equality = set (the p') (the a') then call 1 k' [] then op 9 o.Equal (the p') (the p')
+
+pub row_ended_equality : found (part ended_equality.tree) ≡ gives 1
+unfolding part converted exact
+row_ended_equality = ap found ended_equality.is
 
 -- ---- literals
 

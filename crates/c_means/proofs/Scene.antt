@@ -19,7 +19,7 @@ use Rattle.c_tree.specs.Folds.{fold_expr, fold_declarator, fold_specifier, fold_
 use Rattle.c_store.specs.declared.object.Object.{Object}
 use Rattle.c_store.specs.declared.object.ObjectKind.{ObjectKind}
 use Rattle.c_store.specs.declared.object.ObjectKind.TheVariants as object
-use Rattle.c_store.specs.Store.{Store, initial, make}
+use Rattle.c_store.specs.Store.{Store, initial, make, end}
 use Rattle.c_says.specs.declared.scope.Fault.{Fault}
 use Rattle.c_says.specs.Scopes.{Name, Scope, empty, enter}
 use Rattle.c_says.specs.Declares.{Says}
@@ -68,6 +68,9 @@ g' = 103 ∷ []
 
 abbrev pub h' : Name
 h' = 104 ∷ []
+
+abbrev pub k' : Name
+k' = 107 ∷ []
 
 abbrev pub m' : Name
 m' = 109 ∷ []
@@ -221,9 +224,11 @@ taking t d = built.function meaning 0 d (built.parameter meaning (t ∷ []) omit
 
 -- int x; int a[4]; char c; _Bool b; int *p; struct s { .. } s; struct s u; int f(int); int m(void); void e(void);
 -- int y(void); enum { g = 7 }; struct s *r; short h[3][2]; union { .. } v; char w[16]; void z(int);
+-- int k(void);
 abbrev pub file : Scope
 file =
-    declare 17 z' (word w.Void ∷ []) (taking (word w.Int))
+    declare 18 k' (word w.Int ∷ []) (taking (word w.Void))
+    (declare 17 z' (word w.Void ∷ []) (taking (word w.Int))
     (declare 16 w' (word w.Char ∷ []) (array 16)
     (declare 15 v' (overlay ∷ []) plain
     (declare 14 h' (word w.Short ∷ []) (λ d. array 2 (array 3 d))
@@ -239,7 +244,7 @@ file =
     (declare 4 b' (word w.Bool ∷ []) plain
     (declare 3 c' (word w.Char ∷ []) plain
     (declare 2 a' (word w.Int ∷ []) (array 4)
-    (declare 1 x' (word w.Int ∷ []) plain empty))))))))))))))))
+    (declare 1 x' (word w.Int ∷ []) plain empty)))))))))))))))))
   where
     seven : Scope → Scope
     seven s =
@@ -265,7 +270,7 @@ store =
     (initial (λ _. 0))))))))))))))))))
 
 -- ---- what calls do here: `f` gives its argument back, `m` reaches its `}` without a value, `y` gives its first
--- place, `z` ends the run, and the others print A
+-- place, `k` ends the array and gives 1, `z` ends the run, and the others print A
 
 abbrev first : List ℤ → ℤ
 first [] = pos 0
@@ -277,7 +282,8 @@ calls g env vs base s count =
     cond (bytes_eq g.callee.name f') (record d { value = Some (first vs) })
     (cond (bytes_eq g.callee.name m') d
     (cond (bytes_eq g.callee.name y') (record d { value = Some (pos base) })
-    (cond (bytes_eq g.callee.name z') (record d { kind = kind.Ended (finish.Exit (first vs)) }) (print (65 ∷ []) d))))
+    (cond (bytes_eq g.callee.name k') (record d { value = Some (pos 1); store = end 2 s })
+    (cond (bytes_eq g.callee.name z') (record d { kind = kind.Ended (finish.Exit (first vs)) }) (print (65 ∷ []) d)))))
 
 abbrev pub level : Level
 level = record {
