@@ -80,6 +80,29 @@ fn entry_over<'a>(file: &'a Block, blocks: &'a [Block], name: &[u8]) -> Option<&
     }
 }
 
+#[tactic(auto, using(crate::proofs::ByBytes::reverse_snoc))]
+fn tag_over<'a>(file: &'a Block, blocks: &'a [Block], name: &[u8]) -> Option<&'a Shared<Tag>>
+    ensures { option_copied result ≡ spec.tag_over file.now (reverse blocks.now) name.now }
+{
+    match blocks.split_last() {
+        Some((last, rest)) => match last.tag(name) {
+            Some(tag) => Some(tag),
+            None => tag_over(file, rest, name),
+        },
+        None => file.tag(name),
+    }
+}
+
+#[tactic(auto, using(crate::proofs::ByBytes::reverse_snoc))]
+fn innermost_of<'a>(file: &'a Block, blocks: &'a [Block]) -> &'a Block
+    ensures { result.now ≡ spec.innermost_of file.now (reverse blocks.now) }
+{
+    match blocks.split_last() {
+        Some((last, _)) => last,
+        None => file,
+    }
+}
+
 /// The names in force, and the tables of types, which stay when a block is left.
 #[derive(Drop)]
 pub struct Scope {
@@ -146,5 +169,40 @@ impl Scope {
         ensures { self.new ≡ spec.leave self.old }
     {
         let _ = self.blocks.pop();
+    }
+
+    /// The tag that is in force.
+    pub fn tag_of(&self, name: &[u8]) -> Option<&Shared<Tag>>
+        ensures { option_copied result ≡ spec.tag_of self.now name.now }
+    {
+        tag_over(&self.file, &self.blocks, name)
+    }
+
+    /// The last declaration of an ordinary name in the innermost block, or in the file where no block is open.
+    pub fn own_entry(&self, name: &[u8]) -> Option<&Shared<Entry>>
+        ensures { option_copied result ≡ spec.own_entry self.now name.now }
+    {
+        innermost_of(&self.file, &self.blocks).entry(name)
+    }
+
+    /// The last declaration of a tag in the innermost block, or in the file where no block is open.
+    pub fn own_tag(&self, name: &[u8]) -> Option<&Shared<Tag>>
+        ensures { option_copied result ≡ spec.own_tag self.now name.now }
+    {
+        innermost_of(&self.file, &self.blocks).tag(name)
+    }
+
+    /// The object or function with linkage of a name, where one was declared anywhere.
+    pub fn linked_as(&self, name: &[u8]) -> Option<&Shared<Linked>>
+        ensures { option_copied result ≡ spec.linked_as self.now name.now }
+    {
+        self.linked.get(name)
+    }
+
+    /// Notes an object or function with linkage. It fails for want of memory alone.
+    pub fn note_linked(&mut self, linked: Shared<Linked>) -> Result<(), AllocError>
+        ensures { OnOk result (self.new ≡ spec.with_linked linked.at linked.name linked.linkage linked.is_defined self.old) }
+    {
+        self.linked.push(linked)
     }
 }
