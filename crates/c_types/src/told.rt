@@ -6,7 +6,7 @@ ghost use Rattle.c_says.specs.Typing as spec;
 use crate::aggregates::{element, member_shown_of, pointed_member};
 use crate::assigning::{assigned, cast_to, choice_of, compound, stepped};
 use crate::operators::operated;
-use crate::unary::{address, indirection, negated, promoted_by, size_in};
+use crate::turning::{address, indirection, negated, promoted_by, size_in};
 use crate::values::{some_value, value_of};
 use c_lexer::Name;
 use c_says::{Fault, Rule, Shown, Told};
@@ -16,7 +16,7 @@ use plain_data::Items;
 use std::alloc::{AllocError, Global};
 
 /// A node that shows nothing.
-pub(crate) fn typeless(at: u32, faults: Items<Fault>) -> Told
+pub fn typeless(at: u32, faults: Items<Fault>) -> Told
     ensures { result ≡ spec.typeless at faults }
 {
     Told {
@@ -27,7 +27,7 @@ pub(crate) fn typeless(at: u32, faults: Items<Fault>) -> Told
 }
 
 /// A node that shows nothing, since it breaks a rule. It fails for want of memory alone.
-pub(crate) fn refused(at: u32, rule: Rule, faults: Items<Fault>) -> Result<Told, AllocError>
+pub fn refused(at: u32, rule: Rule, faults: Items<Fault>) -> Result<Told, AllocError>
     ensures { IfOk result (λ x. x ≡ spec.refused at rule faults) }
 {
     let mut faults = faults;
@@ -42,11 +42,7 @@ fn is_floating(ctype: &CType) -> bool
 }
 
 /// A node that shows what was judged. It fails for want of memory alone.
-pub(crate) fn node(
-    at: u32,
-    judged: Result<Shown, Rule>,
-    faults: Items<Fault>,
-) -> Result<Told, AllocError>
+pub fn node(at: u32, judged: Result<Shown, Rule>, faults: Items<Fault>) -> Result<Told, AllocError>
     ensures { IfOk result (λ x. x ≡ spec.node at judged faults) }
 {
     match judged {
@@ -66,7 +62,7 @@ pub(crate) fn node(
 }
 
 /// A part as a value. It fails for want of memory alone.
-pub(crate) fn used(alloc: Global, tables: &Tables, x: Told) -> Result<Told, AllocError>
+pub fn used(alloc: Global, tables: &Tables, x: Told) -> Result<Told, AllocError>
     ensures { IfOk result (λ y. y ≡ spec.used_told tables.now x) }
 {
     let Told { at, shown, faults } = x;
@@ -76,7 +72,7 @@ pub(crate) fn used(alloc: Global, tables: &Tables, x: Told) -> Result<Told, Allo
     }
 }
 
-pub(crate) fn joined(first: Items<Fault>, second: Items<Fault>) -> Result<Items<Fault>, AllocError>
+pub fn joined(first: Items<Fault>, second: Items<Fault>) -> Result<Items<Fault>, AllocError>
     ensures { IfOk result (λ faults. faults ≡ first ++ second) }
 {
     let mut faults = first;
@@ -85,7 +81,7 @@ pub(crate) fn joined(first: Items<Fault>, second: Items<Fault>) -> Result<Items<
 }
 
 /// A binary operator over values. It fails for want of memory alone.
-pub(crate) fn binary(
+pub fn binary(
     alloc: Global,
     tables: &Tables,
     at: u32,
@@ -95,19 +91,31 @@ pub(crate) fn binary(
 ) -> Result<Told, AllocError>
     ensures { IfOk result (λ z. z ≡ spec.node_over_two at x.shown y.shown (spec.operated tables.now operator) (x.faults ++ y.faults)) }
 {
-    let Told { shown: left, faults, .. } = x;
-    let Told { shown: right, faults: more, .. } = y;
+    let Told {
+        shown: left,
+        faults,
+        ..
+    } = x;
+    let Told {
+        shown: right,
+        faults: more,
+        ..
+    } = y;
     let faults = joined(faults, more)?;
     match (left, right) {
         (Some(left), Some(right)) => {
-            node(at, operated(alloc, tables, operator, &left, &right)?, faults)
+            node(
+                at,
+                operated(alloc, tables, operator, &left, &right)?,
+                faults,
+            )
         }
         _ => Ok(typeless(at, faults)),
     }
 }
 
 /// The operand of a unary operator: `&`, `++` and `--` take it as it stands, the others its value.
-pub(crate) fn operand(
+pub fn operand(
     alloc: Global,
     tables: &Tables,
     operator: UnaryOperator,
@@ -148,7 +156,7 @@ fn unary_judged(
 }
 
 /// A unary operator over its operand. It fails for want of memory alone.
-pub(crate) fn unary(
+pub fn unary(
     alloc: Global,
     tables: &Tables,
     at: u32,
@@ -165,12 +173,7 @@ pub(crate) fn unary(
 }
 
 /// A postfix operator over its operand. It fails for want of memory alone.
-pub(crate) fn postfix(
-    alloc: Global,
-    tables: &Tables,
-    at: u32,
-    x: Told,
-) -> Result<Told, AllocError>
+pub fn postfix(alloc: Global, tables: &Tables, at: u32, x: Told) -> Result<Told, AllocError>
     ensures { IfOk result (λ y. y ≡ spec.node_over at x.shown (spec.stepped tables.now) x.faults) }
 {
     let Told { shown, faults, .. } = x;
@@ -181,7 +184,7 @@ pub(crate) fn postfix(
 }
 
 /// The size of an expression's type. It fails for want of memory alone.
-pub(crate) fn size_of_expression(
+pub fn size_of_expression(
     alloc: Global,
     tables: &Tables,
     at: u32,
@@ -197,7 +200,7 @@ pub(crate) fn size_of_expression(
 }
 
 /// The size of a named type. It fails for want of memory alone.
-pub(crate) fn size_of_type(
+pub fn size_of_type(
     alloc: Global,
     tables: &Tables,
     at: u32,
@@ -229,7 +232,7 @@ fn cast_shown(
 }
 
 /// A cast of a value, behind the faults of its type name. It fails for want of memory alone.
-pub(crate) fn cast(
+pub fn cast(
     alloc: Global,
     at: u32,
     named: Option<Result<CType, Rule>>,
@@ -238,7 +241,11 @@ pub(crate) fn cast(
 ) -> Result<Told, AllocError>
     ensures { IfOk result (λ y. y ≡ spec.cast_over at named x.shown (faults ++ x.faults)) }
 {
-    let Told { shown, faults: more, .. } = x;
+    let Told {
+        shown,
+        faults: more,
+        ..
+    } = x;
     let faults = joined(faults, more)?;
     match named {
         Some(Ok(ctype)) => cast_shown(alloc, at, &ctype, shown, faults),
@@ -248,7 +255,7 @@ pub(crate) fn cast(
 }
 
 /// A subscript of values. It fails for want of memory alone.
-pub(crate) fn subscript(
+pub fn subscript(
     alloc: Global,
     tables: &Tables,
     at: u32,
@@ -257,8 +264,16 @@ pub(crate) fn subscript(
 ) -> Result<Told, AllocError>
     ensures { IfOk result (λ z. z ≡ spec.node_over_two at x.shown y.shown (spec.element tables.now) (x.faults ++ y.faults)) }
 {
-    let Told { shown: left, faults, .. } = x;
-    let Told { shown: right, faults: more, .. } = y;
+    let Told {
+        shown: left,
+        faults,
+        ..
+    } = x;
+    let Told {
+        shown: right,
+        faults: more,
+        ..
+    } = y;
     let faults = joined(faults, more)?;
     match (left, right) {
         (Some(left), Some(right)) => node(at, element(alloc, tables, &left, &right)?, faults),
@@ -267,7 +282,7 @@ pub(crate) fn subscript(
 }
 
 /// A member of an object. It fails for want of memory alone.
-pub(crate) fn member(
+pub fn member(
     alloc: Global,
     tables: &Tables,
     at: u32,
@@ -284,7 +299,7 @@ pub(crate) fn member(
 }
 
 /// A member of what a value points to. It fails for want of memory alone.
-pub(crate) fn arrow(
+pub fn arrow(
     alloc: Global,
     tables: &Tables,
     at: u32,
@@ -319,18 +334,24 @@ fn choice_shown(
 }
 
 /// The conditional operator over values. It fails for want of memory alone.
-pub(crate) fn choice(
-    alloc: Global,
-    at: u32,
-    condition: Told,
-    x: Told,
-    y: Told,
-) -> Result<Told, AllocError>
+pub fn choice(alloc: Global, at: u32, condition: Told, x: Told, y: Told) -> Result<Told, AllocError>
     ensures { IfOk result (λ z. z ≡ spec.choice_over at condition.shown x.shown y.shown (condition.faults ++ x.faults ++ y.faults)) }
 {
-    let Told { shown: condition, faults: first, .. } = condition;
-    let Told { shown: left, faults: second, .. } = x;
-    let Told { shown: right, faults: third, .. } = y;
+    let Told {
+        shown: condition,
+        faults: first,
+        ..
+    } = condition;
+    let Told {
+        shown: left,
+        faults: second,
+        ..
+    } = x;
+    let Told {
+        shown: right,
+        faults: third,
+        ..
+    } = y;
     let faults = joined(first, joined(second, third)?)?;
     choice_shown(alloc, at, condition, left, right, faults)
 }
@@ -351,7 +372,7 @@ fn assignment_judged(
 }
 
 /// An assignment of a value to a target. It fails for want of memory alone.
-pub(crate) fn assignment(
+pub fn assignment(
     alloc: Global,
     tables: &Tables,
     at: u32,
@@ -361,12 +382,24 @@ pub(crate) fn assignment(
 ) -> Result<Told, AllocError>
     ensures { IfOk result (λ z. z ≡ spec.node_over_two at x.shown y.shown (spec.assignment_judged tables.now operator) (x.faults ++ y.faults)) }
 {
-    let Told { shown: left, faults, .. } = x;
-    let Told { shown: right, faults: more, .. } = y;
+    let Told {
+        shown: left,
+        faults,
+        ..
+    } = x;
+    let Told {
+        shown: right,
+        faults: more,
+        ..
+    } = y;
     let faults = joined(faults, more)?;
     match (left, right) {
         (Some(left), Some(right)) => {
-            node(at, assignment_judged(alloc, tables, operator, &left, &right)?, faults)
+            node(
+                at,
+                assignment_judged(alloc, tables, operator, &left, &right)?,
+                faults,
+            )
         }
         _ => Ok(typeless(at, faults)),
     }
@@ -380,11 +413,19 @@ fn second_of(shown: Shown) -> Result<Shown, Rule>
 }
 
 /// The comma operator, with the value of its right side. It fails for want of memory alone.
-pub(crate) fn comma(at: u32, x: Told, y: Told) -> Result<Told, AllocError>
+pub fn comma(at: u32, x: Told, y: Told) -> Result<Told, AllocError>
     ensures { IfOk result (λ z. z ≡ spec.node_over_two at x.shown y.shown (λ a b. spec.second_judged b) (x.faults ++ y.faults)) }
 {
-    let Told { shown: left, faults, .. } = x;
-    let Told { shown: right, faults: more, .. } = y;
+    let Told {
+        shown: left,
+        faults,
+        ..
+    } = x;
+    let Told {
+        shown: right,
+        faults: more,
+        ..
+    } = y;
     let faults = joined(faults, more)?;
     match (left, right) {
         (Some(_), Some(right)) => node(at, second_of(right), faults),
