@@ -1,0 +1,4 @@
+pub mod Equations
+pub mod Scene
+pub mod Rows
+pub mod Fusion

@@ -1,0 +1,538 @@
+-- What an expression does (C99 6.5): one function a form, over what its parts do, from left to right.
+use Rattle.std.specs.Prelude.{ℕ, suc, ◌+◌, ◌%◌, ◌^◌, ℤ, pos, Bool, true, false, cond, not, List, [], ◌∷◌, ◌++◌, Option}
+use Rattle.std.specs.Prelude.{Some, None, Ok, slice_get, unwrap_or, unsigned_abs}
+use Rattle.bit_words.specs.declared.run.Undefined.TheVariants.{MissingValue}
+use Rattle.bit_words.specs.declared.run.Side.TheVariants as side
+use Rattle.bit_words.specs.declared.run.Happening.TheVariants as happening
+use Rattle.c_lexer.specs.declared.token.IntegerConstant.{IntegerConstant}
+use Rattle.c_tree.specs.declared.expr.BinaryOperator.{BinaryOperator}
+use Rattle.c_tree.specs.declared.expr.BinaryOperator.TheVariants as o
+use Rattle.c_tree.specs.declared.expr.PostfixOperator.{PostfixOperator}
+use Rattle.c_tree.specs.declared.expr.PostfixOperator.TheVariants as postfix_
+use Rattle.c_tree.specs.declared.expr.UnaryOperator.{UnaryOperator}
+use Rattle.c_tree.specs.declared.expr.UnaryOperator.TheVariants as u
+use Rattle.c_type_terms.specs.declared.class.Class.{Class}
+use Rattle.c_type_terms.specs.declared.class.Class.TheVariants as class
+use Rattle.c_type_terms.specs.declared.ctype.CType.{CType}
+use Rattle.c_type_terms.specs.declared.ctype.Derivation.{Derivation}
+use Rattle.c_type_terms.specs.declared.ctype.Derivation.TheVariants as derivation
+use Rattle.c_type_terms.specs.declared.ctype.IntegerKind.{IntegerKind}
+use Rattle.c_type_terms.specs.declared.tables.Member.{Member}
+use Rattle.c_type_terms.specs.declared.tables.Signature.{Signature}
+use Rattle.c_type_terms.specs.declared.tables.Tables.{Tables}
+use Rattle.c_type_terms.specs.Types.{integer, kind_of}
+use Rattle.c_type_terms.specs.Integers.{promoted, is_zero, number_of}
+use Rattle.c_type_terms.specs.Layouts.{member_of}
+use Rattle.c_store.specs.Store.{start}
+use Rattle.c_says.specs.declared.scope.Duration.{Duration}
+use Rattle.c_says.specs.declared.scope.Duration.TheVariants as duration
+use Rattle.c_says.specs.declared.scope.Entry.{Entry}
+use Rattle.c_says.specs.declared.scope.Means.{Means}
+use Rattle.c_says.specs.declared.shown.Shown.{Shown}
+use Rattle.c_says.specs.declared.scope.Means.TheVariants as means
+use Rattle.c_says.specs.Scopes.{Name, Scope}
+use Rattle.c_says.specs.Typing.{Typed, NamedType, Arguments, type_of, constant_of, no_arguments, and_argument, told_of}
+use Rattle.c_says.specs.Typing.{used}
+use Rattle.c_says.specs.Typing as says
+use Rattle.c_says.specs.declared.scope.Fault.{Fault}
+use Rattle.c_means.specs.Parts.{State, Outcome, Env, Run, Level, Site, Part, ◌>>=◌, note, stop, refused, returned}
+use Rattle.c_means.specs.Values.{address, class_in, bytes_of, bytes_within, converted_to, value_of_bytes}
+use Rattle.c_means.specs.Objects.{load, put}
+use Rattle.c_means.specs.Operators.{Operand, operand, one, value_type, target_in, operated, operated_on, turned_value}
+use Rattle.c_means.specs.Operators.{negated}
+
+-- ---- kinds of parts
+
+-- how many nodes a part unrolls to, and how many places it takes
+pub record Needs : Type 0 where
+  pub size : Level → ℕ
+  pub room : Level → ℕ
+
+-- a node without parts
+abbrev pub alone : Needs
+alone = record { size = λ l. 1; room = λ l. 0 }
+
+-- a node over its parts, whose places stand one behind another
+abbrev pub over_one : Part → Needs
+over_one x = record { size = λ l. suc (x.size l); room = x.room }
+
+abbrev pub over_both : Part → Part → Needs
+over_both x y = record { size = λ l. suc (x.size l + y.size l); room = λ l. x.room l + y.room l }
+
+abbrev pub over_three : Part → Part → Part → Needs
+over_three c x y = record {
+  size = λ l. suc (c.size l + (x.size l + y.size l));
+  room = λ l. c.room l + (x.room l + y.room l);
+}
+
+abbrev pub no_text : Level → Option (List ℕ)
+no_text l = None
+
+-- what is no lvalue has no address
+abbrev pub nowhere : Level → Run ℕ
+nowhere l env base d = Ok (0, d)
+
+-- a value, whose use makes no difference to what is done
+abbrev pub valued : Typed → Needs → (Level → Run ℤ) → Part
+valued x needs run = record {
+  typed = x;
+  rooted = false;
+  text = no_text;
+  size = needs.size;
+  room = needs.room;
+  reach = nowhere;
+  run = run;
+  effect = run;
+}
+
+abbrev pub loading : Typed → Bool → (Level → Run ℕ) → Level → Run ℤ
+loading x rooted reach l env base d = do
+  a ← reach l env base d
+  load x rooted a.0 a.1
+
+-- an lvalue or function, by its address: its value is what stands there
+abbrev pub placed : Typed → Bool → Needs → (Level → Run ℕ) → Part
+placed x rooted needs reach = record {
+  typed = x;
+  rooted = rooted;
+  text = no_text;
+  size = needs.size;
+  room = needs.room;
+  reach = reach;
+  run = loading x rooted reach;
+  effect = loading x rooted reach;
+}
+
+-- what breaks a rule, and isn't run
+abbrev pub unmeant : Typed → Part
+unmeant x = valued x alone (λ l env base d. refused d)
+
+-- ---- constants (C99 6.4.4)
+
+abbrev pub constant : Typed → ℤ → Part
+constant x z = valued x alone (λ l env base d. Ok (z, d))
+
+-- C99 6.4.4.1
+abbrev pub integer_constant : ℕ → IntegerConstant → Scope → Part
+integer_constant at c s = constant (says.integer_constant at c s) (pos c.value)
+
+-- C99 6.4.4.4
+abbrev pub character_constant : ℕ → ℤ → Scope → Part
+character_constant at value s = constant (says.character_constant at value s) value
+
+-- C99 6.4.4.2: refused, as is all of floating type
+abbrev pub floating_constant : ℕ → Scope → Part
+floating_constant at s = unmeant (says.floating_constant at s)
+
+-- ---- string literals (C99 6.4.5) and `__func__` (C99 6.4.2.2): the array that was made for this one
+
+abbrev pub made_for : ℕ → Typed → Part
+made_for at x = placed x false alone (λ l env base d. Ok (start (l.static at), d))
+
+abbrev pub joined : List (List ℕ) → List ℕ
+joined [] = []
+joined (piece ∷ pieces) = piece ++ joined pieces
+
+abbrev pub string_literal : ℕ → List (List ℕ) → Scope → Part
+string_literal at pieces s =
+    record (made_for at (says.string_literal at pieces s)) { text = λ l. Some (joined pieces) }
+
+abbrev pub function_name : ℕ → Option Name → Scope → Part
+function_name at name s = made_for at (says.function_name at name s)
+
+-- ---- identifiers (C99 6.5.1p2)
+
+-- an automatic object is the one that this entry of its block made; what has static duration is there once
+abbrev pub object_number : Duration → ℕ → Level → Env → ℕ
+object_number duration.Automatic at l env = env at
+object_number duration.Static at l env = l.static at
+
+abbrev pub object_of : Typed → Duration → ℕ → Part
+object_of x duration at = placed x true alone (λ l env base d. Ok (start (object_number duration at l env), d))
+
+-- an object, a function, or an enumeration constant
+abbrev pub named_as : Typed → ℕ → Means → Part
+named_as x at (means.Object t duration linkage) = object_of x duration at
+named_as x at (means.Function t linkage) = object_of x duration.Static at
+named_as x at (means.Constant z) = constant x z
+named_as x at (means.Typedef t) = unmeant x
+named_as x at means.Faulty = unmeant x
+
+abbrev pub identifier : ℕ → Scope → Option Entry → Part
+identifier at s None = unmeant (says.identifier at s None)
+identifier at s (Some e) = named_as (says.identifier at s (Some e)) e.at e.means
+
+-- ---- operands one behind another
+
+-- both values, the left one first; the places of the right one stand behind those of the left one
+abbrev pub both_run : Part → Part → Level → Run (ℤ × ℤ)
+both_run x y l env base d = do
+  v ← x.run l env base d
+  w ← y.run l env (base + x.room l) v.1
+  Ok ((v.0, w.0), w.1)
+
+-- ---- subscripts (C99 6.5.2.1p2): the target of the sum
+
+abbrev pub subscript : ℕ → Part → Part → Part
+subscript at x y = placed (says.subscript at x.typed y.typed) false (over_both x y)
+    (λ l env base d. do
+      v ← both_run x y l env base d
+      a ← operated_on at o.Add x.typed y.typed v.0.0 v.0.1 v.1
+      Ok (address a.0, a.1))
+
+-- ---- members (C99 6.5.2.3)
+
+abbrev pub offset_in : Option Member → ℕ
+offset_in None = 0
+offset_in (Some m) = m.offset
+
+abbrev pub offset_of : Tables → Option CType → Name → ℕ
+offset_of tables None name = 0
+offset_of tables (Some t) name = offset_in (member_of tables t name)
+
+-- so many bytes behind an address, as a 64-bit number
+abbrev pub behind : ℕ → ℕ → ℕ
+behind offset a = (a + offset) % 2 ^ 64
+
+-- what bytes of a value that is no lvalue's are worth
+abbrev pub part_of_value : ℕ → Typed → ℤ → ℤ
+part_of_value offset x z =
+    value_of_bytes (class_in (type_of x))
+    (bytes_within offset (bytes_of x.after.tables (type_of x)) (unsigned_abs z))
+
+-- C99 6.5.2.3p3: of an lvalue the bytes in it, which has the same root; else some bytes of the value
+abbrev pub member_of_lvalue : ℕ → Typed → Part → Part
+member_of_lvalue offset x p = placed x p.rooted (over_one p)
+    (λ l env base d. do
+      a ← p.reach l env base d
+      Ok (behind offset a.0, a.1))
+
+abbrev pub member_of_value : ℕ → Typed → Part → Part
+member_of_value offset x p = valued x (over_one p)
+    (λ l env base d. do
+      v ← p.run l env base d
+      Ok (part_of_value offset x v.0, v.1))
+
+abbrev pub member_by : Bool → ℕ → Typed → Part → Part
+member_by true offset x p = member_of_lvalue offset x p
+member_by false offset x p = member_of_value offset x p
+
+abbrev pub is_lvalue : Option Shown → Bool
+is_lvalue None = false
+is_lvalue (Some x) = x.is_lvalue
+
+abbrev pub member : ℕ → Name → Part → Part
+member at name p =
+    member_by (is_lvalue p.typed.shown) (offset_of p.typed.after.tables (type_of p.typed) name)
+    (says.member at name p.typed) p
+
+-- C99 6.5.2.3p4
+abbrev pub arrow : ℕ → Name → Part → Part
+arrow at name p = placed (says.arrow at name p.typed) false (over_one p)
+    (λ l env base d. do
+      v ← p.run l env base d
+      Ok (behind (offset_of p.typed.after.tables (target_in (value_type p.typed)) name) (address v.0), v.1))
+
+-- ---- `++` and `--` (C99 6.5.2.4, 6.5.3.1): the value before, and the value that is stored
+
+abbrev pub stepped : ℕ → BinaryOperator → Part → Level → Run (ℤ × ℤ)
+stepped at op x l env base d = do
+  a ← x.reach l env base d
+  v ← load x.typed x.rooted a.0 a.1
+  w ← operated at op (operand x.typed.after.tables x.typed v.0) one v.1
+  z ← put at x.typed.after.tables x.typed x.rooted a.0 w.0 w.1
+  Ok ((v.0, z.0), z.1)
+
+abbrev pub postfix_by : ℕ → BinaryOperator → Part → Part
+postfix_by at op x = valued (says.postfix at x.typed) (over_one x)
+    (λ l env base d. do
+      v ← stepped at op x l env base d
+      Ok (v.0.0, v.1))
+
+-- C99 6.5.2.4p2, p3
+abbrev pub postfix : ℕ → PostfixOperator → Part → Part
+postfix at postfix_.Increment x = postfix_by at o.Add x
+postfix at postfix_.Decrement x = postfix_by at o.Subtract x
+
+abbrev pub prefix : ℕ → UnaryOperator → BinaryOperator → Part → Part
+prefix at operator op x = valued (says.unary at operator x.typed) (over_one x)
+    (λ l env base d. do
+      v ← stepped at op x l env base d
+      Ok (v.0.1, v.1))
+
+-- ---- unary operators (C99 6.5.3)
+
+-- C99 6.5.3.2p3: of `*p` the pointer, of `a[i]` the sum, and nothing is read
+abbrev pub address_of : ℕ → Part → Part
+address_of at x = valued (says.unary at u.Address x.typed) (over_one x)
+    (λ l env base d. do
+      a ← x.reach l env base d
+      Ok (pos a.0, a.1))
+
+-- C99 6.5.3.2p4
+abbrev pub indirection : ℕ → Part → Part
+indirection at x = placed (says.unary at u.Indirection x.typed) false (over_one x)
+    (λ l env base d. do
+      v ← x.run l env base d
+      Ok (address v.0, v.1))
+
+abbrev pub on_value : ℕ → UnaryOperator → (Operand → State → Outcome ℤ) → Part → Part
+on_value at operator f x = valued (says.unary at operator x.typed) (over_one x)
+    (λ l env base d. do
+      v ← x.run l env base d
+      f (operand x.typed.after.tables x.typed v.0) v.1)
+
+abbrev pub unary : ℕ → UnaryOperator → Part → Part
+unary at u.Address x = address_of at x
+unary at u.Indirection x = indirection at x
+unary at u.Plus x = on_value at u.Plus (turned_value at u.Plus) x
+unary at u.Minus x = on_value at u.Minus (turned_value at u.Minus) x
+unary at u.Complement x = on_value at u.Complement (turned_value at u.Complement) x
+unary at u.Not x = on_value at u.Not negated x
+unary at u.Increment x = prefix at u.Increment o.Add x
+unary at u.Decrement x = prefix at u.Decrement o.Subtract x
+
+-- ---- `sizeof` (C99 6.5.3.4p2): its operand isn't evaluated, and takes no place
+
+abbrev pub unevaluated : Typed → Part
+unevaluated x = constant x (unwrap_or (constant_of x) (pos 0))
+
+abbrev pub size_of_expression : ℕ → Part → Part
+size_of_expression at p = unevaluated (says.size_of_expression at p.typed)
+
+abbrev pub size_of_type : ℕ → NamedType → List Fault → Scope → Part
+size_of_type at t faults s = unevaluated (says.size_of_type at t faults s)
+
+-- ---- casts (C99 6.5.4p3): to void, the value isn't used (C99 6.3.2.2)
+
+abbrev pub cast_operand : Class → Part → Level → Run ℤ
+cast_operand class.Void p = p.effect
+cast_operand c p = p.run
+
+abbrev pub cast_as : Class → Typed → Part → Part
+cast_as c x p = valued x (over_one p)
+    (λ l env base d. do
+      v ← cast_operand c p l env base d
+      Ok (converted_to c v.0, v.1))
+
+abbrev pub cast : ℕ → NamedType → List Fault → Part → Part
+cast at t faults p = let x = says.cast at t faults p.typed in cast_as (class_in (type_of x)) x p
+
+-- ---- binary operators
+
+-- C99 6.5.5 to 6.5.12
+abbrev pub both_evaluated : ℕ → BinaryOperator → Part → Part → Part
+both_evaluated at op x y = valued (says.binary at op x.typed y.typed) (over_both x y)
+    (λ l env base d. do
+      v ← both_run x y l env base d
+      operated_on at op x.typed y.typed v.0.0 v.0.1 v.1)
+
+-- a value is taken as a condition, and the branch is noted
+abbrev pub on_branch : {A : Type 0} → ℕ → ℤ → (Bool → State → A) → State → A
+on_branch at z f d =
+    cond (is_zero z) (f false (note (happening.Branch at side.No) d)) (f true (note (happening.Branch at side.Yes) d))
+
+abbrev pub truth_of : Part → Level → Run ℤ
+truth_of y l env base d = do
+  w ← y.run l env base d
+  Ok (number_of (not (is_zero w.0)), w.1)
+
+-- C99 6.5.13p4: the right operand isn't evaluated where the left one is 0
+abbrev pub and_then : Part → Level → Env → ℕ → Bool → State → Outcome ℤ
+and_then y l env base true d = truth_of y l env base d
+and_then y l env base false d = Ok (pos 0, d)
+
+-- C99 6.5.14p4: nor where it isn't 0
+abbrev pub or_else : Part → Level → Env → ℕ → Bool → State → Outcome ℤ
+or_else y l env base true d = Ok (pos 1, d)
+or_else y l env base false d = truth_of y l env base d
+
+abbrev pub logical :
+    ℕ → BinaryOperator → (Part → Level → Env → ℕ → Bool → State → Outcome ℤ) → Part → Part → Part
+logical at op f x y = valued (says.binary at op x.typed y.typed) (over_both x y)
+    (λ l env base d. do
+      v ← x.run l env base d
+      on_branch at v.0 (f y l env (base + x.room l)) v.1)
+
+abbrev pub binary : ℕ → BinaryOperator → Part → Part → Part
+binary at o.LogicalAnd x y = logical at o.LogicalAnd and_then x y
+binary at o.LogicalOr x y = logical at o.LogicalOr or_else x y
+binary at op x y = both_evaluated at op x y
+
+-- ---- the conditional operator (C99 6.5.15p4): one of the two is evaluated, and converted to the type of both
+
+abbrev pub chosen : Class → Part → Part → Level → Env → ℕ → Bool → State → Outcome ℤ
+chosen c x y l env base true d = do
+  v ← x.run l env base d
+  Ok (converted_to c v.0, v.1)
+chosen c x y l env base false d = do
+  v ← y.run l env (base + x.room l) d
+  Ok (converted_to c v.0, v.1)
+
+abbrev pub choice_as : ℕ → Typed → Part → Part → Part → Part
+choice_as at t c x y = valued t (over_three c x y)
+    (λ l env base d. do
+      v ← c.run l env base d
+      on_branch at v.0 (chosen (class_in (type_of t)) x y l env (base + c.room l)) v.1)
+
+abbrev pub choice : ℕ → Part → Part → Part → Part
+choice at c x y = choice_as at (says.choice at c.typed x.typed y.typed) c x y
+
+-- ---- assignment (C99 6.5.16)
+
+-- C99 6.5.16.1p2: the target, the value, and the store
+abbrev pub simple : ℕ → Part → Part → Level → Run ℤ
+simple at x y l env base d = do
+  a ← x.reach l env base d
+  w ← y.run l env (base + x.room l) a.1
+  put at y.typed.after.tables x.typed x.rooted a.0 w.0 w.1
+
+-- C99 6.5.16.2p3: the target is evaluated once, and its value is taken before the right operand is evaluated
+abbrev pub compound : ℕ → BinaryOperator → Part → Part → Level → Run ℤ
+compound at op x y l env base d = do
+  a ← x.reach l env base d
+  v ← load x.typed x.rooted a.0 a.1
+  w ← y.run l env (base + x.room l) v.1
+  z ← operated_on at op x.typed y.typed v.0 w.0 w.1
+  put at y.typed.after.tables x.typed x.rooted a.0 z.0 z.1
+
+abbrev pub assigned : ℕ → Option BinaryOperator → Part → Part → Level → Run ℤ
+assigned at None x y = simple at x y
+assigned at (Some op) x y = compound at op x y
+
+abbrev pub assignment : ℕ → Option BinaryOperator → Part → Part → Part
+assignment at op x y = valued (says.assignment at op x.typed y.typed) (over_both x y) (assigned at op x y)
+
+-- ---- the comma operator (C99 6.5.17p2): the left operand's value isn't used
+
+abbrev pub comma : ℕ → Part → Part → Part
+comma at x y = valued (says.comma at x.typed y.typed) (over_both x y)
+    (λ l env base d. do
+      v ← x.effect l env base d
+      y.run l env (base + x.room l) v.1)
+
+-- ---- calls (C99 6.5.2.2)
+
+-- an argument, and the type to which it is converted
+pub record Passed : Type 0 where
+  pub part : Part
+  pub ctype : Option CType
+
+abbrev pub promoted_as : CType → Option IntegerKind → CType
+promoted_as t None = t
+promoted_as t (Some kind) = integer (promoted kind)
+
+abbrev pub promoted_type : Option CType → Option CType
+promoted_type None = None
+promoted_type (Some t) = Some (promoted_as t (kind_of t))
+
+-- to the type of the parameter, or where none is declared to the promoted type (C99 6.5.2.2p4, p6, p7)
+abbrev pub passed : List Part → List CType → List Passed
+passed [] ts = []
+passed (p ∷ ps) [] = record { part = p; ctype = promoted_type (value_type p.typed) } ∷ passed ps []
+passed (p ∷ ps) (t ∷ ts) = record { part = p; ctype = Some t } ∷ passed ps ts
+
+abbrev pub parameters_in : Option Signature → List CType
+parameters_in None = []
+parameters_in (Some g) = g.parameters
+
+abbrev pub parameters_from : Tables → List Derivation → List CType
+parameters_from tables (derivation.Function n ∷ ds) = parameters_in (slice_get tables.signatures n)
+parameters_from tables _ = []
+
+-- the types of the parameters that a function's type declares
+abbrev pub parameters_of : Tables → Option CType → List CType
+parameters_of tables None = []
+parameters_of tables (Some t) = parameters_from tables t.derivations
+
+abbrev pub all_sizes : List Passed → Level → ℕ
+all_sizes [] l = 0
+all_sizes (q ∷ qs) l = q.part.size l + all_sizes qs l
+
+abbrev pub all_rooms : List Passed → Level → ℕ
+all_rooms [] l = 0
+all_rooms (q ∷ qs) l = q.part.room l + all_rooms qs l
+
+-- from left to right, each converted before the next is evaluated
+abbrev pub arguments : List Passed → Level → Run (List ℤ)
+arguments [] l env base d = Ok ([], d)
+arguments (q ∷ qs) l env base d = do
+  v ← q.part.run l env base d
+  vs ← arguments qs l env (base + q.part.room l) v.1
+  Ok (converted_to (class_in q.ctype) v.0 ∷ vs.0, vs.1)
+
+abbrev pub passed_types : List Passed → List (Option CType)
+passed_types [] = []
+passed_types (q ∷ qs) = q.ctype ∷ passed_types qs
+
+abbrev pub passed_texts : List Passed → Level → List (Option (List ℕ))
+passed_texts [] l = []
+passed_texts (q ∷ qs) l = q.part.text l ∷ passed_texts qs l
+
+abbrev pub site : ℕ → Entry → Typed → List Passed → Level → Site
+site at callee x qs l = record {
+  at = at;
+  callee = callee;
+  ctype = type_of x;
+  types = passed_types qs;
+  texts = passed_texts qs l;
+  scope = x.after;
+}
+
+-- the arguments, the event, and what the function does
+abbrev pub calling : (Level → Site) → List Passed → Level → Run (Option ℤ)
+calling g qs l env base d = do
+  vs ← arguments qs l env base d
+  acting (g l) l env vs.0 (base + all_rooms qs l) (note (happening.Call (g l).at) vs.1)
+  where
+    acting : Site → Level → Env → List ℤ → ℕ → State → Outcome (Option ℤ)
+    acting g l env vs base d = returned d (l.call g env vs base d.store d.count)
+
+-- a function that returns a value must have given one where it is used (C99 6.9.1p12)
+abbrev pub needed : ℕ → Class → Option ℤ → State → Outcome ℤ
+needed at c (Some z) d = Ok (z, d)
+needed at class.Void None d = Ok (pos 0, d)
+needed at c None d = stop at MissingValue d
+
+-- what an identity function hands on is a literal where its argument is one
+abbrev pub text_at : Option ℕ → List (Option (List ℕ)) → Option (List ℕ)
+text_at None texts = None
+text_at (Some i) texts = unwrap_or (slice_get texts i) None
+
+abbrev pub direct_call : ℕ → Typed → (Level → Site) → List Passed → Part
+direct_call at x g qs = record {
+  typed = x;
+  rooted = false;
+  text = λ l. text_at (l.identity (g l).callee.name) (g l).texts;
+  size = λ l. suc (all_sizes qs l + l.size (g l));
+  room = λ l. all_rooms qs l + l.room (g l);
+  reach = nowhere;
+  run = λ l env base d. do
+    v ← calling g qs l env base d
+    needed at (class_in (type_of x)) v.0 v.1;
+  effect = λ l env base d. do
+    v ← calling g qs l env base d
+    Ok (unwrap_or v.0 (pos 0), v.1);
+}
+
+abbrev pub call_of : Option Entry → Typed → Typed → List Passed → Part
+call_of None f x qs = unmeant x
+call_of (Some e) f x qs = direct_call f.at x (site f.at e x qs) qs
+
+-- what the arguments say to the types, behind those before them
+abbrev pub arguments_said : Arguments → List Part → Arguments
+arguments_said xs [] = xs
+arguments_said xs (p ∷ ps) = arguments_said (and_argument xs (told_of (used p.typed))) ps
+
+abbrev pub designated : Option Shown → Option Entry
+designated None = None
+designated (Some x) = x.designates
+
+-- the callee is a name, perhaps in parentheses: every other call is refused, as one by a pointer is
+abbrev pub call : ℕ → Part → List Part → Scope → Part
+call at f ps s =
+    call_of (designated f.typed.shown) f.typed (call_said at f.typed ps s)
+    (passed ps (parameters_of s.tables (type_of f.typed)))
+  where
+    call_said : ℕ → Typed → List Part → Scope → Typed
+    call_said at f ps s = says.call at f.at f.shown (arguments_said (no_arguments f.faults) ps) s
