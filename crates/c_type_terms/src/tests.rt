@@ -2,6 +2,7 @@ use crate::{
     AggregateForm, Base, CType, Class, Derivation, Extent, IntegerKind, Layout, Qualifiers, Tables,
 };
 use bit_words::Bytes;
+use c_lexer::Name;
 use plain_data::{Items, Shared};
 use std::alloc::{AllocError, Global};
 use std::test::Fail;
@@ -14,7 +15,7 @@ fn no_tables(alloc: Global) -> Tables {
     }
 }
 
-fn derived(alloc: Global, steps: &[Derivation]) -> Result<CType, AllocError> {
+fn short_by(alloc: Global, steps: &[Derivation]) -> Result<CType, AllocError> {
     Ok(CType {
         derivations: Items::from_slice(alloc, steps)?,
         base: Base::Integer(IntegerKind::Short),
@@ -22,54 +23,76 @@ fn derived(alloc: Global, steps: &[Derivation]) -> Result<CType, AllocError> {
     })
 }
 
+fn class_of(part: Option<CType>) -> Option<Class> {
+    match part {
+        Some(ctype) => Some(ctype.class()),
+        None => None,
+    }
+}
+
+fn array_then_element(alloc: Global, t: &CType) -> Result<Option<Class>, AllocError> {
+    Ok(class_of(t.array(alloc, Some(3))?.element(alloc)?))
+}
+
+fn pointer_then_target(alloc: Global, t: &CType) -> Result<Option<Class>, AllocError> {
+    Ok(class_of(t.pointer(alloc, Qualifiers::NONE)?.target(alloc)?))
+}
+
+fn function_then_returned(alloc: Global, t: &CType) -> Result<Option<Class>, AllocError> {
+    Ok(class_of(t.function(alloc, 0)?.returned(alloc)?))
+}
+
+fn decayed(alloc: Global, t: &CType) -> Result<Class, AllocError> {
+    Ok(t.duplicate(alloc)?.decayed(alloc)?.class())
+}
+
 #[test]
-fn types_are_derived_and_taken_apart(rt: HostRuntime) -> Result<(), Fail> {
+fn a_derived_type_has_its_part(rt: HostRuntime) -> Result<(), Fail> {
     let alloc = rt.alloc();
-    let base = derived(alloc, &[])?;
-    let function = base.function(alloc, 0)?.duplicate(alloc)?;
-    let pointer = function.pointer(alloc, Qualifiers::NONE)?;
-    let array = pointer.array(alloc, Some(3))?;
-    assert_eq!(rt; array.class(), Class::Array);
-    assert!(rt; matches!(array.element(alloc)?, Some(t) if t.class() == Class::Pointer));
-    assert!(rt; matches!(pointer.target(alloc)?, Some(t) if t.class() == Class::Function));
-    assert!(rt;
-        matches!(function.returned(alloc)?, Some(t) if t.kind() == Some(IntegerKind::Short))
-    );
-    assert_eq!(rt; array.decayed(alloc)?.class(), Class::Pointer);
-    assert_eq!(rt; function.decayed(alloc)?.class(), Class::Pointer);
+    let base = short_by(alloc, &[])?;
+    let class = Some(Class::Integer(IntegerKind::Short));
+    assert!(rt; array_then_element(alloc, &base)? == class);
+    assert!(rt; pointer_then_target(alloc, &base)? == class);
+    assert!(rt; function_then_returned(alloc, &base)? == class);
     Ok(())
 }
 
 #[test]
-fn members_are_placed(rt: HostRuntime) -> Result<(), Fail> {
+fn a_function_is_a_pointer_where_it_is_used(rt: HostRuntime) -> Result<(), Fail> {
+    let alloc = rt.alloc();
+    let function = short_by(alloc, &[Derivation::Function(0)])?;
+    assert!(rt; decayed(alloc, &function)? == Class::Pointer);
+    Ok(())
+}
+
+fn size_with_member(alloc: Global, name: Name, ctype: CType) -> Result<u64, AllocError> {
+    let mut layout = Layout::new(alloc);
+    let extent = Extent { size: 5, align: 4 };
+    layout.place(AggregateForm::Structure, extent, name, ctype)?;
+    layout.finish();
+    Ok(layout.size)
+}
+
+#[test]
+fn a_member_is_placed(rt: HostRuntime) -> Result<(), Fail> {
     let alloc = rt.alloc();
     let name = Shared::new(alloc, Bytes::from_slice(alloc, b"a")?)?;
-    let mut layout = Layout::new(alloc);
-    let extent = Extent { size: 5, align: 1 };
-    layout.place(
-        AggregateForm::Structure,
-        extent,
-        name.clone()?,
-        derived(alloc, &[])?,
-    )?;
-    let extent = Extent { size: 4, align: 4 };
-    layout.place(AggregateForm::Structure, extent, name, derived(alloc, &[])?)?;
-    layout.finish();
-    assert_eq!(rt; layout.size, 12);
+    let ctype = short_by(alloc, &[])?;
+    assert!(rt; size_with_member(alloc, name, ctype)? == 8);
     Ok(())
+}
+
+fn completed(alloc: Global, t: &CType, u: &CType) -> Result<Option<u64>, AllocError> {
+    let tables = no_tables(alloc);
+    let composite = tables.composite(alloc, t, u)?;
+    Ok(tables.size_of(&composite))
 }
 
 #[test]
 fn an_array_is_completed(rt: HostRuntime) -> Result<(), Fail> {
     let alloc = rt.alloc();
-    let tables = no_tables(alloc);
-    let unknown = derived(alloc, &[Derivation::Array(None)])?;
-    let known = derived(alloc, &[Derivation::Array(Some(3))])?;
-    assert!(rt; tables.compatible(&unknown, &known));
-    assert_eq!(rt; tables.size_of(&unknown), None);
-    assert_eq!(rt;
-        tables.size_of(&tables.composite(alloc, &unknown, &known)?),
-        Some(6)
-    );
+    let unknown = short_by(alloc, &[Derivation::Array(None)])?;
+    let known = short_by(alloc, &[Derivation::Array(Some(3))])?;
+    assert!(rt; completed(alloc, &unknown, &known)? == Some(6));
     Ok(())
 }
