@@ -90,9 +90,10 @@ pub record Case : Type 0 where
   pub at : ℕ
   pub value : Option ℤ
 
--- An object that lives throughout the run, as a declaration in a block or the file declares it: how many bytes it has, whether it is
--- defined there, so that its bytes are 0 (C99 6.7.8p10), and what its initializer does.
+-- An object that lives throughout the run, as a declaration in a block or the file declares it: the declaration's own offset, how many bytes
+-- it has, whether it is defined there, so that its bytes are 0 (C99 6.7.8p10), and what its initializer does.
 pub record Lasting : Type 0 where
+  pub at : ℕ
   pub entry : Entry
   pub size : ℕ
   pub is_defined : Bool

@@ -5,3 +5,5 @@ pub mod Statements
 pub mod Rules
 pub mod Calls
 pub mod Names
+pub mod Programs
+pub mod Runs

@@ -89,8 +89,9 @@ abbrev pub no_env : Env
 no_env at = 0
 
 -- it is initialised once, before the program starts (C99 6.2.4p3)
-abbrev pub lasting_object : Entry → ℕ → Bool → Initial → Lasting
-lasting_object e n defined x = record {
+abbrev pub lasting_object : ℕ → Entry → ℕ → Bool → Initial → Lasting
+lasting_object at e n defined x = record {
+  at = at;
   entry = e;
   size = n;
   is_defined = defined;
@@ -104,27 +105,27 @@ link name linkage.Internal = name ∷ []
 link name linkage.External = name ∷ []
 
 -- an object with static storage duration
-abbrev pub lasting : Entry → ℕ → Linkage → Bool → Initial → Scope → Item
-lasting e n l defined x s = record (nothing s) {
+abbrev pub lasting : ℕ → Entry → ℕ → Linkage → Bool → Initial → Scope → Item
+lasting at e n l defined x s = record (nothing s) {
   breaches = x.constant;
   calls = x.calls;
-  lasting = lasting_object e n defined x ∷ [];
+  lasting = lasting_object at e n defined x ∷ [];
   links = link e.name l;
   size = λ z. cond defined (1 + x.size z) 0;
 }
 
 -- by what the name means: only objects act
-abbrev pub declared_means : Entry → Means → Bool → Initial → Scope → Item
-declared_means e (means.Object t duration.Automatic l) defined x s = automatic e (bytes_of s.tables (Some t)) x s
-declared_means e (means.Object t duration.Static l) defined x s = lasting e (bytes_of s.tables (Some t)) l defined x s
-declared_means e (means.Function t l) defined x s = record (nothing s) { links = e.name ∷ [] }
-declared_means e (means.Typedef t) defined x s = nothing s
-declared_means e (means.Constant z) defined x s = nothing s
-declared_means e means.Faulty defined x s = nothing s
+abbrev pub declared_means : ℕ → Entry → Means → Bool → Initial → Scope → Item
+declared_means at e (means.Object t duration.Automatic l) defined x s = automatic e (bytes_of s.tables (Some t)) x s
+declared_means at e (means.Object t duration.Static l) defined x s = lasting at e (bytes_of s.tables (Some t)) l defined x s
+declared_means at e (means.Function t l) defined x s = record (nothing s) { links = e.name ∷ [] }
+declared_means at e (means.Typedef t) defined x s = nothing s
+declared_means at e (means.Constant z) defined x s = nothing s
+declared_means at e means.Faulty defined x s = nothing s
 
-abbrev pub declared_entry : Option Entry → Bool → Initial → Scope → Item
-declared_entry None defined x s = nothing s
-declared_entry (Some e) defined x s = declared_means e e.means defined x s
+abbrev pub declared_entry : ℕ → Option Entry → Bool → Initial → Scope → Item
+declared_entry at None defined x s = nothing s
+declared_entry at (Some e) defined x s = declared_means at e e.means defined x s
 
 abbrev pub type_in_entry : Option Entry → Option CType
 type_in_entry None = None
@@ -132,17 +133,21 @@ type_in_entry (Some e) = object_type e.means
 
 -- The name is in force in its own initializer (C99 6.2.1p7), with the type that the declarator gives it: `plain` is the declaration without
 -- its initializer, `whole` with it.
-abbrev pub declared_item : Bool → Option Initially → Declared → Declared → Item
-declared_item defined i plain whole =
+abbrev pub declared_item : ℕ → Bool → Option Initially → Declared → Declared → Item
+declared_item at defined i plain whole =
     with_breaches (typing whole.faults)
-      (declared_entry whole.entry defined (initialising_if i (type_in_entry plain.entry) plain.after) whole.after)
+      (declared_entry at whole.entry defined (initialising_if i (type_in_entry plain.entry) plain.after) whole.after)
 
 -- without `extern`, or with an initializer, an object is defined (C99 6.9.2p1, p2)
 abbrev pub defines : Said → Option Initially → Bool
 defines said i = not (is_extern said.storage) || is_some i
 
+abbrev pub name_offset : Option (ℕ × Name) → ℕ
+name_offset None = 0
+name_offset (Some n) = n.0
+
 abbrev pub declares_formed : Said → Formed → Option Initially → Item
-declares_formed said f i = declared_item (defines said i) i (declares said f None) (declares said f (said_if i))
+declares_formed said f i = declared_item (name_offset f.name) (defines said i) i (declares said f None) (declares said f (said_if i))
 
 abbrev pub declares_all : Said → List Declaring → Scope → Item
 declares_all said [] s = nothing s
