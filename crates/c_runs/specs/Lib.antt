@@ -7,3 +7,5 @@ pub mod Calls
 pub mod Names
 pub mod Programs
 pub mod Runs
+pub mod Checks
+pub mod Prelude
