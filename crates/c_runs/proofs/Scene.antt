@@ -90,13 +90,130 @@ parameter s d = built.parameter noting (s ∷ []) d
 
 -- ---- statements
 
+pub noted_is : (x : OfExpr) → noted x.tree ≡ x.says
+unfolding noted
+noted_is x = x.is
+
+pub declarator_is : (x : OfDeclarator) → declarator_noted x.tree ≡ x.says
+unfolding declarator_noted
+declarator_is x = x.is
+
+pub specifiers_are : (xs : List OfSpecifier) →
+    map specifier_noted (trees (fold_specifier {c = Says ExprNoted} noting) xs) ≡ all_say (fold_specifier {c = Says ExprNoted} noting) xs
+unfolding specifier_noted
+specifiers_are xs = all_are (fold_specifier {c = Says ExprNoted} noting) xs
+
 abbrev pub does : OfExpr → OfStmt
 does x = record {
   tree = tree.Value 0 (Some x.tree);
   says = code (λ c. node (maybe_value (Some x.says) c.scope)) [];
   is = eqs.does-Value 0 (Some x.tree) ∙ ap (λ e. code (λ c. node (maybe_value (Some e) c.scope)) []) (noted_is x);
 }
-  where
-    unfolding noted
-    noted_is : (x : OfExpr) → noted x.tree ≡ x.says
-    noted_is x = x.is
+
+abbrev pub block : List OfStmt → OfStmt
+block xs = record {
+  tree = tree.Block 0 (trees stmt xs);
+  says = compound (all_say stmt xs);
+  is = eqs.does-Block 0 (trees stmt xs) ∙ ap compound (all_are stmt xs);
+}
+
+abbrev pub returns : ℕ → OfExpr → OfStmt
+returns at x = record {
+  tree = tree.Return at (Some x.tree);
+  says = code (return_of at (Some x.says)) [];
+  is = eqs.does-Return at (Some x.tree) ∙ ap (λ e. code (return_of at (Some e)) []) (noted_is x);
+}
+
+abbrev pub while : ℕ → OfExpr → OfStmt → OfStmt
+while at x b = record {
+  tree = tree.While at x.tree b.tree;
+  says = while_of at x.says b.says;
+  is = eqs.does-While at x.tree b.tree ∙ ap (λ e. while_of at e (stmt b.tree)) (noted_is x)
+      ∙ ap (λ e. while_of at x.says e) b.is;
+}
+
+abbrev pub when : ℕ → OfExpr → OfStmt → OfStmt
+when at x y = record {
+  tree = tree.If at x.tree y.tree None;
+  says = if_of at x.says y.says None;
+  is = eqs.does-If at x.tree y.tree None ∙ ap (λ e. if_of at e (stmt y.tree) None) (noted_is x)
+      ∙ ap (λ e. if_of at x.says e None) y.is;
+}
+
+abbrev pub for : ℕ → OfExpr → OfExpr → OfExpr → OfStmt → OfStmt
+for at x y z b = record {
+  tree = tree.For at (start_.Value (Some x.tree)) (Some y.tree) (Some z.tree) b.tree;
+  says = for_of at (maybe_value (Some x.says)) (Some y.says) (Some z.says) b.says;
+  is = eqs.does-For at (start_.Value (Some x.tree)) (Some y.tree) (Some z.tree) b.tree
+      ∙ ap (λ e. for_of at (maybe_value (Some e)) (Some (noted y.tree)) (Some (noted z.tree)) (stmt b.tree)) (noted_is x)
+      ∙ ap (λ e. for_of at (maybe_value (Some x.says)) (Some e) (Some (noted z.tree)) (stmt b.tree)) (noted_is y)
+      ∙ ap (λ e. for_of at (maybe_value (Some x.says)) (Some y.says) (Some e) (stmt b.tree)) (noted_is z)
+      ∙ ap (λ e. for_of at (maybe_value (Some x.says)) (Some y.says) (Some z.says) e) b.is;
+}
+
+abbrev pub switch : ℕ → OfExpr → OfStmt → OfStmt
+switch at x b = record {
+  tree = tree.Switch at x.tree b.tree;
+  says = switch_of at x.says b.says;
+  is = eqs.does-Switch at x.tree b.tree ∙ ap (λ e. switch_of at e (stmt b.tree)) (noted_is x)
+      ∙ ap (λ e. switch_of at x.says e) b.is;
+}
+
+abbrev pub case : ℕ → OfExpr → OfStmt → OfStmt
+case at x b = record {
+  tree = tree.Case at x.tree b.tree;
+  says = case_labeled at x.says b.says;
+  is = eqs.does-Case at x.tree b.tree ∙ ap (λ e. case_labeled at e (stmt b.tree)) (noted_is x)
+      ∙ ap (λ e. case_labeled at x.says e) b.is;
+}
+
+abbrev pub otherwise : ℕ → OfStmt → OfStmt
+otherwise at b = record {
+  tree = tree.Default at b.tree;
+  says = default_labeled at b.says;
+  is = eqs.does-Default at b.tree ∙ ap (default_labeled at) b.is;
+}
+
+abbrev pub label : ℕ → Name → OfStmt → OfStmt
+label at x b = record {
+  tree = tree.Label at x b.tree;
+  says = labeled at x b.says;
+  is = eqs.does-Label at x b.tree ∙ ap (labeled at x) b.is;
+}
+
+abbrev pub goto : ℕ → Name → OfStmt
+goto at x = record { tree = tree.Goto at x; says = code (goto_of at x) []; is = eqs.does-Goto at x }
+
+abbrev pub break : ℕ → OfStmt
+break at = record { tree = tree.Break at; says = code (break_of at) []; is = eqs.does-Break at }
+
+abbrev pub continue : ℕ → OfStmt
+continue at = record { tree = tree.Continue at; says = code (continue_of at) []; is = eqs.does-Continue at }
+
+-- ---- a declaration of one name
+
+abbrev pub OfInitial : Type 0
+OfInitial = Built initially
+
+abbrev pub value : OfExpr → OfInitial
+value x = record {
+  tree = initial.Value x.tree;
+  says = value_initially x.says;
+  is = eqs.initially-Value x.tree ∙ ap value_initially (noted_is x);
+}
+
+abbrev pub one : OfDeclarator → Option OfInitial → InitDeclarator
+one d x = record { declarator = d.tree; assembler_name = []; initializer = built.tree_if initially x }
+
+abbrev pub declare : List OfSpecifier → OfDeclarator → Option OfInitial → OfStmt
+declare ss d x = record {
+  tree = tree.Declared (record { specifiers = trees (fold_specifier {c = Says ExprNoted} noting) ss; declarators = one d x ∷ [] });
+  says = code (λ c. declares_by (all_say (fold_specifier {c = Says ExprNoted} noting) ss)
+      (record { declarator = d.says; initial = built.says_if initially x } ∷ []) c.scope) [];
+  is = eqs.does-Declared (record { specifiers = trees (fold_specifier {c = Says ExprNoted} noting) ss; declarators = one d x ∷ [] })
+      ∙ ap (λ fs. code (λ c. declares_by fs (declaring (one d x) ∷ []) c.scope) []) (specifiers_are ss)
+      ∙ ap (λ f. code (λ c. declares_by (all_say (fold_specifier {c = Says ExprNoted} noting) ss)
+          (record { declarator = f; initial = option_map initially (built.tree_if initially x) } ∷ []) c.scope) []) (declarator_is d)
+      ∙ ap (λ i. code (λ c. declares_by (all_say (fold_specifier {c = Says ExprNoted} noting) ss)
+          (record { declarator = d.says; initial = i } ∷ []) c.scope) []) (built.is_if initially x);
+}
