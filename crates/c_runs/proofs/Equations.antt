@@ -19,7 +19,7 @@ use Rattle.c_tree.specs.declared.unit.Stmt.TheVariants.{rolls-For, rolls-Goto, r
 use Rattle.c_says.specs.Scopes.{Name}
 use Rattle.c_runs.specs.Items.{Code}
 use Rattle.c_runs.specs.Statements.{stmt, stmt_step}
-use Rattle.c_runs.specs.Initials.{Initially, Listed, initially, initially_step, listed_step}
+use Rattle.c_runs.specs.Initials.{Initially, Listed, initially, listed_item, initially_step, listed_step}
 
 pub does-Block : (at : ℕ) (items : List Stmt) → stmt (tree.Block at items)
     ≡ stmt_step (open_.Block at (map stmt items))
@@ -111,12 +111,21 @@ does-Return at value = ap stmt (sym (rolls-Return at value)) ∙ fold-roll-Stmt 
 
 -- ---- initializers
 
--- an item of a braced list
-pub listed_of : InitializerItem → Listed
-listed_of x = listed_step (record { designators = x.designators; value = initially x.value })
-
 pub initially-Value : (value : Expr) → initially (initial.Value value) ≡ initially_step (initial_open.Value value)
-unfolding initially
+unfolding initially listed_item
 initially-Value value =
     ap initially (sym (rolls-Initializer-Value value))
     ∙ fold-roll-Initializer Initially Listed initially_step listed_step (initial_open.Value value)
+
+pub initially-List : (at : ℕ) (items : List InitializerItem) (trailing : Bool) →
+    initially (initial.List at items trailing) ≡ initially_step (initial_open.List at (map listed_item items) trailing)
+unfolding initially listed_item
+initially-List at items trailing =
+    ap initially (sym (rolls-Initializer-List at items trailing))
+    ∙ fold-roll-Initializer Initially Listed initially_step listed_step (initial_open.List at items trailing)
+
+pub listed-Item : (x : InitializerItem) →
+    listed_item x ≡ listed_step (record { designators = x.designators; value = initially x.value })
+unfolding initially listed_item
+listed-Item x =
+    fold-roll-InitializerItem Initially Listed initially_step listed_step (record { designators = x.designators; value = x.value })

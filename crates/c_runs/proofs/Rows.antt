@@ -29,9 +29,9 @@ use Rattle.c_runs.specs.Programs.{Program, Outer, in_order, with_function, decla
 use Rattle.c_runs.specs.Runs.{Machine, run_of, level_of, room_of, unrolled_size, size_of}
 use Rattle.c_runs.specs.Checks.{breaches_of, has_main}
 use Rattle.c_runs.proofs.Scene.{OfExpr, OfDeclarator, OfSpecifier, OfParameter, OfStmt, OfInitial}
-use Rattle.c_runs.proofs.Scene.{int, text, the, op, un, set, element, increment, call, word, name, pointer, taking, parameter}
+use Rattle.c_runs.proofs.Scene.{int, text, the, op, un, set, element, increment, call, word, name, pointer, array, omitted, taking, parameter}
 use Rattle.c_runs.proofs.Scene.{does, block, returns, while, when, for, switch, case, otherwise, label, goto, break, continue}
-use Rattle.c_runs.proofs.Scene.{value, declare}
+use Rattle.c_runs.proofs.Scene.{value, declare, braced, item_at, plain_item}
 
 -- ---- programs
 
@@ -64,10 +64,7 @@ printf_declared s =
       (record { declarator = (taking (name 1 printf') []).says; initial = None } ∷ []) s) (declaring 1 printf')
 
 abbrev void_parameter : OfParameter
-void_parameter = parameter (word w.Void) (built_omitted)
-  where
-    built_omitted : OfDeclarator
-    built_omitted = Rattle.c_says.proofs.Built.omitted noting
+void_parameter = parameter (word w.Void ∷ []) omitted
 
 abbrev main_with : List Name → List Literal → List OfStmt → Scope → Outer
 main_with uses literals xs s = int_function 10 main' (void_parameter ∷ []) uses literals xs s
@@ -116,3 +113,145 @@ row_overflow_accepted = refl
 pub row_overflow_main : has_main overflowing ≡ true
 unfolding converted exact level_of
 row_overflow_main = refl
+
+-- ---- int main(void) { return 1 << 40; }
+
+pub row_shift : (run_of (machine silent (main_with [] [] (returns 30 (op 31 o.ShiftLeft (int 1) (int 40)) ∷ []) ∷ []))).finish
+    ≡ finish.Stopped undefined.Shift 31
+unfolding converted exact level_of
+row_shift = refl
+
+-- ---- int printf(); int main(void) { int x; for (x = 0; x < n; x++) printf("%d\n", x); return 0; }
+
+abbrev line : OfExpr
+line = text 40 (37 ∷ 100 ∷ 10 ∷ [])
+
+abbrev line_literal : List Literal
+line_literal = record { at = 40; text = Some (37 ∷ 100 ∷ 10 ∷ []) } ∷ []
+
+abbrev prints : OfExpr → OfStmt
+prints e = does (call 70 printf' (line ∷ e ∷ []))
+
+abbrev counting : ℕ → Machine
+counting n = machine silent (printf_declared ∷ main_with (printf' ∷ []) line_literal (
+    declare (word w.Int ∷ []) (name 20 x') None
+    ∷ for 60 (set x (int 0)) (op 0 o.Less x (int n)) (increment 0 x) (prints x)
+    ∷ returns 80 (int 0) ∷ []) ∷ [])
+
+abbrev eight_lines : List ℕ
+eight_lines = 48 ∷ 10 ∷ 49 ∷ 10 ∷ 50 ∷ 10 ∷ 51 ∷ 10 ∷ 52 ∷ 10 ∷ 53 ∷ 10 ∷ 54 ∷ 10 ∷ 55 ∷ 10 ∷ []
+
+pub row_eight_turns : (run_of (counting 8)).finish ≡ finish.Return (pos 0)
+unfolding converted exact level_of pieces_from
+row_eight_turns = refl
+
+pub row_eight_lines : (run_of (counting 8)).printed ≡ eight_lines
+unfolding converted exact level_of pieces_from
+row_eight_lines = refl
+
+pub row_nine_turns : (run_of (counting 9)).finish ≡ finish.Left 60
+unfolding converted exact level_of pieces_from
+row_nine_turns = refl
+
+pub row_nine_lines : (run_of (counting 9)).printed ≡ eight_lines
+unfolding converted exact level_of pieces_from
+row_nine_lines = refl
+
+pub row_counting_accepted : breaches_of (counting 9) ≡ []
+unfolding converted exact level_of pieces_from
+row_counting_accepted = refl
+
+-- ---- int f(int x) { if (x == 0) return 0; return f(x - 1); } int main(void) { return f(n); }
+
+abbrev descends : OfStmt
+descends = returns 53 (call 55 f' (op 0 o.Subtract x (int 1) ∷ []))
+
+abbrev deep : ℕ → Machine
+deep n = machine silent (
+    int_function 5 f' (parameter (word w.Int ∷ []) (name 7 x') ∷ []) (f' ∷ []) []
+      (when 50 (op 0 o.Equal x (int 0)) (returns 51 (int 0)) ∷ descends ∷ [])
+    ∷ main_with (f' ∷ []) [] (returns 80 (call 85 f' (int n ∷ [])) ∷ []) ∷ [])
+
+pub row_eight_levels : (run_of (deep 6)).finish ≡ finish.Return (pos 0)
+unfolding converted exact level_of
+row_eight_levels = refl
+
+pub row_nine_levels : (run_of (deep 7)).finish ≡ finish.Left 55
+unfolding converted exact level_of
+row_nine_levels = refl
+
+-- ---- int main(void) { int x; printf("%d\n", x); return 0; } where the world has 77 at the object's first byte
+
+-- `printf`, `main` and the literal have the places before it
+abbrev seventy_seven : World
+seventy_seven = record { word = λ p. 0; byte = λ a. cond (nat_eq a 17179869184) 77 0 }
+
+abbrev uninitialised : Machine
+uninitialised = machine seventy_seven (printf_declared ∷ main_with (printf' ∷ []) line_literal (
+    declare (word w.Int ∷ []) (name 20 x') None ∷ prints x ∷ returns 80 (int 0) ∷ []) ∷ [])
+
+pub row_uninitialised : (run_of uninitialised).printed ≡ 55 ∷ 55 ∷ 10 ∷ []
+unfolding converted exact level_of pieces_from
+row_uninitialised = refl
+
+-- ---- printf("%d\n", printf("%d\n", 7)): the inner call ends before the outer one begins
+
+abbrev nested : Machine
+nested = machine silent (printf_declared ∷ main_with (printf' ∷ []) line_literal (
+    does (call 70 printf' (line ∷ call 75 printf' (line ∷ int 7 ∷ []) ∷ [])) ∷ returns 80 (int 0) ∷ []) ∷ [])
+
+abbrev happenings : List Event → List Happening
+happenings [] = []
+happenings (e ∷ es) = e.what ∷ happenings es
+
+pub row_order_of_calls : happenings (run_of nested).events
+    ≡ happening.Call 75 ∷ happening.Print 75 2 [] ∷ happening.Call 70 ∷ happening.Print 70 2 [] ∷ []
+unfolding converted exact level_of pieces_from
+row_order_of_calls = refl
+
+-- ---- int x = 0; switch (n) { case 1: x = x + 1; case 2: x = x + 10; break; default: x = x + 100; } return x;
+
+abbrev adds : ℕ → OfStmt
+adds n = does (set x (op 0 o.Add x (int n)))
+
+abbrev choosing : ℕ → Machine
+choosing n = machine silent (main_with [] [] (
+    declare (word w.Int ∷ []) (name 20 x') (Some (value (int 0)))
+    ∷ switch 30 (int n) (block (case 31 (int 1) (adds 1) ∷ case 32 (int 2) (adds 10) ∷ break 33 ∷ otherwise 34 (adds 100) ∷ []))
+    ∷ returns 80 x ∷ []) ∷ [])
+
+pub row_case_falls_through : (run_of (choosing 1)).finish ≡ finish.Return (pos 11)
+unfolding converted exact level_of
+row_case_falls_through = refl
+
+pub row_case_breaks : (run_of (choosing 2)).finish ≡ finish.Return (pos 10)
+unfolding converted exact level_of
+row_case_breaks = refl
+
+pub row_default : (run_of (choosing 3)).finish ≡ finish.Return (pos 100)
+unfolding converted exact level_of
+row_default = refl
+
+pub row_case_event : happenings (run_of (choosing 2)).events ≡ happening.Branch 30 (side.Case (pos 2)) ∷ []
+unfolding converted exact level_of
+row_case_event = refl
+
+-- ---- int x = 1; goto f; x = x + 1; f: x = x + 10; return x;
+
+pub row_goto : (run_of (machine silent (main_with [] [] (
+    declare (word w.Int ∷ []) (name 20 x') (Some (value (int 1))) ∷ goto 30 f' ∷ adds 1 ∷ label 40 f' (adds 10) ∷ returns 80 x ∷ []) ∷ []))).finish
+    ≡ finish.Return (pos 11)
+unfolding converted exact level_of
+row_goto = refl
+
+-- ---- int x[3] = { [1] = 5, 7 }; return 100 * x[0] + 10 * x[1] + x[2];
+
+abbrev digit : ℕ → ℕ → OfExpr
+digit n i = op 0 o.Multiply (int n) (element 0 x (int i))
+
+pub row_designators : (run_of (machine silent (main_with [] [] (
+    declare (word w.Int ∷ []) (array 3 (name 20 x')) (Some (braced (item_at (int 1) (value (int 5)) ∷ plain_item (value (int 7)) ∷ [])))
+    ∷ returns 80 (op 0 o.Add (digit 100 0) (op 0 o.Add (digit 10 1) (digit 1 2))) ∷ []) ∷ []))).finish
+    ≡ finish.Return (pos 57)
+unfolding converted exact level_of
+row_designators = refl

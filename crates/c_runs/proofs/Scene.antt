@@ -8,6 +8,7 @@ use Rattle.c_tree.specs.declared.expr.TypeWord.{TypeWord}
 use Rattle.c_tree.specs.declared.expr.TypeWord.TheVariants as w
 use Rattle.c_tree.specs.declared.expr.UnaryOperator.{UnaryOperator}
 use Rattle.c_tree.specs.declared.unit.Declaration.{Declaration}
+use Rattle.c_tree.specs.declared.unit.Designator.TheVariants as designator
 use Rattle.c_tree.specs.declared.unit.ForStart.TheVariants as start_
 use Rattle.c_tree.specs.declared.unit.InitDeclarator.{InitDeclarator}
 use Rattle.c_tree.specs.declared.unit.Initializer.{Initializer}
@@ -20,7 +21,8 @@ use Rattle.c_says.proofs.Built.{Built, trees, all_say, all_are}
 use Rattle.c_says.proofs.Built as built
 use Rattle.c_runs.specs.Notes.{ExprNoted, noted, noting, declarator_noted, specifier_noted}
 use Rattle.c_runs.specs.Items.{Item, Code}
-use Rattle.c_runs.specs.Initials.{Initially, initially, value_initially}
+use Rattle.c_says.specs.Initials.{ToElement}
+use Rattle.c_runs.specs.Initials.{Initially, initially, listed_item, listed, value_initially, list_initially}
 use Rattle.c_runs.specs.Statements.{stmt, code, compound, labeled, case_labeled, default_labeled, if_of, switch_of, while_of, do_of}
 use Rattle.c_runs.specs.Statements.{for_of, goto_of, continue_of, break_of, return_of, maybe_value, declares_by, declaring, Declaring}
 use Rattle.c_runs.specs.Statements.{declaration}
@@ -82,11 +84,17 @@ name at x = built.named noting at x
 abbrev pub pointer : OfDeclarator → OfDeclarator
 pointer d = built.pointer noting 0 [] d
 
+abbrev pub array : ℕ → OfDeclarator → OfDeclarator
+array n d = built.array noting 0 d [] (Some (int n))
+
+abbrev pub omitted : OfDeclarator
+omitted = built.omitted noting
+
 abbrev pub taking : OfDeclarator → List OfParameter → OfDeclarator
 taking d ps = built.function noting 0 d ps false
 
-abbrev pub parameter : OfSpecifier → OfDeclarator → OfParameter
-parameter s d = built.parameter noting (s ∷ []) d
+abbrev pub parameter : List OfSpecifier → OfDeclarator → OfParameter
+parameter ss d = built.parameter noting ss d
 
 -- ---- statements
 
@@ -200,6 +208,33 @@ value x = record {
   tree = initial.Value x.tree;
   says = value_initially x.says;
   is = eqs.initially-Value x.tree ∙ ap value_initially (noted_is x);
+}
+
+abbrev pub OfItem : Type 0
+OfItem = Built listed_item
+
+abbrev pub plain_item : OfInitial → OfItem
+plain_item x = record {
+  tree = record { designators = []; value = x.tree };
+  says = listed [] x.says;
+  is = eqs.listed-Item (record { designators = []; value = x.tree }) ∙ ap (listed []) x.is;
+}
+
+-- [n] = x
+abbrev pub item_at : OfExpr → OfInitial → OfItem
+item_at n x = record {
+  tree = record { designators = designator.Element 0 n.tree ∷ []; value = x.tree };
+  says = listed (ToElement 0 n.says ∷ []) x.says;
+  is = eqs.listed-Item (record { designators = designator.Element 0 n.tree ∷ []; value = x.tree })
+      ∙ ap (λ e. listed (ToElement 0 e ∷ []) (initially x.tree)) (noted_is n)
+      ∙ ap (listed (ToElement 0 n.says ∷ [])) x.is;
+}
+
+abbrev pub braced : List OfItem → OfInitial
+braced xs = record {
+  tree = initial.List 0 (trees listed_item xs) false;
+  says = list_initially 0 (all_say listed_item xs);
+  is = eqs.initially-List 0 (trees listed_item xs) false ∙ ap (list_initially 0) (all_are listed_item xs);
 }
 
 abbrev pub one : OfDeclarator → Option OfInitial → InitDeclarator

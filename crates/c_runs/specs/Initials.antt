@@ -4,6 +4,7 @@ use Rattle.c_tree.specs.declared.unit.Designator.{Designator}
 use Rattle.c_tree.specs.declared.unit.Designator.TheVariants as designator
 use Rattle.c_tree.specs.declared.unit.Initializer.{Initializer, fold-Initializer}
 use Rattle.c_tree.specs.declared.unit.Initializer.TheOpen as open_
+use Rattle.c_tree.specs.declared.unit.InitializerItem.{InitializerItem, fold-InitializerItem}
 use Rattle.c_type_terms.specs.declared.ctype.CType.{CType}
 use Rattle.c_type_terms.specs.declared.tables.Tables.{Tables}
 use Rattle.c_type_terms.specs.Types.{class_of}
@@ -74,6 +75,9 @@ listed_step item = listed (map designated item.designators) item.value
 
 unfoldable pub initially : Initializer → Initially
 initially x = fold-Initializer Initially Listed initially_step listed_step x
+
+unfoldable pub listed_item : InitializerItem → Listed
+listed_item x = fold-InitializerItem Initially Listed initially_step listed_step x
 
 -- ---- what is stored
 
