@@ -21,7 +21,7 @@ use Rattle.c_tree.specs.declared.expr.UnaryOperator.TheVariants as u
 use Rattle.c_tree.specs.Folds.{DeclaratorLayer, FieldLayer, SpecifierLayer, MemberDeclarationLayer, ParameterLayer}
 use Rattle.c_tree.specs.Folds.{TypeNameLayer}
 use Rattle.c_tree.proofs.Induction.{Each, Maybe, Steps, of_expr, of_type_name, of_declarator, of_specifier}
-use Rattle.c_tree.proofs.Induction.{of_parameter}
+use Rattle.c_tree.proofs.Induction.{of_parameter, of_field, of_enumerator, of_member_declaration}
 use Rattle.c_says.specs.declared.scope.Entry.{Entry}
 use Rattle.c_says.specs.declared.scope.Means.{Means}
 use Rattle.c_says.specs.declared.scope.Means.TheVariants as means
@@ -38,7 +38,7 @@ use Rattle.c_says.specs.Trees.{enumerator_says, member_says, parameter_says, typ
 use Rattle.c_says.specs.Trees as says_trees
 use Rattle.c_says.proofs.Equations as types
 use Rattle.c_means.specs.Parts.{Part}
-use Rattle.c_means.specs.Expressions.{Passed, all_typed, binary, call, call_of, designated, identifier, member_by}
+use Rattle.c_means.specs.Expressions.{Passed, arguments_said, binary, call, call_of, designated, identifier, member_by}
 use Rattle.c_means.specs.Expressions.{named_as, postfix, unary}
 use Rattle.c_means.specs.Trees.{ExprMeans, said, through, Through, part, part_step, declarator_said, specifier_said}
 use Rattle.c_means.specs.Trees.{field_said, enumerator_said, member_said, parameter_said, type_name_said}
@@ -110,9 +110,9 @@ binary_typed at o.BitOr x y = refl
 binary_typed at o.LogicalAnd x y = refl
 binary_typed at o.LogicalOr x y = refl
 
-call_typed :
-    (at : ℕ) (f : Part) (ps : List Part) (s : Scope) →
-    (call at f ps s).typed ≡ says.call at f.typed (says.arguments_of (all_typed ps)) s
+call_typed : (at : ℕ) (f : Part) (ps : List Part) (s : Scope) →
+    (call at f ps s).typed
+    ≡ says.call at f.typed.at f.typed.shown (arguments_said (says.no_arguments f.typed.faults) ps) s
 call_typed at f ps s = called_typed (designated f.typed.shown) f.typed _ _
   where
     called_typed : (e : Option Entry) (f x : Typed) (qs : List Passed) → (call_of e f x qs).typed ≡ x
@@ -141,30 +141,28 @@ over_three x y z F hx hy hz s =
     ap (λ p. let q = (part y p.after).typed in F p q (part z q.after).typed) (hx s)
     ∙ over y z (F (typed x s)) hy hz (typed x s).after
 
--- arguments
-abbrev seen : Through → says_trees.Through
-seen t = record { all = all_typed t.all; after = t.after }
+-- arguments, behind those before them
+abbrev seen : says_trees.Through → Through → says_trees.Through
+seen x t = record { arguments = arguments_said x.arguments t.all; after = t.after }
 
-abbrev before : Typed → says_trees.Through → says_trees.Through
-before x more = record { all = x ∷ more.all; after = more.after }
-
-seen_same : (es : List Expr) → Each SameExpr es → (s : Scope) →
-    seen (through (map part es) s) ≡ says_trees.through (map typed es) s
-seen_same [] h s = refl
-seen_same (e ∷ es) h s =
-    ap (λ z. before z (seen (through (map part es) z.after))) (h.0 s)
-    ∙ ap (before (typed e s)) (seen_same es h.1 (typed e s).after)
+seen_same : (es : List Expr) → Each SameExpr es → (x : says_trees.Through) →
+    seen x (through (map part es) x.after) ≡ says_trees.through x (map typed es)
+seen_same [] h x = refl
+seen_same (e ∷ es) h x =
+    seen_same es h.1 (says_trees.through_one x (part e x.after).typed)
+    ∙ ap (λ z. says_trees.through (says_trees.through_one x z) (map typed es)) (h.0 x.after)
 
 call_same : (at : ℕ) (f : Expr) (es : List Expr) → SameExpr f → Each SameExpr es → (s : Scope) →
     (part_step (open_.Call at (part f) (map part es)) s).typed ≡ typed_step (open_.Call at (typed f) (map typed es)) s
 call_same at f es hf hs s =
-    let xs = through (map part es) (part f s).typed.after in
+    let p = (part f s).typed in
+    let xs = through (map part es) p.after in
     call_typed at (part f s) xs.all xs.after
-    ∙ ap (λ z. called z (seen (through (map part es) z.after))) (hf s)
-    ∙ ap (called (typed f s)) (seen_same es hs (typed f s).after)
+    ∙ ap (called p) (seen_same es hs (says_trees.behind_callee p))
+    ∙ ap (λ z. called z (says_trees.through (says_trees.behind_callee z) (map typed es))) (hf s)
   where
     called : Typed → says_trees.Through → Typed
-    called z ys = says.call at z (says.arguments_of ys.all) ys.after
+    called z xs = says.call at z.at z.shown xs.arguments xs.after
 
 cast_same : (at : ℕ) (t : TypeName) (e : Expr) → type_name_said t ≡ type_name_says t → SameExpr e → (s : Scope) →
     (part_step (open_.Cast at (type_name_said t) (part e)) s).typed
@@ -361,3 +359,18 @@ pub parameter_same : (p : Parameter) → parameter_said p ≡ parameter_says p
 parameter_same p =
     of_parameter SameDeclarator SameExpr SameField SameSpecifier SameEnumerator SameMember SameParameter SameTypeName
     steps p
+
+pub field_same : (x : Field) → field_said x ≡ field_says x
+field_same x =
+    of_field SameDeclarator SameExpr SameField SameSpecifier SameEnumerator SameMember SameParameter SameTypeName
+    steps x
+
+pub enumerator_same : (x : Enumerator) → enumerator_said x ≡ enumerator_says x
+enumerator_same x =
+    of_enumerator SameDeclarator SameExpr SameField SameSpecifier SameEnumerator SameMember SameParameter SameTypeName
+    steps x
+
+pub member_same : (x : MemberDeclaration) → member_said x ≡ member_says x
+member_same x =
+    of_member_declaration SameDeclarator SameExpr SameField SameSpecifier SameEnumerator SameMember SameParameter
+    SameTypeName steps x

@@ -1,25 +1,40 @@
 -- Worked rows: what expressions come to, in the scene of `Scene`.
-use Rattle.std.proofs.Common.{◌≡◌, ℕ, pos, [], ◌∷◌, Some, Err, ap}
+use Rattle.std.proofs.Common.{◌≡◌, ℕ, pos, [], ◌∷◌, Some, None, Err, ap}
 use Rattle.bit_words.specs.declared.run.Finish.TheVariants as finish
 use Rattle.bit_words.specs.declared.run.Happening.TheVariants as happening
 use Rattle.bit_words.specs.declared.run.Side.TheVariants as side
 use Rattle.bit_words.specs.declared.run.Undefined.TheVariants as undefined
+use Rattle.c_lexer.specs.declared.token.IntegerType.TheVariants as i
+use Rattle.c_tree.specs.declared.expr.AggregateKind.TheVariants as aggregate_kind
 use Rattle.c_tree.specs.declared.expr.BinaryOperator.TheVariants as o
+use Rattle.c_tree.specs.declared.expr.TagName.{TagName}
+use Rattle.c_tree.specs.Folds.{fold_field}
+use Rattle.c_says.specs.Scopes.{Name}
+use Rattle.c_says.specs.Declares.{Says}
+use Rattle.c_says.proofs.Built.{Built}
 use Rattle.c_tree.specs.declared.expr.UnaryOperator.TheVariants as u
 use Rattle.c_tree.specs.declared.expr.TypeWord.TheVariants as w
 use Rattle.c_type_terms.specs.Integers.{converted}
 use Rattle.c_type_terms.specs.Operators.{exact}
 use Rattle.c_means.specs.declared.kind.Kind.TheVariants as kind
-use Rattle.c_means.specs.Trees.{part}
-use Rattle.c_means.proofs.Scene.{OfExpr, OfTypeName, a', b', c', e', f', h', m', p', r', s', t', u', v'}
-use Rattle.c_means.proofs.Scene.{w', x', z'}
+use Rattle.c_says.proofs.Built as built
+use Rattle.c_means.specs.Trees.{ExprMeans, part, meaning}
+use Rattle.c_means.proofs.Scene.{OfExpr, OfMember, OfTypeName, a', b', c', e', f', g', h', k', m', p', r', s', t', u'}
+use Rattle.c_means.proofs.Scene.{v', w', x', y', z'}
 use Rattle.c_means.proofs.Scene.{int, unsigned, text, the, op, un, minus, address, deref, element, dot, arrow, set}
 use Rattle.c_means.proofs.Scene.{set_at, set_by}
 use Rattle.c_means.proofs.Scene.{after_increment, after_decrement, ◌then◌, call, choice, word, omitted, pointer, type}
-use Rattle.c_means.proofs.Scene.{to, size_of, struct_s}
-use Rattle.c_means.proofs.Scene.{found, done, gives, gives_less, stops, happens, printed_before, prints}
+use Rattle.c_means.proofs.Scene.{to, size_of, struct_s, grouped}
+use Rattle.c_means.proofs.Scene.{found, found_in, block, done, text_of, size_in_file, gives, gives_less, stops}
+use Rattle.c_means.proofs.Scene.{happens, printed_before, prints}
 
 -- ---- spelling
+
+abbrev long : ℕ → OfExpr
+long n = built.integer meaning 0 (record { value = n; integer_type = i.Long })
+
+abbrev unsigned_long : ℕ → OfExpr
+unsigned_long n = built.integer meaning 0 (record { value = n; integer_type = i.UnsignedLong })
 
 abbrev int_type : OfTypeName
 int_type = type (word w.Int ∷ []) omitted
@@ -29,6 +44,9 @@ char_type = type (word w.Char ∷ []) omitted
 
 abbrev unsigned_char_type : OfTypeName
 unsigned_char_type = type (word w.Unsigned ∷ word w.Char ∷ []) omitted
+
+abbrev long_type : OfTypeName
+long_type = type (word w.Long ∷ []) omitted
 
 abbrev void_type : OfTypeName
 void_type = type (word w.Void ∷ []) omitted
@@ -44,6 +62,21 @@ int_pointer = type (word w.Int ∷ []) (pointer omitted)
 
 abbrev struct_pointer : OfTypeName
 struct_pointer = type (struct_s ∷ []) (pointer omitted)
+
+abbrev b_tag : TagName
+b_tag = record { at = 0; name = b' }
+
+abbrev b_pointer : OfTypeName
+b_pointer = type (built.tag meaning 0 aggregate_kind.Struct b_tag ∷ []) (pointer omitted)
+
+abbrev b_type : OfTypeName
+b_type = type (built.aggregate meaning 0 aggregate_kind.Struct (Some b_tag) (chars ∷ []) ∷ []) omitted
+  where
+    chars : OfMember
+    chars = built.member_declaration meaning (word w.Char ∷ []) (named a' ∷ named b' ∷ named c' ∷ [])
+      where
+        named : Name → Built (fold_field {c = Says ExprMeans} meaning)
+        named n = built.plain meaning (built.named meaning 0 n)
 
 abbrev x : OfExpr
 x = the x'
@@ -167,6 +200,63 @@ pub row_remainder_sign : found (part remainder_sign.tree) ≡ gives_less 0
 unfolding part converted exact
 row_remainder_sign = ap found remainder_sign.is
 
+-- 9223372036854775807l + 1
+abbrev long_overflows : OfExpr
+long_overflows = op 7 o.Add (long 9223372036854775807) (int 1)
+
+pub row_long_overflows : found (part long_overflows.tree) ≡ stops undefined.Overflow 7
+unfolding part converted exact
+row_long_overflows = ap found long_overflows.is
+
+-- -9223372036854775807l - 1
+abbrev long_fits : OfExpr
+long_fits = op 7 o.Subtract (minus (long 9223372036854775807)) (int 1)
+
+pub row_long_fits : found (part long_fits.tree) ≡ gives_less 9223372036854775807
+unfolding part converted exact
+row_long_fits = ap found long_fits.is
+
+-- 18446744073709551615ul + 1
+abbrev unsigned_long_wraps : OfExpr
+unsigned_long_wraps = op 7 o.Add (unsigned_long 18446744073709551615) (int 1)
+
+pub row_unsigned_long_wraps : found (part unsigned_long_wraps.tree) ≡ gives 0
+unfolding part converted exact
+row_unsigned_long_wraps = ap found unsigned_long_wraps.is
+
+-- (unsigned char)255 + 1
+abbrev unsigned_char_promoted : OfExpr
+unsigned_char_promoted = op 7 o.Add (to unsigned_char_type (int 255)) (int 1)
+
+pub row_unsigned_char_promoted : found (part unsigned_char_promoted.tree) ≡ gives 256
+unfolding part converted exact
+row_unsigned_char_promoted = ap found unsigned_char_promoted.is
+
+-- h[0][0] = 32767, ++h[0][0]
+abbrev short_increment_wraps : OfExpr
+short_increment_wraps = set (element 3 (element 2 (the h') (int 0)) (int 0)) (int 32767)
+    then un 9 u.Increment (element 3 (element 2 (the h') (int 0)) (int 0))
+
+pub row_short_increment_wraps : found (part short_increment_wraps.tree) ≡ gives_less 32767
+unfolding part converted exact
+row_short_increment_wraps = ap found short_increment_wraps.is
+
+-- 65536u * 65536
+abbrev unsigned_product_wraps : OfExpr
+unsigned_product_wraps = op 7 o.Multiply (unsigned 65536) (int 65536)
+
+pub row_unsigned_product_wraps : found (part unsigned_product_wraps.tree) ≡ gives 0
+unfolding part converted exact
+row_unsigned_product_wraps = ap found unsigned_product_wraps.is
+
+-- -1u
+abbrev unsigned_negation : OfExpr
+unsigned_negation = un 7 u.Minus (unsigned 1)
+
+pub row_unsigned_negation : found (part unsigned_negation.tree) ≡ gives 4294967295
+unfolding part converted exact
+row_unsigned_negation = ap found unsigned_negation.is
+
 -- ---- a zero divisor, and shifts
 
 -- 1 / 0
@@ -250,6 +340,62 @@ usual_conversions = op 7 o.Less (minus (int 1)) (unsigned 0)
 pub row_usual_conversions : found (part usual_conversions.tree) ≡ gives 0
 unfolding part converted exact
 row_usual_conversions = ap found usual_conversions.is
+
+-- -1l < 0u
+abbrev long_has_unsigned : OfExpr
+long_has_unsigned = op 7 o.Less (minus (long 1)) (unsigned 0)
+
+pub row_long_has_unsigned : found (part long_has_unsigned.tree) ≡ gives 1
+unfolding part converted exact
+row_long_has_unsigned = ap found long_has_unsigned.is
+
+-- -1l < 0ul
+abbrev unsigned_long_beside_long : OfExpr
+unsigned_long_beside_long = op 7 o.Less (minus (long 1)) (unsigned_long 0)
+
+pub row_unsigned_long_beside_long : found (part unsigned_long_beside_long.tree) ≡ gives 0
+unfolding part converted exact
+row_unsigned_long_beside_long = ap found unsigned_long_beside_long.is
+
+-- 6 & 3
+abbrev bits_of_both : OfExpr
+bits_of_both = op 7 o.BitAnd (int 6) (int 3)
+
+pub row_bits_of_both : found (part bits_of_both.tree) ≡ gives 2
+unfolding part converted exact
+row_bits_of_both = ap found bits_of_both.is
+
+-- 6 | 3
+abbrev bits_of_either : OfExpr
+bits_of_either = op 7 o.BitOr (int 6) (int 3)
+
+pub row_bits_of_either : found (part bits_of_either.tree) ≡ gives 7
+unfolding part converted exact
+row_bits_of_either = ap found bits_of_either.is
+
+-- -1 ^ 3
+abbrev bits_of_one : OfExpr
+bits_of_one = op 7 o.BitXor (minus (int 1)) (int 3)
+
+pub row_bits_of_one : found (part bits_of_one.tree) ≡ gives_less 3
+unfolding part converted exact
+row_bits_of_one = ap found bits_of_one.is
+
+-- !3 == 0
+abbrev negated : OfExpr
+negated = op 7 o.Equal (un 6 u.Not (int 3)) (int 0)
+
+pub row_negated : found (part negated.tree) ≡ gives 1
+unfolding part converted exact
+row_negated = ap found negated.is
+
+-- 1 = 2
+abbrev refused_assignment : OfExpr
+refused_assignment = set (int 1) (int 2)
+
+pub row_refused_assignment : found (part refused_assignment.tree) ≡ None
+unfolding part converted exact
+row_refused_assignment = ap found refused_assignment.is
 
 -- (char)200
 abbrev char_is_signed : OfExpr
@@ -475,6 +621,15 @@ pub row_rows_of_arrays : found (part rows_of_arrays.tree) ≡ gives 7
 unfolding part converted exact
 row_rows_of_arrays = ap found rows_of_arrays.is
 
+-- (char *)((struct b *)w + sizeof (struct b { char a; char b; char c; })) - w
+abbrev completed_behind : OfExpr
+completed_behind = op 9 o.Subtract
+    (to char_pointer (op 8 o.Add (to b_pointer (the w')) (built.sizeof_type meaning 0 b_type))) (the w')
+
+pub row_completed_behind : found (part completed_behind.tree) ≡ gives 9
+unfolding part converted exact
+row_completed_behind = ap found completed_behind.is
+
 -- ---- null, and what is no pointer to a live object
 
 -- p == 0
@@ -614,6 +769,56 @@ difference_toward_zero = op 9 o.Subtract (to int_pointer (the w')) (to int_point
 pub row_difference_toward_zero : found (part difference_toward_zero.tree) ≡ gives_less 0
 unfolding part converted exact
 row_difference_toward_zero = ap found difference_toward_zero.is
+
+-- ---- objects that have ended
+
+-- p = a, k(), *p
+abbrev ended_read : OfExpr
+ended_read = set (the p') (the a') then call 1 k' [] then deref 7 (the p')
+
+pub row_ended_read : found (part ended_read.tree) ≡ stops undefined.Dereference 7
+unfolding part converted exact
+row_ended_read = ap found ended_read.is
+
+-- k(), a[0]
+abbrev ended_element : OfExpr
+ended_element = call 1 k' [] then element 7 (the a') (int 0)
+
+pub row_ended_element : found (part ended_element.tree) ≡ stops undefined.PointerRange 7
+unfolding part converted exact
+row_ended_element = ap found ended_element.is
+
+-- p = a, *p = k()
+abbrev ended_by_value : OfExpr
+ended_by_value = set (the p') (the a') then set_at 9 (deref 7 (the p')) (call 1 k' [])
+
+pub row_ended_by_value : found (part ended_by_value.tree) ≡ stops undefined.Dereference 7
+unfolding part converted exact
+row_ended_by_value = ap found ended_by_value.is
+
+-- p = a, *p += k()
+abbrev ended_by_operand : OfExpr
+ended_by_operand = set (the p') (the a') then set_by 9 o.Add (deref 7 (the p')) (call 1 k' [])
+
+pub row_ended_by_operand : found (part ended_by_operand.tree) ≡ stops undefined.Dereference 7
+unfolding part converted exact
+row_ended_by_operand = ap found ended_by_operand.is
+
+-- p = a, k(), p <= p
+abbrev ended_order : OfExpr
+ended_order = set (the p') (the a') then call 1 k' [] then op 9 o.LessEqual (the p') (the p')
+
+pub row_ended_order : found (part ended_order.tree) ≡ stops undefined.PointerOrder 9
+unfolding part converted exact
+row_ended_order = ap found ended_order.is
+
+-- p = a, k(), p == p
+abbrev ended_equality : OfExpr
+ended_equality = set (the p') (the a') then call 1 k' [] then op 9 o.Equal (the p') (the p')
+
+pub row_ended_equality : found (part ended_equality.tree) ≡ gives 1
+unfolding part converted exact
+row_ended_equality = ap found ended_equality.is
 
 -- ---- literals
 
@@ -946,3 +1151,135 @@ function_address = op 9 o.Equal (the f') (deref 7 (the f'))
 pub row_function_address : found (part function_address.tree) ≡ gives 1
 unfolding part converted exact
 row_function_address = ap found function_address.is
+
+-- ---- nodes and places
+
+-- (x) + x * 2
+abbrev nodes : OfExpr
+nodes = op 9 o.Add (grouped x) (op 8 o.Multiply x (int 2))
+
+pub row_nodes : size_in_file (part nodes.tree) ≡ 5
+unfolding part converted exact
+row_nodes = ap size_in_file nodes.is
+
+-- f(x + 1), with 100 nodes in its body
+abbrev nodes_of_call : OfExpr
+nodes_of_call = call 1 f' (op 8 o.Add x (int 1) ∷ [])
+
+pub row_nodes_of_call : size_in_file (part nodes_of_call.tree) ≡ 104
+unfolding part converted exact
+row_nodes_of_call = ap size_in_file nodes_of_call.is
+
+-- sizeof (x + 1)
+abbrev nodes_of_size_of : OfExpr
+nodes_of_size_of = size_of (grouped (op 8 o.Add x (int 1)))
+
+pub row_nodes_of_size_of : size_in_file (part nodes_of_size_of.tree) ≡ 1
+unfolding part converted exact
+row_nodes_of_size_of = ap size_in_file nodes_of_size_of.is
+
+-- y() + y() * 1000
+abbrev places_of_operands : OfExpr
+places_of_operands = op 9 o.Add (call 1 y' []) (op 8 o.Multiply (call 2 y' []) (int 1000))
+
+pub row_places_of_operands : found (part places_of_operands.tree) ≡ gives 104100
+unfolding part converted exact
+row_places_of_operands = ap found places_of_operands.is
+
+-- f(y()), y()
+abbrev places_of_arguments : OfExpr
+places_of_arguments = call 1 f' (call 2 y' [] ∷ []) then call 3 y' []
+
+pub row_places_of_arguments : found (part places_of_arguments.tree) ≡ gives 108
+unfolding part converted exact
+row_places_of_arguments = ap found places_of_arguments.is
+
+-- x ? y() : y()
+abbrev places_of_what_is_skipped : OfExpr
+places_of_what_is_skipped = choice 9 x (call 1 y' []) (call 2 y' [])
+
+pub row_places_of_what_is_skipped : found (part places_of_what_is_skipped.tree) ≡ gives 104
+unfolding part converted exact
+row_places_of_what_is_skipped = ap found places_of_what_is_skipped.is
+
+-- x || y() == 100
+abbrev places_of_right_operand : OfExpr
+places_of_right_operand = op 9 o.LogicalOr x (op 8 o.Equal (call 1 y' []) (int 100))
+
+pub row_places_of_right_operand : found (part places_of_right_operand.tree) ≡ gives 1
+unfolding part converted exact
+row_places_of_right_operand = ap found places_of_right_operand.is
+
+-- sizeof y(), y()
+abbrev size_of_takes_no_place : OfExpr
+size_of_takes_no_place = size_of (call 1 y' []) then call 2 y' []
+
+pub row_size_of_takes_no_place : found (part size_of_takes_no_place.tree) ≡ gives 100
+unfolding part converted exact
+row_size_of_takes_no_place = ap found size_of_takes_no_place.is
+
+-- a[y() - 100] = y()
+abbrev places_of_target : OfExpr
+places_of_target = set (element 0 (the a') (op 0 o.Subtract (call 1 y' []) (int 100))) (call 2 y' [])
+
+pub row_places_of_target : found (part places_of_target.tree) ≡ gives 104
+unfolding part converted exact
+row_places_of_target = ap found places_of_target.is
+
+-- ---- names and literals
+
+-- g + 1
+abbrev enumeration_constant : OfExpr
+enumeration_constant = op 9 o.Add (the g') (int 1)
+
+pub row_enumeration_constant : found (part enumeration_constant.tree) ≡ gives 8
+unfolding part converted exact
+row_enumeration_constant = ap found enumeration_constant.is
+
+-- (long)&x
+abbrev object_of_file : OfExpr
+object_of_file = to long_type (address x)
+
+pub row_object_of_file : found (part object_of_file.tree) ≡ gives 4294967296
+unfolding part converted exact
+row_object_of_file = ap found object_of_file.is
+
+-- (long)&x, in the block
+abbrev object_of_block : OfExpr
+object_of_block = to long_type (address x)
+
+pub row_object_of_block : found_in block (part object_of_block.tree) ≡ gives 1460288880640
+unfolding part converted exact
+row_object_of_block = ap (found_in block) object_of_block.is
+
+-- sizeof __func__, in the block
+abbrev name_of_function : OfExpr
+name_of_function = size_of (built.function_name meaning 50)
+
+pub row_name_of_function : found_in block (part name_of_function.tree) ≡ gives 2
+unfolding part converted exact
+row_name_of_function = ap (found_in block) name_of_function.is
+
+-- ("ab")
+abbrev text_in_parentheses : OfExpr
+text_in_parentheses = grouped (text 200 (97 ∷ 98 ∷ []))
+
+pub row_text_in_parentheses : text_of (part text_in_parentheses.tree) ≡ Some (97 ∷ 98 ∷ [])
+unfolding part converted exact
+row_text_in_parentheses = ap text_of text_in_parentheses.is
+
+-- f("ab")
+abbrev text_of_identity : OfExpr
+text_of_identity = call 1 f' (text 200 (97 ∷ 98 ∷ []) ∷ [])
+
+pub row_text_of_identity : text_of (part text_of_identity.tree) ≡ Some (97 ∷ 98 ∷ [])
+unfolding part converted exact
+row_text_of_identity = ap text_of text_of_identity.is
+
+-- z("ab")
+abbrev text_of_another_call : OfExpr
+text_of_another_call = call 1 z' (text 200 (97 ∷ 98 ∷ []) ∷ [])
+
+pub row_text_of_another_call : text_of (part text_of_another_call.tree) ≡ None
+unfolding part converted exact
+row_text_of_another_call = ap text_of text_of_another_call.is

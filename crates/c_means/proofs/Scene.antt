@@ -19,9 +19,9 @@ use Rattle.c_tree.specs.Folds.{fold_expr, fold_declarator, fold_specifier, fold_
 use Rattle.c_store.specs.declared.object.Object.{Object}
 use Rattle.c_store.specs.declared.object.ObjectKind.{ObjectKind}
 use Rattle.c_store.specs.declared.object.ObjectKind.TheVariants as object
-use Rattle.c_store.specs.Store.{Store, initial, make}
+use Rattle.c_store.specs.Store.{Store, initial, make, end}
 use Rattle.c_says.specs.declared.scope.Fault.{Fault}
-use Rattle.c_says.specs.Scopes.{Name, Scope, empty}
+use Rattle.c_says.specs.Scopes.{Name, Scope, empty, enter}
 use Rattle.c_says.specs.Declares.{Says}
 use Rattle.c_says.specs.Declarations.{declaration_by}
 use Rattle.c_says.proofs.Built.{Built}
@@ -63,6 +63,9 @@ e' = 101 ∷ []
 abbrev pub f' : Name
 f' = 102 ∷ []
 
+abbrev pub g' : Name
+g' = 103 ∷ []
+
 abbrev pub h' : Name
 h' = 104 ∷ []
 
@@ -72,14 +75,8 @@ k' = 107 ∷ []
 abbrev pub m' : Name
 m' = 109 ∷ []
 
-abbrev pub n' : Name
-n' = 110 ∷ []
-
 abbrev pub p' : Name
 p' = 112 ∷ []
-
-abbrev pub q' : Name
-q' = 113 ∷ []
 
 abbrev pub r' : Name
 r' = 114 ∷ []
@@ -101,6 +98,9 @@ w' = 119 ∷ []
 
 abbrev pub x' : Name
 x' = 120 ∷ []
+
+abbrev pub y' : Name
+y' = 121 ∷ []
 
 abbrev pub z' : Name
 z' = 122 ∷ []
@@ -162,6 +162,9 @@ infixr 3 ◌then◌
 abbrev pub ◌then◌ : OfExpr → OfExpr → OfExpr
 x then y = built.comma meaning 0 x y
 
+abbrev pub grouped : OfExpr → OfExpr
+grouped x = built.grouped meaning 0 x
+
 abbrev pub call : ℕ → Name → List OfExpr → OfExpr
 call at name xs = built.call meaning 0 (built.identifier meaning at name) xs
 
@@ -220,17 +223,18 @@ abbrev taking : OfSpecifier → OfDeclarator → OfDeclarator
 taking t d = built.function meaning 0 d (built.parameter meaning (t ∷ []) omitted ∷ []) false
 
 -- int x; int a[4]; char c; _Bool b; int *p; struct s { .. } s; struct s u; int f(int); int m(void); void e(void);
--- unsigned n; char *q; struct s *r; short h[3][2]; union { .. } v; char w[16]; void z(int); long k;
+-- int y(void); enum { g = 7 }; struct s *r; short h[3][2]; union { .. } v; char w[16]; void z(int);
+-- int k(void);
 abbrev pub file : Scope
 file =
-    declare 18 k' (word w.Long ∷ []) plain
+    declare 18 k' (word w.Int ∷ []) (taking (word w.Void))
     (declare 17 z' (word w.Void ∷ []) (taking (word w.Int))
     (declare 16 w' (word w.Char ∷ []) (array 16)
     (declare 15 v' (overlay ∷ []) plain
     (declare 14 h' (word w.Short ∷ []) (λ d. array 2 (array 3 d))
     (declare 13 r' (struct_s ∷ []) pointer
-    (declare 12 q' (word w.Char ∷ []) pointer
-    (declare 11 n' (word w.Unsigned ∷ []) plain
+    (seven
+    (declare 11 y' (word w.Int ∷ []) (taking (word w.Void))
     (declare 10 e' (word w.Void ∷ []) (taking (word w.Void))
     (declare 9 m' (word w.Int ∷ []) (taking (word w.Void))
     (declare 8 f' (word w.Int ∷ []) (taking (word w.Int))
@@ -241,23 +245,32 @@ file =
     (declare 3 c' (word w.Char ∷ []) plain
     (declare 2 a' (word w.Int ∷ []) (array 4)
     (declare 1 x' (word w.Int ∷ []) plain empty)))))))))))))))))
+  where
+    seven : Scope → Scope
+    seven s =
+        (declaration_by (built.all_say (fold_specifier {c = Says ExprMeans} meaning)
+        (built.enumeration meaning 0 None (built.enumerator meaning 12 g' (Some (int 7)) ∷ []) false ∷ [])) [] s).after
+
+-- a block of the function `f`, in which there is another int x
+abbrev pub block : Scope
+block = declare 40 x' (word w.Int ∷ []) plain (enter (record file { function = Some f' }))
 
 abbrev of_size : ObjectKind → ℕ → Object
 of_size what size = record { kind = what; size = size }
 
--- the objects of the file, and the literals that stand at 200 and 201, of two bytes and the last, 0
+-- the objects of the file, that of the block, and the literals that stand at 200 and 201, of two bytes and the last, 0
 abbrev pub store : Store
 store =
     make 201 (of_size object.Literal 3) (make 200 (of_size object.Literal 3)
-    (make 18 (of_size object.Static 8) (make 16 (of_size object.Static 16) (make 15 (of_size object.Static 4)
-    (make 14 (of_size object.Static 12) (make 13 (of_size object.Static 8) (make 12 (of_size object.Static 8)
-    (make 11 (of_size object.Static 4) (make 8 (of_size object.Static 0) (make 7 (of_size object.Static 12)
+    (make 340 (of_size object.Automatic 4) (make 16 (of_size object.Static 16) (make 15 (of_size object.Static 4)
+    (make 14 (of_size object.Static 12) (make 13 (of_size object.Static 8) (make 11 (of_size object.Static 0)
+    (make 10 (of_size object.Static 0) (make 8 (of_size object.Static 0) (make 7 (of_size object.Static 12)
     (make 6 (of_size object.Static 12) (make 5 (of_size object.Static 8) (make 4 (of_size object.Static 1)
     (make 3 (of_size object.Static 1) (make 2 (of_size object.Static 16) (make 1 (of_size object.Static 4)
     (initial (λ _. 0))))))))))))))))))
 
--- ---- what calls do here: `f` gives its argument back, `m` reaches its `}` without a value, `z` ends the run, and the
--- others print A
+-- ---- what calls do here: `f` gives its argument back, `m` reaches its `}` without a value, `y` gives its first
+-- place, `k` ends the array and gives 1, `z` ends the run, and the others print A
 
 abbrev first : List ℤ → ℤ
 first [] = pos 0
@@ -268,7 +281,9 @@ calls g env vs base s count =
     let d = entered s count in
     cond (bytes_eq g.callee.name f') (record d { value = Some (first vs) })
     (cond (bytes_eq g.callee.name m') d
-    (cond (bytes_eq g.callee.name z') (record d { kind = kind.Ended (finish.Exit (first vs)) }) (print (65 ∷ []) d)))
+    (cond (bytes_eq g.callee.name y') (record d { value = Some (pos base) })
+    (cond (bytes_eq g.callee.name k') (record d { value = Some (pos 1); store = end 2 s })
+    (cond (bytes_eq g.callee.name z') (record d { kind = kind.Ended (finish.Exit (first vs)) }) (print (65 ∷ []) d)))))
 
 abbrev pub level : Level
 level = record {
@@ -277,6 +292,7 @@ level = record {
   turns = 8;
   static = λ at. at;
   identity = λ name. cond (bytes_eq name f') (Some 0) None;
+  size = λ g. 100;
   room = λ g. 4;
   call = calls;
 }
@@ -298,8 +314,11 @@ abbrev found_where : List Fault → Outcome ℤ → Found
 found_where [] o = Some (outcome_found o)
 found_where (f ∷ fs) o = None
 
+abbrev pub found_in : Scope → ExprMeans → Found
+found_in s m = let p = m s in found_where p.typed.faults (p.run level env 100 (entered store 0))
+
 abbrev pub found : ExprMeans → Found
-found m = let p = m file in found_where p.typed.faults (p.run level env 100 (entered store 0))
+found m = found_in file m
 
 -- the same, where the value isn't used
 abbrev pub done : ExprMeans → Found
@@ -337,3 +356,11 @@ printed_before m = counts (state_behind ((m file).run level env 100 (entered sto
 
 abbrev pub prints : ExprMeans → List ℕ
 prints m = (state_behind ((m file).run level env 100 (entered store 0))).printed
+
+-- the bytes of the literal that an expression is
+abbrev pub text_of : ExprMeans → Option (List ℕ)
+text_of m = (m file).text level
+
+-- the nodes that an expression unrolls to
+abbrev pub size_in_file : ExprMeans → ℕ
+size_in_file m = (m file).size level

@@ -1,5 +1,5 @@
 -- What an expression does (C99 6.5): one function a form, over what its parts do, from left to right.
-use Rattle.std.specs.Prelude.{ℕ, ◌+◌, ◌%◌, ◌^◌, ℤ, pos, Bool, true, false, cond, not, List, [], ◌∷◌, ◌++◌, Option}
+use Rattle.std.specs.Prelude.{ℕ, suc, ◌+◌, ◌%◌, ◌^◌, ℤ, pos, Bool, true, false, cond, not, List, [], ◌∷◌, ◌++◌, Option}
 use Rattle.std.specs.Prelude.{Some, None, Ok, slice_get, unwrap_or, unsigned_abs}
 use Rattle.bit_words.specs.declared.run.Undefined.TheVariants.{MissingValue}
 use Rattle.bit_words.specs.declared.run.Side.TheVariants as side
@@ -31,19 +31,39 @@ use Rattle.c_says.specs.declared.scope.Means.{Means}
 use Rattle.c_says.specs.declared.shown.Shown.{Shown}
 use Rattle.c_says.specs.declared.scope.Means.TheVariants as means
 use Rattle.c_says.specs.Scopes.{Name, Scope}
-use Rattle.c_says.specs.Typing.{Typed, NamedType, type_of, constant_of}
+use Rattle.c_says.specs.Typing.{Typed, NamedType, Arguments, type_of, constant_of, no_arguments, and_argument, told_of}
+use Rattle.c_says.specs.Typing.{used}
 use Rattle.c_says.specs.Typing as says
 use Rattle.c_says.specs.declared.scope.Fault.{Fault}
 use Rattle.c_means.specs.Parts.{State, Outcome, Env, Run, Level, Site, Part, ◌>>=◌, note, stop, refused, returned}
 use Rattle.c_means.specs.Values.{address, class_in, bytes_of, bytes_within, converted_to, value_of_bytes}
 use Rattle.c_means.specs.Objects.{load, put}
-use Rattle.c_means.specs.Operators.{Operand, operand, one, value_type, target_in, addition, operated, turned_value}
+use Rattle.c_means.specs.Operators.{Operand, operand, one, value_type, target_in, operated, operated_on, turned_value}
 use Rattle.c_means.specs.Operators.{negated}
 
 -- ---- kinds of parts
 
-abbrev pub no_room : Level → ℕ
-no_room l = 0
+-- how many nodes a part unrolls to, and how many places it takes
+pub record Needs : Type 0 where
+  pub size : Level → ℕ
+  pub room : Level → ℕ
+
+-- a node without parts
+abbrev pub alone : Needs
+alone = record { size = λ l. 1; room = λ l. 0 }
+
+-- a node over its parts, whose places stand one behind another
+abbrev pub over_one : Part → Needs
+over_one x = record { size = λ l. suc (x.size l); room = x.room }
+
+abbrev pub over_both : Part → Part → Needs
+over_both x y = record { size = λ l. suc (x.size l + y.size l); room = λ l. x.room l + y.room l }
+
+abbrev pub over_three : Part → Part → Part → Needs
+over_three c x y = record {
+  size = λ l. suc (c.size l + (x.size l + y.size l));
+  room = λ l. c.room l + (x.room l + y.room l);
+}
 
 abbrev pub no_text : Level → Option (List ℕ)
 no_text l = None
@@ -53,12 +73,13 @@ abbrev pub nowhere : Level → Run ℕ
 nowhere l env base d = Ok (0, d)
 
 -- a value, whose use makes no difference to what is done
-abbrev pub valued : Typed → (Level → ℕ) → (Level → Run ℤ) → Part
-valued x room run = record {
+abbrev pub valued : Typed → Needs → (Level → Run ℤ) → Part
+valued x needs run = record {
   typed = x;
   rooted = false;
   text = no_text;
-  room = room;
+  size = needs.size;
+  room = needs.room;
   reach = nowhere;
   run = run;
   effect = run;
@@ -70,12 +91,13 @@ loading x rooted reach l env base d = do
   load x rooted a.0 a.1
 
 -- an lvalue or function, by its address: its value is what stands there
-abbrev pub placed : Typed → Bool → (Level → ℕ) → (Level → Run ℕ) → Part
-placed x rooted room reach = record {
+abbrev pub placed : Typed → Bool → Needs → (Level → Run ℕ) → Part
+placed x rooted needs reach = record {
   typed = x;
   rooted = rooted;
   text = no_text;
-  room = room;
+  size = needs.size;
+  room = needs.room;
   reach = reach;
   run = loading x rooted reach;
   effect = loading x rooted reach;
@@ -83,12 +105,12 @@ placed x rooted room reach = record {
 
 -- what breaks a rule, and isn't run
 abbrev pub unmeant : Typed → Part
-unmeant x = valued x no_room (λ l env base d. refused d)
+unmeant x = valued x alone (λ l env base d. refused d)
 
 -- ---- constants (C99 6.4.4)
 
 abbrev pub constant : Typed → ℤ → Part
-constant x z = valued x no_room (λ l env base d. Ok (z, d))
+constant x z = valued x alone (λ l env base d. Ok (z, d))
 
 -- C99 6.4.4.1
 abbrev pub integer_constant : ℕ → IntegerConstant → Scope → Part
@@ -105,7 +127,7 @@ floating_constant at s = unmeant (says.floating_constant at s)
 -- ---- string literals (C99 6.4.5) and `__func__` (C99 6.4.2.2): the array that was made for this one
 
 abbrev pub made_for : ℕ → Typed → Part
-made_for at x = placed x false no_room (λ l env base d. Ok (start (l.static at), d))
+made_for at x = placed x false alone (λ l env base d. Ok (start (l.static at), d))
 
 abbrev pub joined : List (List ℕ) → List ℕ
 joined [] = []
@@ -126,7 +148,7 @@ object_number duration.Automatic at l env = env at
 object_number duration.Static at l env = l.static at
 
 abbrev pub object_of : Typed → Duration → ℕ → Part
-object_of x duration at = placed x true no_room (λ l env base d. Ok (start (object_number duration at l env), d))
+object_of x duration at = placed x true alone (λ l env base d. Ok (start (object_number duration at l env), d))
 
 -- an object, a function, or an enumeration constant
 abbrev pub named_as : Typed → ℕ → Means → Part
@@ -149,16 +171,13 @@ both_run x y l env base d = do
   w ← y.run l env (base + x.room l) v.1
   Ok ((v.0, w.0), w.1)
 
-abbrev pub both_rooms : Part → Part → Level → ℕ
-both_rooms x y l = x.room l + y.room l
-
 -- ---- subscripts (C99 6.5.2.1p2): the target of the sum
 
 abbrev pub subscript : ℕ → Part → Part → Part
-subscript at x y = placed (says.subscript at x.typed y.typed) false (both_rooms x y)
+subscript at x y = placed (says.subscript at x.typed y.typed) false (over_both x y)
     (λ l env base d. do
       v ← both_run x y l env base d
-      a ← addition at (operand x.typed v.0.0) (operand y.typed v.0.1) v.1
+      a ← operated_on at o.Add x.typed y.typed v.0.0 v.0.1 v.1
       Ok (address a.0, a.1))
 
 -- ---- members (C99 6.5.2.3)
@@ -183,13 +202,13 @@ part_of_value offset x z =
 
 -- C99 6.5.2.3p3: of an lvalue the bytes in it, which has the same root; else some bytes of the value
 abbrev pub member_of_lvalue : ℕ → Typed → Part → Part
-member_of_lvalue offset x p = placed x p.rooted p.room
+member_of_lvalue offset x p = placed x p.rooted (over_one p)
     (λ l env base d. do
       a ← p.reach l env base d
       Ok (behind offset a.0, a.1))
 
 abbrev pub member_of_value : ℕ → Typed → Part → Part
-member_of_value offset x p = valued x p.room
+member_of_value offset x p = valued x (over_one p)
     (λ l env base d. do
       v ← p.run l env base d
       Ok (part_of_value offset x v.0, v.1))
@@ -209,7 +228,7 @@ member at name p =
 
 -- C99 6.5.2.3p4
 abbrev pub arrow : ℕ → Name → Part → Part
-arrow at name p = placed (says.arrow at name p.typed) false p.room
+arrow at name p = placed (says.arrow at name p.typed) false (over_one p)
     (λ l env base d. do
       v ← p.run l env base d
       Ok (behind (offset_of p.typed.after.tables (target_in (value_type p.typed)) name) (address v.0), v.1))
@@ -220,12 +239,12 @@ abbrev pub stepped : ℕ → BinaryOperator → Part → Level → Run (ℤ × �
 stepped at op x l env base d = do
   a ← x.reach l env base d
   v ← load x.typed x.rooted a.0 a.1
-  w ← operated at op (operand x.typed v.0) one v.1
-  z ← put at x.typed x.rooted a.0 w.0 w.1
+  w ← operated at op (operand x.typed.after.tables x.typed v.0) one v.1
+  z ← put at x.typed.after.tables x.typed x.rooted a.0 w.0 w.1
   Ok ((v.0, z.0), z.1)
 
 abbrev pub postfix_by : ℕ → BinaryOperator → Part → Part
-postfix_by at op x = valued (says.postfix at x.typed) x.room
+postfix_by at op x = valued (says.postfix at x.typed) (over_one x)
     (λ l env base d. do
       v ← stepped at op x l env base d
       Ok (v.0.0, v.1))
@@ -236,7 +255,7 @@ postfix at postfix_.Increment x = postfix_by at o.Add x
 postfix at postfix_.Decrement x = postfix_by at o.Subtract x
 
 abbrev pub prefix : ℕ → UnaryOperator → BinaryOperator → Part → Part
-prefix at operator op x = valued (says.unary at operator x.typed) x.room
+prefix at operator op x = valued (says.unary at operator x.typed) (over_one x)
     (λ l env base d. do
       v ← stepped at op x l env base d
       Ok (v.0.1, v.1))
@@ -245,23 +264,23 @@ prefix at operator op x = valued (says.unary at operator x.typed) x.room
 
 -- C99 6.5.3.2p3: of `*p` the pointer, of `a[i]` the sum, and nothing is read
 abbrev pub address_of : ℕ → Part → Part
-address_of at x = valued (says.unary at u.Address x.typed) x.room
+address_of at x = valued (says.unary at u.Address x.typed) (over_one x)
     (λ l env base d. do
       a ← x.reach l env base d
       Ok (pos a.0, a.1))
 
 -- C99 6.5.3.2p4
 abbrev pub indirection : ℕ → Part → Part
-indirection at x = placed (says.unary at u.Indirection x.typed) false x.room
+indirection at x = placed (says.unary at u.Indirection x.typed) false (over_one x)
     (λ l env base d. do
       v ← x.run l env base d
       Ok (address v.0, v.1))
 
 abbrev pub on_value : ℕ → UnaryOperator → (Operand → State → Outcome ℤ) → Part → Part
-on_value at operator f x = valued (says.unary at operator x.typed) x.room
+on_value at operator f x = valued (says.unary at operator x.typed) (over_one x)
     (λ l env base d. do
       v ← x.run l env base d
-      f (operand x.typed v.0) v.1)
+      f (operand x.typed.after.tables x.typed v.0) v.1)
 
 abbrev pub unary : ℕ → UnaryOperator → Part → Part
 unary at u.Address x = address_of at x
@@ -291,7 +310,7 @@ cast_operand class.Void p = p.effect
 cast_operand c p = p.run
 
 abbrev pub cast_as : Class → Typed → Part → Part
-cast_as c x p = valued x p.room
+cast_as c x p = valued x (over_one p)
     (λ l env base d. do
       v ← cast_operand c p l env base d
       Ok (converted_to c v.0, v.1))
@@ -303,10 +322,10 @@ cast at t faults p = let x = says.cast at t faults p.typed in cast_as (class_in 
 
 -- C99 6.5.5 to 6.5.12
 abbrev pub both_evaluated : ℕ → BinaryOperator → Part → Part → Part
-both_evaluated at op x y = valued (says.binary at op x.typed y.typed) (both_rooms x y)
+both_evaluated at op x y = valued (says.binary at op x.typed y.typed) (over_both x y)
     (λ l env base d. do
       v ← both_run x y l env base d
-      operated at op (operand x.typed v.0.0) (operand y.typed v.0.1) v.1)
+      operated_on at op x.typed y.typed v.0.0 v.0.1 v.1)
 
 -- a value is taken as a condition, and the branch is noted
 abbrev pub on_branch : {A : Type 0} → ℕ → ℤ → (Bool → State → A) → State → A
@@ -330,7 +349,7 @@ or_else y l env base false d = truth_of y l env base d
 
 abbrev pub logical :
     ℕ → BinaryOperator → (Part → Level → Env → ℕ → Bool → State → Outcome ℤ) → Part → Part → Part
-logical at op f x y = valued (says.binary at op x.typed y.typed) (both_rooms x y)
+logical at op f x y = valued (says.binary at op x.typed y.typed) (over_both x y)
     (λ l env base d. do
       v ← x.run l env base d
       on_branch at v.0 (f y l env (base + x.room l)) v.1)
@@ -351,7 +370,7 @@ chosen c x y l env base false d = do
   Ok (converted_to c v.0, v.1)
 
 abbrev pub choice_as : ℕ → Typed → Part → Part → Part → Part
-choice_as at t c x y = valued t (λ l. c.room l + (x.room l + y.room l))
+choice_as at t c x y = valued t (over_three c x y)
     (λ l env base d. do
       v ← c.run l env base d
       on_branch at v.0 (chosen (class_in (type_of t)) x y l env (base + c.room l)) v.1)
@@ -366,7 +385,7 @@ abbrev pub simple : ℕ → Part → Part → Level → Run ℤ
 simple at x y l env base d = do
   a ← x.reach l env base d
   w ← y.run l env (base + x.room l) a.1
-  put at x.typed x.rooted a.0 w.0 w.1
+  put at y.typed.after.tables x.typed x.rooted a.0 w.0 w.1
 
 -- C99 6.5.16.2p3: the target is evaluated once, and its value is taken before the right operand is evaluated
 abbrev pub compound : ℕ → BinaryOperator → Part → Part → Level → Run ℤ
@@ -374,20 +393,20 @@ compound at op x y l env base d = do
   a ← x.reach l env base d
   v ← load x.typed x.rooted a.0 a.1
   w ← y.run l env (base + x.room l) v.1
-  z ← operated at op (operand x.typed v.0) (operand y.typed w.0) w.1
-  put at x.typed x.rooted a.0 z.0 z.1
+  z ← operated_on at op x.typed y.typed v.0 w.0 w.1
+  put at y.typed.after.tables x.typed x.rooted a.0 z.0 z.1
 
 abbrev pub assigned : ℕ → Option BinaryOperator → Part → Part → Level → Run ℤ
 assigned at None x y = simple at x y
 assigned at (Some op) x y = compound at op x y
 
 abbrev pub assignment : ℕ → Option BinaryOperator → Part → Part → Part
-assignment at op x y = valued (says.assignment at op x.typed y.typed) (both_rooms x y) (assigned at op x y)
+assignment at op x y = valued (says.assignment at op x.typed y.typed) (over_both x y) (assigned at op x y)
 
 -- ---- the comma operator (C99 6.5.17p2): the left operand's value isn't used
 
 abbrev pub comma : ℕ → Part → Part → Part
-comma at x y = valued (says.comma at x.typed y.typed) (both_rooms x y)
+comma at x y = valued (says.comma at x.typed y.typed) (over_both x y)
     (λ l env base d. do
       v ← x.effect l env base d
       y.run l env (base + x.room l) v.1)
@@ -425,6 +444,10 @@ parameters_from tables _ = []
 abbrev pub parameters_of : Tables → Option CType → List CType
 parameters_of tables None = []
 parameters_of tables (Some t) = parameters_from tables t.derivations
+
+abbrev pub all_sizes : List Passed → Level → ℕ
+all_sizes [] l = 0
+all_sizes (q ∷ qs) l = q.part.size l + all_sizes qs l
 
 abbrev pub all_rooms : List Passed → Level → ℕ
 all_rooms [] l = 0
@@ -481,6 +504,7 @@ direct_call at x g qs = record {
   typed = x;
   rooted = false;
   text = λ l. text_at (l.identity (g l).callee.name) (g l).texts;
+  size = λ l. suc (all_sizes qs l + l.size (g l));
   room = λ l. all_rooms qs l + l.room (g l);
   reach = nowhere;
   run = λ l env base d. do
@@ -495,9 +519,10 @@ abbrev pub call_of : Option Entry → Typed → Typed → List Passed → Part
 call_of None f x qs = unmeant x
 call_of (Some e) f x qs = direct_call f.at x (site f.at e x qs) qs
 
-abbrev pub all_typed : List Part → List Typed
-all_typed [] = []
-all_typed (p ∷ ps) = p.typed ∷ all_typed ps
+-- what the arguments say to the types, behind those before them
+abbrev pub arguments_said : Arguments → List Part → Arguments
+arguments_said xs [] = xs
+arguments_said xs (p ∷ ps) = arguments_said (and_argument xs (told_of (used p.typed))) ps
 
 abbrev pub designated : Option Shown → Option Entry
 designated None = None
@@ -506,5 +531,8 @@ designated (Some x) = x.designates
 -- the callee is a name, perhaps in parentheses: every other call is refused, as one by a pointer is
 abbrev pub call : ℕ → Part → List Part → Scope → Part
 call at f ps s =
-    call_of (designated f.typed.shown) f.typed (says.call at f.typed (says.arguments_of (all_typed ps)) s)
+    call_of (designated f.typed.shown) f.typed (call_said at f.typed ps s)
     (passed ps (parameters_of s.tables (type_of f.typed)))
+  where
+    call_said : ℕ → Typed → List Part → Scope → Typed
+    call_said at f ps s = says.call at f.at f.shown (arguments_said (no_arguments f.faults) ps) s

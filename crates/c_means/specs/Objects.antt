@@ -8,6 +8,7 @@ use Rattle.std.specs.Prelude.{ℕ, ℤ, pos, Bool, true, false, cond, not, ◌||
 use Rattle.bit_words.specs.declared.run.Undefined.TheVariants.{Dereference, LiteralWrite}
 use Rattle.c_type_terms.specs.declared.class.Class.{Class}
 use Rattle.c_type_terms.specs.declared.class.Class.TheVariants as class
+use Rattle.c_type_terms.specs.declared.tables.Tables.{Tables}
 use Rattle.c_store.specs.Store.{Store, read, write}
 use Rattle.c_store.specs.Access.{can_access, can_write}
 use Rattle.c_says.specs.Typing.{Typed, type_of}
@@ -50,8 +51,8 @@ put_as c n at operator rooted a z d =
     (stop at Dereference d)
 
 -- A value is converted to the type of an lvalue and stored at its address, by the operator that stands at a token; the
--- value is the one that was stored (C99 6.5.16p3, 6.5.16.1p2).
-abbrev pub put : ℕ → Typed → Bool → ℕ → ℤ → State → Outcome ℤ
-put operator x rooted a z d =
+-- value is the one that was stored (C99 6.5.16p3, 6.5.16.1p2). The tables are those behind the whole expression.
+abbrev pub put : ℕ → Tables → Typed → Bool → ℕ → ℤ → State → Outcome ℤ
+put operator tables x rooted a z d =
     let c = class_in (type_of x) in
-    put_as c (bytes_of x.after.tables (type_of x)) x.at operator rooted a (converted_to c z) d
+    put_as c (bytes_of tables (type_of x)) x.at operator rooted a (converted_to c z) d

@@ -39,8 +39,9 @@ value_type x = type_of (used x)
 abbrev pub operand_of : Tables → Option CType → ℤ → Operand
 operand_of tables t z = record { kind = kind_in t; element = bytes_of tables (target_in t); value = z }
 
-abbrev pub operand : Typed → ℤ → Operand
-operand x z = operand_of x.after.tables (value_type x) z
+-- by the tables behind the whole expression, in which a type may be complete that wasn't so at the operand
+abbrev pub operand : Tables → Typed → ℤ → Operand
+operand tables x z = operand_of tables (value_type x) z
 
 -- the number 1 (C99 6.5.2.4p2, 6.5.3.1p2)
 abbrev pub one : Operand
@@ -119,6 +120,11 @@ operated at o.BitXor x y d = arithmetic at o.BitXor x y d
 operated at o.BitOr x y d = arithmetic at o.BitOr x y d
 operated at o.LogicalAnd x y d = refused d
 operated at o.LogicalOr x y d = refused d
+
+-- on the values of two expressions, of which the second stands behind the first
+abbrev pub operated_on : ℕ → BinaryOperator → Typed → Typed → ℤ → ℤ → State → Outcome ℤ
+operated_on at op x y v w d =
+    let tables = y.after.tables in operated at op (operand tables x v) (operand tables y w) d
 
 -- ---- unary operators (C99 6.5.3.3)
 

@@ -18,7 +18,7 @@ use Rattle.c_means.specs.declared.kind.Kind.TheVariants as kind
 -- ---- states
 
 -- Where a run stands, the value that a `return` gave, the store, how many bytes were printed in the whole run, and
--- what the function that runs has printed and noted since it was called.
+-- what the function that runs has printed, noted and met since it was called: bytes, events, and places of the world.
 pub record State : Type 0 where
   pub kind : Kind
   pub value : Option ℤ
@@ -26,10 +26,19 @@ pub record State : Type 0 where
   pub count : ℕ
   pub printed : List ℕ
   pub events : List Event
+  pub met : List ℕ
 
--- where a function begins: nothing is printed or noted by it yet
+-- where a function begins: nothing is printed, noted or met by it yet
 abbrev pub entered : Store → ℕ → State
-entered s count = record { kind = kind.Running; value = None; store = s; count = count; printed = []; events = [] }
+entered s count = record {
+  kind = kind.Running;
+  value = None;
+  store = s;
+  count = count;
+  printed = [];
+  events = [];
+  met = [];
+}
 
 -- an event, by how many bytes were printed before it
 abbrev pub note : Happening → State → State
@@ -37,6 +46,10 @@ note h d = record d { events = d.events ++ record { what = h; printed = d.count 
 
 abbrev pub print : List ℕ → State → State
 print bytes d = record d { count = d.count + length bytes; printed = d.printed ++ bytes }
+
+-- a place whose word is asked for, or whose object is made
+abbrev pub meet : ℕ → State → State
+meet place d = record d { met = d.met ++ place ∷ [] }
 
 abbrev pub with_store : Store → State → State
 with_store s d = record d { store = s }
@@ -108,32 +121,34 @@ pub record Site : Type 0 where
 
 -- What a call does: a function of the call, the objects in force there, the arguments' values, the first place that is
 -- given to it, the store and the count of bytes printed before. It begins as `entered` says; its state is running
--- where the call comes back, and its value is none where `}` was reached without one.
+-- where the call comes back, and its value is none where `}` was reached without one. What the body of a function does
+-- depends on the callee, the values, the place, the store and the count alone.
 abbrev pub Calls : Type 0
 Calls = Site → Env → List ℤ → ℕ → Store → ℕ → State
 
 -- What a function runs in. `turns` is how many turns a loop of this function takes: in a function of the prelude the
 -- limit of texts. `static` is the number of a function, of an object that lives throughout the run, of a string
 -- literal and of `__func__`, each by its offset (that of the first declaration). `identity` tells which argument is
--- answered by a function that hands on its argument. `room` is how many places a call takes behind those of its
--- arguments, and `call` what it does, each with one level of depth fewer.
+-- answered by a function that hands on its argument. `size` and `room` are how many nodes and places a call adds to
+-- those of its arguments, and `call` is what it does, each with one level of depth fewer.
 pub record Level : Type 0 where
   pub world : World
   pub limits : Limits
   pub turns : ℕ
   pub static : ℕ → ℕ
   pub identity : Name → Option ℕ
+  pub size : Site → ℕ
   pub room : Site → ℕ
   pub call : Calls
 
--- the caller goes on behind what was called, with its output and events behind its own
+-- the caller goes on behind what was called, with what that printed, noted and met behind its own
 abbrev pub resumed : State → State → State
 resumed d r = record d {
   store = r.store;
   count = r.count;
   printed = d.printed ++ r.printed;
-  events =
-      d.events ++ r.events;
+  events = d.events ++ r.events;
+  met = d.met ++ r.met;
 }
 
 abbrev pub returned_in : State → State → Kind → Outcome (Option ℤ)
@@ -147,12 +162,14 @@ returned d r = returned_in d r r.kind
 -- ---- expressions
 
 -- What an expression says to the types, whether the root of the lvalue that it is is a name, its bytes where it is a
--- string literal (through parentheses, and calls of identity functions), and how many places it takes. `reach` is the
--- address of an lvalue or function, `run` its value, and `effect` what it does where its value isn't used.
+-- string literal (through parentheses, and calls of identity functions), how many nodes it unrolls to, those of called
+-- bodies too, and how many places it takes. `reach` is the address of an lvalue or function, `run` its value, and
+-- `effect` what it does where its value isn't used.
 pub record Part : Type 0 where
   pub typed : Typed
   pub rooted : Bool
   pub text : Level → Option (List ℕ)
+  pub size : Level → ℕ
   pub room : Level → ℕ
   pub reach : Level → Run ℕ
   pub run : Level → Run ℤ

@@ -9,17 +9,24 @@ use Rattle.c_type_terms.specs.declared.ctype.CType.{CType}
 use Rattle.c_type_terms.specs.declared.tables.Tables.{Tables}
 use Rattle.c_type_terms.specs.Types.{class_of}
 use Rattle.c_type_terms.specs.Integers.{width_of, value_of_word, converted}
-use Rattle.c_type_terms.specs.Layouts.{size_of}
+use Rattle.c_type_terms.specs.Integers.{bytes_of as bytes_of_kind}
+use Rattle.c_type_terms.specs.Layouts.{size_of, pointer_bytes}
 
 -- where a type belongs; what has no type breaks a rule, and is taken as void
 abbrev pub class_in : Option CType → Class
 class_in None = class.Void
 class_in (Some t) = class_of t
 
--- the bytes of an object of a type: none where its size isn't known
+-- integers and pointers have their sizes whatever the tables say; what has no size has no bytes
+abbrev pub bytes_as : Class → Option ℕ → ℕ
+bytes_as (class.Integer kind) size = bytes_of_kind kind
+bytes_as class.Pointer size = pointer_bytes
+bytes_as c size = unwrap_or size 0
+
+-- the bytes of an object of a type
 abbrev pub bytes_of : Tables → Option CType → ℕ
 bytes_of tables None = 0
-bytes_of tables (Some t) = unwrap_or (size_of tables t) 0
+bytes_of tables (Some t) = bytes_as (class_of t) (size_of tables t)
 
 -- the 64-bit number of a pointer, and the pointer that an integer becomes (C99 6.3.2.3p5, p6)
 abbrev pub address : ℤ → ℕ

@@ -1,4 +1,5 @@
--- Trees beside what a fold says of them: a row's tree is written once, what it says computes, and that it is the tree's is proved.
+-- Trees beside what a fold says of them: a row's tree is written once, what it says computes, and that it is the
+-- tree's is proved.
 use Rattle.std.proofs.Common.{◌≡◌, ℕ, ℤ, List, [], ◌∷◌, Option, Some, None, Bool, refl, ap, ◌∙◌}
 use Rattle.std.specs.Prelude.{map, option_map}
 use Rattle.c_lexer.specs.declared.token.IntegerConstant.{IntegerConstant}
@@ -16,7 +17,18 @@ use Rattle.c_tree.specs.declared.expr.Specifier.TheVariants as specifier
 use Rattle.c_tree.specs.declared.expr.Field.TheVariants as field
 use Rattle.c_tree.specs.declared.expr.Declarator.TheVariants as declarator
 use Rattle.c_tree.specs.declared.expr.Declarator.TheOpen as open_
-use Rattle.c_tree.specs.Folds.{Carrier, Algebra, fold_declarator, fold_expr, fold_field, fold_specifier, fold_enumerator, fold_member, fold_parameter, fold_type_name}
+use Rattle.c_tree.specs.Folds.{
+  Carrier,
+  Algebra,
+  fold_declarator,
+  fold_expr,
+  fold_field,
+  fold_specifier,
+  fold_enumerator,
+  fold_member,
+  fold_parameter,
+  fold_type_name,
+}
 use Rattle.c_tree.proofs.Folds as eq
 use Rattle.c_says.specs.Scopes.{Name}
 
@@ -99,7 +111,8 @@ grouped a at x = record {
       ∙ ap (λ it. a.expr (open_.Parenthesized at it)) x.is;
 }
 
-abbrev pub subscript : {c : Carrier} (a : Algebra c) → ℕ → Built (fold_expr a) → Built (fold_expr a) → Built (fold_expr a)
+abbrev pub subscript : {c : Carrier} (a : Algebra c) → ℕ → Built (fold_expr a) → Built (fold_expr a) →
+    Built (fold_expr a)
 subscript a at x y = record {
   tree = expr.Subscript at x.tree y.tree;
   says = a.expr (open_.Subscript at x.says y.says);
@@ -108,7 +121,8 @@ subscript a at x y = record {
       ∙ ap (λ it. a.expr (open_.Subscript at x.says it)) y.is;
 }
 
-abbrev pub call : {c : Carrier} (a : Algebra c) → ℕ → Built (fold_expr a) → List (Built (fold_expr a)) → Built (fold_expr a)
+abbrev pub call : {c : Carrier} (a : Algebra c) → ℕ → Built (fold_expr a) → List (Built (fold_expr a)) →
+    Built (fold_expr a)
 call a at x ys = record {
   tree = expr.Call at x.tree (trees (fold_expr a) ys);
   says = a.expr (open_.Call at x.says (all_say (fold_expr a) ys));
@@ -165,7 +179,8 @@ sizeof_type a at x = record {
       ∙ ap (λ it. a.expr (open_.SizeofType at it)) x.is;
 }
 
-abbrev pub cast : {c : Carrier} (a : Algebra c) → ℕ → Built (fold_type_name a) → Built (fold_expr a) → Built (fold_expr a)
+abbrev pub cast : {c : Carrier} (a : Algebra c) → ℕ → Built (fold_type_name a) → Built (fold_expr a) →
+    Built (fold_expr a)
 cast a at x y = record {
   tree = expr.Cast at x.tree y.tree;
   says = a.expr (open_.Cast at x.says y.says);
@@ -174,7 +189,8 @@ cast a at x y = record {
       ∙ ap (λ it. a.expr (open_.Cast at x.says it)) y.is;
 }
 
-abbrev pub binary : {c : Carrier} (a : Algebra c) → ℕ → BinaryOperator → Built (fold_expr a) → Built (fold_expr a) → Built (fold_expr a)
+abbrev pub binary : {c : Carrier} (a : Algebra c) → ℕ → BinaryOperator → Built (fold_expr a) →
+    Built (fold_expr a) → Built (fold_expr a)
 binary a at op x y = record {
   tree = expr.Binary at op x.tree y.tree;
   says = a.expr (open_.Binary at op x.says y.says);
@@ -183,7 +199,8 @@ binary a at op x y = record {
       ∙ ap (λ it. a.expr (open_.Binary at op x.says it)) y.is;
 }
 
-abbrev pub conditional : {c : Carrier} (a : Algebra c) → ℕ → Built (fold_expr a) → Built (fold_expr a) → Built (fold_expr a) → Built (fold_expr a)
+abbrev pub conditional : {c : Carrier} (a : Algebra c) → ℕ → Built (fold_expr a) → Built (fold_expr a) →
+    Built (fold_expr a) → Built (fold_expr a)
 conditional a at x y z = record {
   tree = expr.Conditional at x.tree y.tree z.tree;
   says = a.expr (open_.Conditional at x.says y.says z.says);
@@ -193,7 +210,8 @@ conditional a at x y z = record {
       ∙ ap (λ it. a.expr (open_.Conditional at x.says y.says it)) z.is;
 }
 
-abbrev pub assign : {c : Carrier} (a : Algebra c) → ℕ → Option BinaryOperator → Built (fold_expr a) → Built (fold_expr a) → Built (fold_expr a)
+abbrev pub assign : {c : Carrier} (a : Algebra c) → ℕ → Option BinaryOperator → Built (fold_expr a) →
+    Built (fold_expr a) → Built (fold_expr a)
 assign a at op x y = record {
   tree = expr.Assign at op x.tree y.tree;
   says = a.expr (open_.Assign at op x.says y.says);
@@ -225,7 +243,8 @@ omitted a = record {
   is = eq.fold-Omitted a;
 }
 
-abbrev pub grouped_declarator : {c : Carrier} (a : Algebra c) → ℕ → Built (fold_declarator a) → Built (fold_declarator a)
+abbrev pub grouped_declarator : {c : Carrier} (a : Algebra c) → ℕ → Built (fold_declarator a) →
+    Built (fold_declarator a)
 grouped_declarator a at x = record {
   tree = declarator.Grouped at x.tree;
   says = a.declarator (open_.Grouped at x.says);
@@ -233,7 +252,8 @@ grouped_declarator a at x = record {
       ∙ ap (λ it. a.declarator (open_.Grouped at it)) x.is;
 }
 
-abbrev pub pointer : {c : Carrier} (a : Algebra c) → ℕ → List Qualifier → Built (fold_declarator a) → Built (fold_declarator a)
+abbrev pub pointer : {c : Carrier} (a : Algebra c) → ℕ → List Qualifier → Built (fold_declarator a) →
+    Built (fold_declarator a)
 pointer a at qualifiers x = record {
   tree = declarator.Pointer at qualifiers x.tree;
   says = a.declarator (open_.Pointer at qualifiers x.says);
@@ -241,7 +261,8 @@ pointer a at qualifiers x = record {
       ∙ ap (λ it. a.declarator (open_.Pointer at qualifiers it)) x.is;
 }
 
-abbrev pub array : {c : Carrier} (a : Algebra c) → ℕ → Built (fold_declarator a) → List ArrayWord → Option (Built (fold_expr a)) → Built (fold_declarator a)
+abbrev pub array : {c : Carrier} (a : Algebra c) → ℕ → Built (fold_declarator a) → List ArrayWord →
+    Option (Built (fold_expr a)) → Built (fold_declarator a)
 array a at x words y = record {
   tree = declarator.Array at x.tree words (tree_if (fold_expr a) y);
   says = a.declarator (open_.Array at x.says words (says_if (fold_expr a) y));
@@ -250,12 +271,14 @@ array a at x words y = record {
       ∙ ap (λ it. a.declarator (open_.Array at x.says words it)) (is_if (fold_expr a) y);
 }
 
-abbrev pub function : {c : Carrier} (a : Algebra c) → ℕ → Built (fold_declarator a) → List (Built (fold_parameter a)) → Bool → Built (fold_declarator a)
+abbrev pub function : {c : Carrier} (a : Algebra c) → ℕ → Built (fold_declarator a) →
+    List (Built (fold_parameter a)) → Bool → Built (fold_declarator a)
 function a at x ys variadic = record {
   tree = declarator.Function at x.tree (trees (fold_parameter a) ys) variadic;
   says = a.declarator (open_.Function at x.says (all_say (fold_parameter a) ys) variadic);
   is = eq.fold-Function a at x.tree (trees (fold_parameter a) ys) variadic
-      ∙ ap (λ it. a.declarator (open_.Function at it (map (fold_parameter a) (trees (fold_parameter a) ys)) variadic)) x.is
+      ∙ ap (λ it. a.declarator (open_.Function at it (map (fold_parameter a) (trees (fold_parameter a) ys))
+      variadic)) x.is
       ∙ ap (λ it. a.declarator (open_.Function at x.says it variadic)) (all_are (fold_parameter a) ys);
 }
 
@@ -301,7 +324,8 @@ tag a at kind t = record {
   is = eq.fold-Tag a at kind t;
 }
 
-abbrev pub aggregate : {c : Carrier} (a : Algebra c) → ℕ → AggregateKind → Option TagName → List (Built (fold_member a)) → Built (fold_specifier a)
+abbrev pub aggregate : {c : Carrier} (a : Algebra c) → ℕ → AggregateKind → Option TagName →
+    List (Built (fold_member a)) → Built (fold_specifier a)
 aggregate a at kind t xs = record {
   tree = specifier.Aggregate at kind t (trees (fold_member a) xs);
   says = a.specifier (open_.Aggregate at kind t (all_say (fold_member a) xs));
@@ -316,7 +340,8 @@ enum_tag a at t = record {
   is = eq.fold-EnumTag a at t;
 }
 
-abbrev pub enumeration : {c : Carrier} (a : Algebra c) → ℕ → Option TagName → List (Built (fold_enumerator a)) → Bool → Built (fold_specifier a)
+abbrev pub enumeration : {c : Carrier} (a : Algebra c) → ℕ → Option TagName → List (Built (fold_enumerator a)) →
+    Bool → Built (fold_specifier a)
 enumeration a at t xs trailing = record {
   tree = specifier.Enumeration at t (trees (fold_enumerator a) xs) trailing;
   says = a.specifier (open_.Enumeration at t (all_say (fold_enumerator a) xs) trailing);
@@ -332,7 +357,8 @@ plain a x = record {
       ∙ ap (λ it. a.field (open_.Plain it)) x.is;
 }
 
-abbrev pub bits : {c : Carrier} (a : Algebra c) → ℕ → Option (Built (fold_declarator a)) → Built (fold_expr a) → Built (fold_field a)
+abbrev pub bits : {c : Carrier} (a : Algebra c) → ℕ → Option (Built (fold_declarator a)) → Built (fold_expr a) →
+    Built (fold_field a)
 bits a at x y = record {
   tree = field.Bits at (tree_if (fold_declarator a) x) y.tree;
   says = a.field (open_.Bits at (says_if (fold_declarator a) x) y.says);
@@ -341,7 +367,8 @@ bits a at x y = record {
       ∙ ap (λ it. a.field (open_.Bits at (says_if (fold_declarator a) x) it)) y.is;
 }
 
-abbrev pub enumerator : {c : Carrier} (a : Algebra c) → ℕ → Name → Option (Built (fold_expr a)) → Built (fold_enumerator a)
+abbrev pub enumerator : {c : Carrier} (a : Algebra c) → ℕ → Name → Option (Built (fold_expr a)) →
+    Built (fold_enumerator a)
 enumerator a at name x = record {
   tree = record { at = at; name = name; value = (tree_if (fold_expr a) x) };
   says = a.enumerator (record { at = at; name = name; value = (says_if (fold_expr a) x) });
@@ -349,29 +376,49 @@ enumerator a at name x = record {
       ∙ ap (λ it. a.enumerator (record { at = at; name = name; value = it })) (is_if (fold_expr a) x);
 }
 
-abbrev pub member_declaration : {c : Carrier} (a : Algebra c) → List (Built (fold_specifier a)) → List (Built (fold_field a)) → Built (fold_member a)
+abbrev pub member_declaration : {c : Carrier} (a : Algebra c) → List (Built (fold_specifier a)) →
+    List (Built (fold_field a)) → Built (fold_member a)
 member_declaration a xs ys = record {
   tree = record { specifiers = (trees (fold_specifier a) xs); fields = (trees (fold_field a) ys) };
   says = a.member (record { specifiers = (all_say (fold_specifier a) xs); fields = (all_say (fold_field a) ys) });
-  is = eq.fold-MemberDeclaration a (record { specifiers = (trees (fold_specifier a) xs); fields = (trees (fold_field a) ys) })
-      ∙ ap (λ it. a.member (record { specifiers = it; fields = (map (fold_field a) (trees (fold_field a) ys)) })) (all_are (fold_specifier a) xs)
-      ∙ ap (λ it. a.member (record { specifiers = (all_say (fold_specifier a) xs); fields = it })) (all_are (fold_field a) ys);
+  is = eq.fold-MemberDeclaration a (record {
+    specifiers = (trees (fold_specifier a) xs);
+    fields =
+        (trees (fold_field a) ys);
+  })
+      ∙ ap (λ it. a.member (record { specifiers = it; fields = (map (fold_field a) (trees (fold_field a) ys)) }))
+      (all_are (fold_specifier a) xs)
+      ∙ ap (λ it. a.member (record {
+        specifiers = (all_say (fold_specifier a) xs);
+        fields =
+            it;
+      })) (all_are (fold_field a) ys);
 }
 
-abbrev pub parameter : {c : Carrier} (a : Algebra c) → List (Built (fold_specifier a)) → Built (fold_declarator a) → Built (fold_parameter a)
+abbrev pub parameter : {c : Carrier} (a : Algebra c) → List (Built (fold_specifier a)) →
+    Built (fold_declarator a) → Built (fold_parameter a)
 parameter a xs y = record {
   tree = record { specifiers = (trees (fold_specifier a) xs); declarator = y.tree };
   says = a.parameter (record { specifiers = (all_say (fold_specifier a) xs); declarator = y.says });
   is = eq.fold-Parameter a (record { specifiers = (trees (fold_specifier a) xs); declarator = y.tree })
-      ∙ ap (λ it. a.parameter (record { specifiers = it; declarator = (fold_declarator a y.tree) })) (all_are (fold_specifier a) xs)
+      ∙ ap (λ it. a.parameter (record {
+        specifiers = it;
+        declarator =
+            (fold_declarator a y.tree);
+      })) (all_are (fold_specifier a) xs)
       ∙ ap (λ it. a.parameter (record { specifiers = (all_say (fold_specifier a) xs); declarator = it })) y.is;
 }
 
-abbrev pub type_name : {c : Carrier} (a : Algebra c) → List (Built (fold_specifier a)) → Built (fold_declarator a) → Built (fold_type_name a)
+abbrev pub type_name : {c : Carrier} (a : Algebra c) → List (Built (fold_specifier a)) →
+    Built (fold_declarator a) → Built (fold_type_name a)
 type_name a xs y = record {
   tree = record { specifiers = (trees (fold_specifier a) xs); declarator = y.tree };
   says = a.type_name (record { specifiers = (all_say (fold_specifier a) xs); declarator = y.says });
   is = eq.fold-TypeName a (record { specifiers = (trees (fold_specifier a) xs); declarator = y.tree })
-      ∙ ap (λ it. a.type_name (record { specifiers = it; declarator = (fold_declarator a y.tree) })) (all_are (fold_specifier a) xs)
+      ∙ ap (λ it. a.type_name (record {
+        specifiers = it;
+        declarator =
+            (fold_declarator a y.tree);
+      })) (all_are (fold_specifier a) xs)
       ∙ ap (λ it. a.type_name (record { specifiers = (all_say (fold_specifier a) xs); declarator = it })) y.is;
 }

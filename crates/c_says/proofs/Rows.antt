@@ -1,5 +1,25 @@
 -- Worked rows: what the trees of small declarations and expressions say.
-use Rattle.std.proofs.Common.{◌≡◌, ℕ, ℤ, pos, negsuc, suc, List, [], ◌∷◌, Bool, true, false, Option, Some, None, Ok, Err, refl, ap}
+use Rattle.std.proofs.Common.{
+  ◌≡◌,
+  ℕ,
+  ℤ,
+  pos,
+  negsuc,
+  suc,
+  List,
+  [],
+  ◌∷◌,
+  Bool,
+  true,
+  false,
+  Option,
+  Some,
+  None,
+  Ok,
+  Err,
+  refl,
+  ap,
+}
 use Rattle.c_lexer.specs.declared.token.IntegerType.TheVariants as i
 use Rattle.c_tree.specs.declared.expr.AggregateKind.TheVariants as kind
 use Rattle.c_tree.specs.declared.expr.BinaryOperator.TheVariants as o
@@ -44,10 +64,13 @@ OfMember = Built (fold_member {c = Says ExprSays} typing)
 
 abbrev a : Name
 a = 97 ∷ []
+
 abbrev b : Name
 b = 98 ∷ []
+
 abbrev c : Name
 c = 99 ∷ []
+
 abbrev s : Name
 s = 115 ∷ []
 
@@ -91,26 +114,29 @@ items [] = []
 items (d ∷ ds) = item d ∷ items ds
 
 abbrev declaration : List OfSpecifier → List OfDeclarator → Scope → Scope
-declaration ss ds s = (declaration_by (built.all_say (fold_specifier {c = Says ExprSays} typing) ss) (items ds) s).after
+declaration ss ds s = (declaration_by (built.all_say (fold_specifier {c =
+    Says ExprSays} typing) ss) (items ds) s).after
 
 abbrev declaration_faults : List OfSpecifier → List OfDeclarator → Scope → List Fault
-declaration_faults ss ds s = (declaration_by (built.all_say (fold_specifier {c = Says ExprSays} typing) ss) (items ds) s).faults
+declaration_faults ss ds s = (declaration_by (built.all_say (fold_specifier {c =
+    Says ExprSays} typing) ss) (items ds) s).faults
 
 -- ---- sizeof (struct { char a; int b; short c; })
 
 abbrev char_int_short : OfExpr
-char_int_short = size_of_type (structure None (field (word w.Char) (as_ a) ∷ field (word w.Int) (as_ b) ∷ field (word w.Short) (as_ c) ∷ []) ∷ []) omitted
+char_int_short = size_of_type (structure None (field (word w.Char) (as_ a) ∷ field (word w.Int) (as_ b)
+    ∷ field (word w.Short) (as_ c) ∷ []) ∷ []) omitted
 
 pub row_size_of_structure : constant_of (typed char_int_short.tree empty) ≡ Some (pos 12)
 unfolding typed
 row_size_of_structure = ap (λ f. constant_of (f empty)) char_int_short.is
 
-
 -- ---- sizeof (struct { char a; long double d; })
 
 abbrev char_long_double : OfExpr
 char_long_double =
-    size_of_type (structure None (field (word w.Char) (as_ a) ∷ built.member_declaration typing (word w.Long ∷ word w.Double ∷ []) (built.plain typing (as_ b) ∷ []) ∷ []) ∷ []) omitted
+    size_of_type (structure None (field (word w.Char) (as_ a) ∷ built.member_declaration typing (word w.Long
+    ∷ word w.Double ∷ []) (built.plain typing (as_ b) ∷ []) ∷ []) ∷ []) omitted
 
 pub row_size_of_long_double : constant_of (typed char_long_double.tree empty) ≡ Some (pos 32)
 unfolding typed
@@ -123,10 +149,12 @@ s_tag at = record { at = at; name = s }
 
 abbrev of_three : Scope
 of_three =
-    declaration (structure (Some (s_tag 7)) (field (word w.Char) (as_ a) ∷ field (word w.Int) (as_ b) ∷ field (word w.Short) (as_ c) ∷ []) ∷ []) [] empty
+    declaration (structure (Some (s_tag 7)) (field (word w.Char) (as_ a) ∷ field (word w.Int) (as_ b)
+    ∷ field (word w.Short) (as_ c) ∷ []) ∷ []) [] empty
 
 pub row_layout :
-    size_of of_three.tables (aggregate 0) ∷ align_of of_three.tables (aggregate 0) ∷ offset_of of_three.tables (aggregate 0) 1
+    size_of of_three.tables (aggregate 0) ∷ align_of of_three.tables (aggregate 0)
+    ∷ offset_of of_three.tables (aggregate 0) 1
     ∷ offset_of of_three.tables (aggregate 0) 2 ∷ []
     ≡ Some 12 ∷ Some 4 ∷ Some 4 ∷ Some 8 ∷ []
 row_layout = refl
@@ -169,8 +197,8 @@ row_zero_divisor = ap (λ f. const_value (f empty)) zero_divisor.is
 
 abbrev enumerators : OfSpecifier
 enumerators = built.enumeration typing 0 None
-    (   built.enumerator typing 7 a (Some (number 4)) ∷ built.enumerator typing 14 b None
-      ∷ built.enumerator typing 17 c (Some (size_of_type (word w.Int ∷ []) omitted)) ∷ [])
+    (built.enumerator typing 7 a (Some (number 4)) ∷ built.enumerator typing 14 b None
+    ∷ built.enumerator typing 17 c (Some (size_of_type (word w.Int ∷ []) omitted)) ∷ [])
     false
 
 abbrev with_enumerators : Scope
@@ -193,7 +221,11 @@ completed = declaration (structure (Some (s_tag 7)) (field (word w.Int) (as_ b) 
 abbrev a_arrow_b : OfExpr
 a_arrow_b = built.arrow typing 21 (the a) b
 
-pub row_before_completion : (typed a_arrow_b.tree pointed).faults ≡ record { at = 21; rule = rule.Layout layout.Incomplete } ∷ []
+pub row_before_completion : (typed a_arrow_b.tree pointed).faults ≡ record {
+  at = 21;
+  rule =
+      rule.Layout layout.Incomplete;
+} ∷ []
 unfolding typed
 row_before_completion = ap (λ f. (f pointed).faults) a_arrow_b.is
 
@@ -205,7 +237,8 @@ row_after_completion = ap (λ f. type_of (f completed)) a_arrow_b.is
 
 abbrev of_itself : Scope
 of_itself =
-    declaration (structure (Some (s_tag 7)) (field (built.tag typing 0 kind.Struct (s_tag 18)) (pointer (as_ a)) ∷ field (word w.Int) (as_ b) ∷ []) ∷ []) (as_ c ∷ []) empty
+    declaration (structure (Some (s_tag 7)) (field (built.tag typing 0 kind.Struct (s_tag 18)) (pointer (as_ a))
+    ∷ field (word w.Int) (as_ b) ∷ []) ∷ []) (as_ c ∷ []) empty
 
 abbrev through_itself : OfExpr
 through_itself = built.arrow typing 5 (built.arrow typing 4 (built.member typing 3 (the c) a) a) b
@@ -222,12 +255,16 @@ outer_s = declaration (structure (Some (s_tag 7)) (field (word w.Char) (as_ a) �
 abbrev inner_s : Scope
 inner_s =
     declaration (built.tag typing 0 kind.Struct (s_tag 37) ∷ []) (pointer (as_ b) ∷ [])
-      (declaration (built.tag typing 0 kind.Struct (s_tag 27) ∷ []) [] (enter outer_s))
+    (declaration (built.tag typing 0 kind.Struct (s_tag 27) ∷ []) [] (enter outer_s))
 
 abbrev b_arrow_a : OfExpr
 b_arrow_a = built.arrow typing 50 (the b) a
 
-pub row_hidden_tag : (typed b_arrow_a.tree inner_s).faults ≡ record { at = 50; rule = rule.Layout layout.Incomplete } ∷ []
+pub row_hidden_tag : (typed b_arrow_a.tree inner_s).faults ≡ record {
+  at = 50;
+  rule =
+      rule.Layout layout.Incomplete;
+} ∷ []
 unfolding typed
 row_hidden_tag = ap (λ f. (f inner_s).faults) b_arrow_a.is
 
@@ -245,14 +282,16 @@ typedef_a = declaration (built.storage typing 0 class.Typedef ∷ word w.Char �
 
 abbrev hidden_by_parameter : OfDeclarator
 hidden_by_parameter = built.function typing 0 (as_ c)
-    (   built.parameter typing (word w.Int ∷ []) (as_ a)
-      ∷ built.parameter typing (word w.Int ∷ []) (pointer (built.array typing 0 (as_ b) [] (Some (built.sizeof_expr typing 0 (the a))))) ∷ [])
+    (built.parameter typing (word w.Int ∷ []) (as_ a)
+    ∷ built.parameter typing (word w.Int ∷ []) (pointer (built.array typing 0 (as_ b) [] (Some (built.sizeof_expr
+    typing 0 (the a))))) ∷ [])
     false
 
 pub row_typedef_hidden : (declaration_faults (word w.Int ∷ []) (hidden_by_parameter ∷ []) typedef_a) ≡ []
 row_typedef_hidden = refl
 
-pub row_typedef_again : (declaration_faults (built.typedef typing 0 a ∷ []) (as_ b ∷ []) (declaration (word w.Int ∷ []) (hidden_by_parameter ∷ []) typedef_a)) ≡ []
+pub row_typedef_again : (declaration_faults (built.typedef typing 0 a ∷ []) (as_ b ∷ []) (declaration (word w.Int
+    ∷ []) (hidden_by_parameter ∷ []) typedef_a)) ≡ []
 row_typedef_again = refl
 
 -- an expression names no typedef
@@ -273,7 +312,11 @@ braces xs = list_says 0 (undesignated xs)
 
 abbrev initialised_declaration : List OfSpecifier → OfDeclarator → InitialSaid → Scope → Declares
 initialised_declaration ss d x s =
-    declaration_by (built.all_say (fold_specifier {c = Says ExprSays} typing) ss) (record { declarator = d.says; initial = Some (initialises x) } ∷ []) s
+    declaration_by (built.all_say (fold_specifier {c = Says ExprSays} typing) ss) (record {
+      declarator =
+          d.says;
+      initial = Some (initialises x);
+    } ∷ []) s
 
 abbrev unknown_length : Name → OfDeclarator
 unknown_length name = built.array typing 0 (as_ name) [] None
@@ -284,19 +327,22 @@ size_of_name name s = constant_of ((built.sizeof_expr typing 0 (the name)).says 
 abbrev one_two_three : InitialSaid
 one_two_three = braces (value (number 1) ∷ value (number 2) ∷ value (number 3) ∷ [])
 
-pub row_length_of_list : size_of_name a (initialised_declaration (word w.Int ∷ []) (unknown_length a) one_two_three empty).after ≡ Some (pos 12)
+pub row_length_of_list : size_of_name a (initialised_declaration (word w.Int
+    ∷ []) (unknown_length a) one_two_three empty).after ≡ Some (pos 12)
 row_length_of_list = refl
 
 abbrev pair_of_ints : OfSpecifier
 pair_of_ints = structure None (field (word w.Int) (as_ a) ∷ field (word w.Int) (as_ b) ∷ [])
 
-pub row_length_without_braces : size_of_name c (initialised_declaration (pair_of_ints ∷ []) (unknown_length c) one_two_three empty).after ≡ Some (pos 16)
+pub row_length_without_braces : size_of_name c (initialised_declaration (pair_of_ints
+    ∷ []) (unknown_length c) one_two_three empty).after ≡ Some (pos 16)
 row_length_without_braces = refl
 
 abbrev two_letters : OfExpr
 two_letters = built.string typing 0 ((120 ∷ 121 ∷ []) ∷ [])
 
-pub row_length_of_literal : size_of_name b (initialised_declaration (word w.Char ∷ []) (unknown_length b) (value two_letters) empty).after ≡ Some (pos 3)
+pub row_length_of_literal : size_of_name b (initialised_declaration (word w.Char
+    ∷ []) (unknown_length b) (value two_letters) empty).after ≡ Some (pos 3)
 row_length_of_literal = refl
 
 pub row_too_many : (initialised_declaration (word w.Int ∷ []) (as_ a) one_two_three empty).faults ≡

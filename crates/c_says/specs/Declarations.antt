@@ -1,8 +1,35 @@
--- What declarations outside expressions say (C99 6.7, 6.9): linkage, redeclaration, definitions, the type that an initializer completes,
--- and the scopes of a function's parameters. `declares` is what one declarator with its initializer declares, `declaration_by` what a
--- whole declaration does, `function_by` what the head of a function definition does. All are over what specifiers, declarators and
+-- What declarations outside expressions say (C99 6.7, 6.9): linkage, redeclaration, definitions, the type that an
+-- initializer completes,
+-- and the scopes of a function's parameters. `declares` is what one declarator with its initializer declares,
+-- `declaration_by` what a
+-- whole declaration does, `function_by` what the head of a function definition does. All are over what specifiers,
+-- declarators and
 -- initializers say, not over trees.
-use Rattle.std.specs.Prelude.{ℕ, zero, suc, ◌+◌, nat_eq, Bool, true, false, cond, not, ◌&&◌, ◌||◌, List, [], ◌∷◌, ◌++◌, length, Option, Some, None, Result, Ok, Err}
+use Rattle.std.specs.Prelude.{
+  ℕ,
+  zero,
+  suc,
+  ◌+◌,
+  nat_eq,
+  Bool,
+  true,
+  false,
+  cond,
+  not,
+  ◌&&◌,
+  ◌||◌,
+  List,
+  [],
+  ◌∷◌,
+  ◌++◌,
+  length,
+  Option,
+  Some,
+  None,
+  Result,
+  Ok,
+  Err,
+}
 use Rattle.std.specs.Str.{bytes_eq}
 use Rattle.c_tree.specs.declared.expr.StorageClass.{StorageClass}
 use Rattle.c_tree.specs.declared.expr.StorageClass.TheVariants as class
@@ -27,9 +54,36 @@ use Rattle.c_says.specs.declared.scope.Means.{Means}
 use Rattle.c_says.specs.declared.scope.Means.TheVariants as means
 use Rattle.c_says.specs.declared.scope.Rule.{Rule}
 use Rattle.c_says.specs.declared.scope.Rule.TheVariants as rule
-use Rattle.c_says.specs.Scopes.{Name, Block, Scope, look_up, entry_in, own_entry, linked_as, in_file, declared, with_linked, with_signature, next_signature, enter, enter_with}
+use Rattle.c_says.specs.Scopes.{
+  Name,
+  Block,
+  Scope,
+  look_up,
+  entry_in,
+  own_entry,
+  linked_as,
+  in_file,
+  declared,
+  with_linked,
+  with_signature,
+  next_signature,
+  enter,
+  enter_with,
+}
 use Rattle.c_says.specs.Typing.{NamedType, fault_at, incomplete, too_large}
-use Rattle.c_says.specs.Declares.{Said, Saying, Formed, DeclaratorSays, Parameters, said_by, specified, derived_from, formed_type, type_in, faults_in}
+use Rattle.c_says.specs.Declares.{
+  Said,
+  Saying,
+  Formed,
+  DeclaratorSays,
+  Parameters,
+  said_by,
+  specified,
+  derived_from,
+  formed_type,
+  type_in,
+  faults_in,
+}
 
 -- ---- what declares what (C99 6.7.1, 6.2.2)
 
@@ -66,7 +120,8 @@ prior_linkage (Some e) = or_external (linkage_meant e.means)
 -- a function without storage class is as with `extern` (C99 6.2.2p5)
 abbrev pub file_linkage : Option StorageClass → Bool → Option Entry → Linkage
 file_linkage storage function prior =
-    cond (is_static storage) linkage.Internal (cond (function || is_extern storage) (prior_linkage prior) linkage.External)
+    cond (is_static storage) linkage.Internal (cond (function || is_extern storage) (prior_linkage prior)
+    linkage.External)
 
 abbrev pub block_linkage : Option StorageClass → Bool → Option Entry → Linkage
 block_linkage storage function prior = cond (function || is_extern storage) (prior_linkage prior) linkage.None
@@ -88,8 +143,8 @@ object_with storage t l = means.Object t (duration_by storage l) l
 abbrev pub means_of : Option StorageClass → CType → Scope → Name → Means
 means_of storage t s name =
     cond (is_typedef storage) (means.Typedef t)
-      (cond (is_function t) (means.Function t (linkage_by (in_file s) storage true (look_up s name)))
-        (object_with storage t (linkage_by (in_file s) storage false (look_up s name))))
+    (cond (is_function t) (means.Function t (linkage_by (in_file s) storage true (look_up s name)))
+    (object_with storage t (linkage_by (in_file s) storage false (look_up s name))))
 
 -- ---- declaring again (C99 6.7p3, p4, 6.2.7)
 
@@ -101,10 +156,13 @@ abbrev pub where_compatible : Bool → Means → Again
 where_compatible true m = Some m
 where_compatible false m = None
 
--- two declarations with linkage of one object or function have compatible types, and the later one the composite type (C99 6.2.7p4)
+-- two declarations with linkage of one object or function have compatible types, and the later one the composite type
+-- (C99 6.2.7p4)
 abbrev pub linked_again : Tables → Means → Means → Again
-linked_again tables (means.Object t d l) (means.Object u e m) = where_compatible (compatible tables t u) (means.Object (composite tables t u) e m)
-linked_again tables (means.Function t l) (means.Function u m) = where_compatible (compatible tables t u) (means.Function (composite tables t u) m)
+linked_again tables (means.Object t d l) (means.Object u e m) = where_compatible (compatible tables t u)
+    (means.Object (composite tables t u) e m)
+linked_again tables (means.Function t l) (means.Function u m) = where_compatible (compatible tables t u)
+    (means.Function (composite tables t u) m)
 linked_again tables _ new = None
 
 abbrev pub has_linkage : Means → Bool
@@ -140,7 +198,8 @@ again_as tables None file new = again_in_file tables file new
 abbrev pub declared_again : Scope → Name → Means → Again
 declared_again s name new = again_as s.tables (own_entry s name) (entry_in s.file name) new
 
--- ---- objects and functions with linkage: the offset of the first declaration, and one definition at most (C99 6.9p3, p5)
+-- ---- objects and functions with linkage: the offset of the first declaration, and one definition at most (C99
+-- 6.9p3, p5)
 
 abbrev pub first_at : ℕ → Option Linked → ℕ
 first_at at None = at
@@ -162,7 +221,8 @@ declares_name at name m defines s =
 abbrev pub twice_defined : Means → Bool → Option Linked → Bool
 twice_defined m defines l = has_linkage m && defines && was_defined l
 
--- ---- initializers (C99 6.7.8), as far as they act on the type: an array of unknown length gets the length that they give it
+-- ---- initializers (C99 6.7.8), as far as they act on the type: an array of unknown length gets the length that they
+-- give it
 
 -- What an initializer says of an object of a type: the length of an array of unknown length, where it gives one.
 pub record Initialised : Type 0 where
@@ -185,7 +245,8 @@ completed_by n (means.Typedef t) = means.Typedef t
 completed_by n (means.Constant z) = means.Constant z
 completed_by n means.Faulty = means.Faulty
 
--- ---- completeness (C99 6.7p7): an object without linkage, and one with an initializer, has a type whose size is known
+-- ---- completeness (C99 6.7p7): an object without linkage, and one with an initializer, has a type whose size is
+-- known
 
 abbrev pub size_fault : Tables → CType → Option Rule
 size_fault tables t = cond (is_too_large tables t) (Some too_large) (cond (is_sized tables t) None (Some incomplete))
@@ -254,11 +315,13 @@ declared_lastly name faults s = record { entry = look_up s name; faults = faults
 -- the completed type is in force behind the initializer
 abbrev pub declared_completely : ℕ → Name → Means → List Fault → Scope → Declared
 declared_completely at name m faults s =
-    declared_lastly name (faults ++ faults_of_rule at (complete_fault s.tables true m)) (declares_name at name m true s)
+    declared_lastly name (faults ++ faults_of_rule at (complete_fault s.tables true m)) (declares_name at name m true
+    s)
 
 -- the name is in force in its own initializer (C99 6.2.1p7)
 abbrev pub declared_initialised : ℕ → Name → Means → List Fault → Initialised → Declared
-declared_initialised at name m faults x = declared_completely at name (completed_by x.length m) (faults ++ x.faults) x.after
+declared_initialised at name m faults x = declared_completely at name (completed_by x.length m) (faults
+    ++ x.faults) x.after
 
 abbrev pub declared_with : ℕ → Name → Means → Option InitialSays → List Fault → Scope → Declared
 declared_with at name m None faults s = declared_plainly at name m faults s
@@ -271,25 +334,30 @@ is_some (Some x) = true
 
 abbrev pub redeclared_as : ℕ → Name → Again → Option InitialSays → List Fault → Scope → Declared
 redeclared_as at name None f faults s =
-    declared_with at name means.Faulty f (faults ++ fault_at at rule.DuplicateDefinition) (declared at name means.Faulty s)
+    declared_with at name means.Faulty f (faults ++ fault_at at rule.DuplicateDefinition) (declared at name
+    means.Faulty s)
 redeclared_as at name (Some m) f faults s =
     declared_with at name m f
-      (faults ++ cond (twice_defined m (is_some f) (linked_as s name)) (fault_at at rule.DuplicateDefinition) [])
-      (declares_name at name m false s)
+    (faults ++ cond (twice_defined m (is_some f) (linked_as s name)) (fault_at at rule.DuplicateDefinition) [])
+    (declares_name at name m false s)
 
-abbrev pub declared_type : Option StorageClass → ℕ → Name → Option CType → Option InitialSays → List Fault → Scope → Declared
-declared_type storage at name None f faults s = declared_with at name means.Faulty f faults (declared at name means.Faulty s)
+abbrev pub declared_type : Option StorageClass → ℕ → Name → Option CType → Option InitialSays → List Fault →
+    Scope → Declared
+declared_type storage at name None f faults s = declared_with at name means.Faulty f faults (declared at name
+    means.Faulty s)
 declared_type storage at name (Some t) f faults s =
     redeclared_as at name (declared_again s name (means_of storage t s name)) f faults s
 
-abbrev pub declared_formed : Option StorageClass → Option (ℕ × Name) → NamedType → Option InitialSays → List Fault → Scope → Declared
+abbrev pub declared_formed : Option StorageClass → Option (ℕ × Name) → NamedType → Option InitialSays →
+    List Fault → Scope → Declared
 declared_formed storage None t f faults s = record { entry = None; faults = faults; after = s }
 declared_formed storage (Some n) t f faults s =
     declared_type storage n.0 n.1 (type_in t) f (faults ++ faults_in n.0 t) s
 
 -- a declarator behind its specifiers
 abbrev pub declares : Said → Formed → Option InitialSays → Declared
-declares said x f = declared_formed said.storage x.name (formed_type x.after.tables (derived_from x.derivations (specified said))) f x.faults x.after
+declares said x f = declared_formed said.storage x.name (formed_type x.after.tables (derived_from x.derivations
+    (specified said))) f x.faults x.after
 
 -- ---- a whole declaration (C99 6.7)
 
@@ -303,31 +371,30 @@ pub record Declares : Type 0 where
   pub faults : List Fault
   pub after : Scope
 
-abbrev pub entry_of : Option Entry → List Entry → List Entry
-entry_of None es = es
-entry_of (Some e) es = e ∷ es
+abbrev pub with_entry_of : List Entry → Option Entry → List Entry
+with_entry_of es None = es
+with_entry_of es (Some e) = es ++ e ∷ []
 
-abbrev pub with_first : Declared → Declares → Declares
-with_first x more = record { entries = entry_of x.entry more.entries; faults = x.faults ++ more.faults; after = more.after }
+abbrev pub and_declared : Declares → Declared → Declares
+and_declared x y = record { entries = with_entry_of x.entries y.entry; faults = x.faults ++ y.faults; after = y.after }
 
-abbrev pub each_item : Said → List Item → Scope → Declares
-each_item said [] s = record { entries = []; faults = []; after = s }
-each_item said (x ∷ xs) s =
-    let first = declares said (x.declarator s) x.initial in
-    with_first first (each_item said xs first.after)
+-- each declarator in the scope that those before it leave
+abbrev pub each_item : Said → Declares → List Item → Declares
+each_item said x [] = x
+each_item said x (y ∷ ys) = each_item said (and_declared x (declares said (y.declarator x.after) y.initial)) ys
 
 abbrev pub is_alone : List Item → Bool
 is_alone [] = true
 is_alone (x ∷ xs) = false
 
-abbrev pub with_specifiers : Said → Declares → Declares
-with_specifiers said x = record x { faults = said.faults ++ x.faults }
+abbrev pub behind_specifiers : Said → Declares
+behind_specifiers said = record { entries = []; faults = said.faults; after = said.scope }
 
 -- specifiers, then each declarator with its initializer, in the scope that those before it leave
 abbrev pub declaration_by : List Saying → List Item → Scope → Declares
 declaration_by specifiers items s =
     let said = said_by specifiers (is_alone items) [] s in
-    with_specifiers said (each_item said items said.scope)
+    each_item said (behind_specifiers said) items
 
 -- a tentative array of unknown length has one element (C99 6.9.2p5)
 abbrev pub tentative_type : CType → CType
@@ -335,7 +402,8 @@ tentative_type t = with_length (Some 1) t t.derivations
 
 -- ---- the head of a function definition (C99 6.9.1)
 
--- `returned` and `parameters` are of its type; `inside` is the scope of its body, in which its parameters are in force.
+-- `returned` and `parameters` are of its type; `inside` is the scope of its body, in which its parameters are in
+-- force.
 pub record FunctionSaid : Type 0 where
   pub entry : Option Entry
   pub returned : Option CType
@@ -353,10 +421,12 @@ defined_signature tables t (d.Function n ∷ ds) s = by (has_unspecified tables.
     is_unspecified prototype_.Fixed = false
     is_unspecified prototype_.Variadic = false
     is_unspecified prototype_.EmptyDefinition = false
+
     has_unspecified : List Signature → ℕ → Bool
     has_unspecified [] m = false
     has_unspecified (g ∷ gs) zero = is_unspecified g.prototype
     has_unspecified (g ∷ gs) (suc m) = has_unspecified gs m
+
     by : Bool → CType × Scope
     by true = (function (next_signature s) (rest_of t ds), with_signature prototype_.EmptyDefinition [] s)
     by false = (t, s)
@@ -418,8 +488,9 @@ abbrev pub defined_as : ℕ → Name → Again → List Fault → Scope → Decl
 defined_as at name None faults s =
     declared_lastly name (faults ++ fault_at at rule.DuplicateDefinition) (declared at name means.Faulty s)
 defined_as at name (Some m) faults s =
-    declared_lastly name (faults ++ cond (twice_defined m true (linked_as s name)) (fault_at at rule.DuplicateDefinition) [])
-      (declares_name at name m true s)
+    declared_lastly name (faults ++ cond (twice_defined m true (linked_as s name)) (fault_at at
+    rule.DuplicateDefinition) [])
+    (declares_name at name m true s)
 
 abbrev pub defined_function : Option StorageClass → ℕ → Name → Formed → List Fault → CType × Scope → FunctionSaid
 defined_function storage at name x faults p =
@@ -458,8 +529,10 @@ function_named storage (Some n) t x faults = function_type storage n.0 n.1 (type
 
 abbrev pub function_from : Said → Formed → FunctionSaid
 function_from said x =
-    function_named said.storage x.name (formed_type x.after.tables (derived_from x.derivations (specified said))) x (said.faults ++ x.faults)
+    function_named said.storage x.name (formed_type x.after.tables (derived_from x.derivations (specified said))) x
+    (said.faults ++ x.faults)
 
 -- the specifiers and the declarator of a function definition
 abbrev pub function_by : List Saying → DeclaratorSays → Scope → FunctionSaid
-function_by specifiers declarator s = let said = said_by specifiers false [] s in function_from said (declarator said.scope)
+function_by specifiers declarator s = let said = said_by specifiers false [] s in function_from said (declarator
+    said.scope)

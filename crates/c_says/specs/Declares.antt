@@ -1,8 +1,39 @@
--- What declares: specifiers, members, fields, enumerators, declarators, parameters and type names (C99 6.7), each over what the trees
--- in it say. They are generic in what is said of an expression, with a function that tells its `Typed` in a scope, so that a meaning of
+-- What declares: specifiers, members, fields, enumerators, declarators, parameters and type names (C99 6.7), each
+-- over what the trees
+-- in it say. They are generic in what is said of an expression, with a function that tells its `Typed` in a scope, so
+-- that a meaning of
 -- expressions that says more takes them as they are: `specifier_step`, `member_step`, `field_step`, `enumerator_step`,
 -- `declarator_step`, `parameter_step`, `type_name_step`.
-use Rattle.std.specs.Prelude.{ℕ, zero, suc, ◌+◌, ℤ, pos, negsuc, ◌+ℤ◌, nat_eq, nat_lt, Bool, true, false, cond, not, ◌&&◌, ◌||◌, List, [], ◌∷◌, ◌++◌, length, Option, Some, None, Result, Ok, Err}
+use Rattle.std.specs.Prelude.{
+  ℕ,
+  zero,
+  suc,
+  ◌+◌,
+  ℤ,
+  pos,
+  negsuc,
+  ◌+ℤ◌,
+  nat_eq,
+  nat_lt,
+  Bool,
+  true,
+  false,
+  cond,
+  not,
+  ◌&&◌,
+  ◌||◌,
+  List,
+  [],
+  ◌∷◌,
+  ◌++◌,
+  length,
+  Option,
+  Some,
+  None,
+  Result,
+  Ok,
+  Err,
+}
 use Rattle.std.specs.Str.{bytes_eq}
 use Rattle.c_tree.specs.declared.expr.AggregateKind.{AggregateKind}
 use Rattle.c_tree.specs.declared.expr.AggregateKind.TheVariants as kind_
@@ -15,7 +46,16 @@ use Rattle.c_tree.specs.declared.expr.StorageClass.{StorageClass}
 use Rattle.c_tree.specs.declared.expr.TagName.{TagName}
 use Rattle.c_tree.specs.declared.expr.TypeWord.{TypeWord}
 use Rattle.c_tree.specs.declared.expr.TypeWord.TheVariants as w
-use Rattle.c_tree.specs.Folds.{Carrier, DeclaratorLayer, FieldLayer, SpecifierLayer, EnumeratorLayer, MemberDeclarationLayer, ParameterLayer, TypeNameLayer}
+use Rattle.c_tree.specs.Folds.{
+  Carrier,
+  DeclaratorLayer,
+  FieldLayer,
+  SpecifierLayer,
+  EnumeratorLayer,
+  MemberDeclarationLayer,
+  ParameterLayer,
+  TypeNameLayer,
+}
 use Rattle.c_type_terms.specs.declared.ctype.Base.TheVariants as base
 use Rattle.c_type_terms.specs.declared.ctype.CType.{CType}
 use Rattle.c_type_terms.specs.declared.ctype.Derivation.{Derivation}
@@ -38,7 +78,20 @@ use Rattle.c_type_terms.specs.declared.tables.Prototype.{Prototype}
 use Rattle.c_type_terms.specs.declared.tables.Prototype.TheVariants as prototype_
 use Rattle.c_type_terms.specs.declared.layouts.Extent.{Extent}
 use Rattle.c_type_terms.specs.declared.tables.Tables.{Tables}
-use Rattle.c_type_terms.specs.Types.{unqualified, with_both, basic, void, integer, floating, enumerated, aggregate, rest_of, qualified, is_function, is_void}
+use Rattle.c_type_terms.specs.Types.{
+  unqualified,
+  with_both,
+  basic,
+  void,
+  integer,
+  floating,
+  enumerated,
+  aggregate,
+  rest_of,
+  qualified,
+  is_function,
+  is_void,
+}
 use Rattle.c_type_terms.specs.Integers.{is_in}
 use Rattle.c_type_terms.specs.Layouts.{is_sized, is_opaque, is_too_large, member_extent, no_members, placed, finished}
 use Rattle.c_type_terms.specs.Compatible.{adjusted}
@@ -54,8 +107,38 @@ use Rattle.c_says.specs.declared.scope.Tag.{Tag}
 use Rattle.c_says.specs.declared.scope.TagMeans.{TagMeans}
 use Rattle.c_says.specs.declared.scope.TagMeans.TheVariants as tag_
 use Rattle.c_says.specs.declared.shown.Shown.{Shown}
-use Rattle.c_says.specs.Scopes.{Name, Block, Scope, look_up, own_entry, tag_of, own_tag, innermost, declared, with_tag, enter, leave, next_aggregate, next_enumeration, next_signature, with_aggregate, with_content, with_enumeration, with_enumerators, with_signature}
-use Rattle.c_says.specs.Typing.{Typed, constant_of, NamedType, fault_at, incomplete, too_large, no_constant, not_constant}
+use Rattle.c_says.specs.Scopes.{
+  Name,
+  Block,
+  Scope,
+  look_up,
+  own_entry,
+  tag_of,
+  own_tag,
+  innermost,
+  declared,
+  with_tag,
+  enter,
+  leave,
+  next_aggregate,
+  next_enumeration,
+  next_signature,
+  with_aggregate,
+  with_content,
+  with_enumeration,
+  with_enumerators,
+  with_signature,
+}
+use Rattle.c_says.specs.Typing.{
+  Typed,
+  constant_of,
+  NamedType,
+  fault_at,
+  incomplete,
+  too_large,
+  no_constant,
+  not_constant,
+}
 
 -- ---- qualifiers (C99 6.7.3)
 
@@ -131,8 +214,8 @@ short_kind unsigned = cond unsigned k.UnsignedShort k.Short
 abbrev pub integer_kind : List TypeWord → IntegerKind
 integer_kind ws =
     cond (has is_char ws) (char_kind (has is_signed ws) (has is_unsigned ws))
-      (cond (has is_short ws) (short_kind (has is_unsigned ws))
-        (cond (has is_unsigned ws) (unsigned_wide_kind (count is_long ws)) (wide_kind (count is_long ws))))
+    (cond (has is_short ws) (short_kind (has is_unsigned ws))
+    (cond (has is_unsigned ws) (unsigned_wide_kind (count is_long ws)) (wide_kind (count is_long ws))))
 
 abbrev pub domain_of : List TypeWord → Domain
 domain_of ws = cond (has is_complex ws) domain.Complex (cond (has is_imaginary ws) domain.Imaginary domain.Real)
@@ -192,7 +275,18 @@ Saying = Said → Said
 -- nothing said yet
 abbrev pub begun : Bool → List Fault → Scope → Said
 begun alone faults s =
-    record { alone = alone; start = None; storage = None; is_inline = false; qualifiers = unqualified; words = []; whole = None; faults = faults; scope = s }
+    record {
+      alone = alone;
+      start = None;
+      storage = None;
+      is_inline = false;
+      qualifiers = unqualified;
+      words =
+          [];
+      whole = None;
+      faults = faults;
+      scope = s;
+    }
 
 abbrev pub in_order : {A : Type 0} → List (A → A) → A → A
 in_order [] x = x
@@ -266,7 +360,8 @@ declares_tag form name x = record x {
 -- a tag stands for one kind of type (C99 6.7.2.3p2, 6.2.3)
 abbrev pub refers_to : AggregateForm → ℕ → TagMeans → Saying
 refers_to form at (tag_.Aggregate n) x =
-    cond (same_form form (form_at x.scope.tables.aggregates n)) (says (aggregate n) x) (refuses at rule.DuplicateDefinition x)
+    cond (same_form form (form_at x.scope.tables.aggregates n)) (says (aggregate n) x) (refuses at
+    rule.DuplicateDefinition x)
 refers_to form at (tag_.Enumerated n) x = refuses at rule.DuplicateDefinition x
 
 abbrev pub refers : AggregateForm → TagName → Option Tag → Saying
@@ -296,7 +391,12 @@ untagged form faults s = record { number = next_aggregate s; faults = faults; sc
 -- a new type, whose tag hides that of an outer block
 abbrev pub newly_tagged : AggregateForm → Name → List Fault → Scope → Begun
 newly_tagged form name faults s =
-    record { number = next_aggregate s; faults = faults; scope = with_tag name (tag_.Aggregate (next_aggregate s)) true (with_aggregate form s) }
+    record {
+      number = next_aggregate s;
+      faults = faults;
+      scope = with_tag name (tag_.Aggregate (next_aggregate s))
+          true (with_aggregate form s);
+    }
 
 -- the type that this tag already stands for in this block
 abbrev pub listed_now : Name → ℕ → List Fault → Scope → Begun
@@ -305,7 +405,7 @@ listed_now name n faults s = record { number = n; faults = faults; scope = with_
 abbrev pub begun_again : AggregateForm → TagName → Bool → TagMeans → List Fault → Scope → Begun
 begun_again form tag false (tag_.Aggregate n) faults s =
     cond (same_form form (form_at s.tables.aggregates n)) (listed_now tag.name n faults s)
-      (newly_tagged form tag.name (faults ++ fault_at tag.at rule.DuplicateDefinition) s)
+    (newly_tagged form tag.name (faults ++ fault_at tag.at rule.DuplicateDefinition) s)
 begun_again form tag _ _ faults s = newly_tagged form tag.name (faults ++ fault_at tag.at rule.DuplicateDefinition) s
 
 abbrev pub begun_as : AggregateForm → TagName → Option Tag → List Fault → Scope → Begun
@@ -318,7 +418,8 @@ begins form (Some tag) faults s = begun_as form tag (own_tag s tag.name) faults 
 
 -- ---- types made of derivations (C99 6.7.5)
 
--- the first rule that a derivation breaks, from the type outward: no array of functions or of a type without size, no function that
+-- the first rule that a derivation breaks, from the type outward: no array of functions or of a type without size, no
+-- function that
 -- returns an array or a function (C99 6.7.5.2p1, 6.7.5.3p1)
 abbrev pub is_array_in : List Derivation → Bool
 is_array_in (d.Array n ∷ ds) = true
@@ -347,7 +448,8 @@ lacks_elements tables t (d.Function n ∷ ds) = lacks_elements tables t ds
 abbrev pub formed_rule : Tables → CType → Option Rule
 formed_rule tables t =
     cond (mismatched t.derivations) (Some rule.TypeMismatch)
-      (cond (lacks_elements tables t t.derivations) (Some incomplete) (cond (is_too_large tables t) (Some too_large) None))
+    (cond (lacks_elements tables t t.derivations) (Some incomplete) (cond (is_too_large tables t) (Some too_large)
+    None))
 
 abbrev pub derived_from : Option (List Derivation) → Option CType → Option CType
 derived_from None t = None
@@ -383,7 +485,15 @@ DeclaratorSays = Scope → Formed
 
 -- a name, or none
 abbrev pub named : Option (ℕ × Name) → Scope → Formed
-named name s = record { name = name; derivations = Some []; brackets = unqualified; inside = None; faults = []; after = s }
+named name s = record {
+  name = name;
+  derivations = Some [];
+  brackets = unqualified;
+  inside = None;
+  faults =
+      [];
+  after = s;
+}
 
 abbrev pub then_derivation : Option (List Derivation) → Option Derivation → Option (List Derivation)
 then_derivation (Some ds) (Some x) = Some (ds ++ x ∷ [])
@@ -392,7 +502,10 @@ then_derivation None x = None
 
 -- C99 6.7.5.1p1
 abbrev pub to_pointer : List Qualifier → Formed → Formed
-to_pointer qualifiers x = record x { derivations = then_derivation x.derivations (Some (d.Pointer (all_qualifiers qualifiers))) }
+to_pointer qualifiers x = record x {
+  derivations = then_derivation x.derivations (Some (d.Pointer (all_qualifiers
+      qualifiers)));
+}
 
 -- the length of an array: none given, a constant from 0, or one that breaks a rule
 pub record Counted : Type 0 where
@@ -465,37 +578,42 @@ abbrev pub with_parameter : Option (ℕ × Name) → Option CType → Scope → 
 with_parameter None t s = s
 with_parameter (Some n) t s = declared n.0 n.1 (parameter_means t) s
 
--- the parameters from left to right
+-- the parameters so far, and the scope behind them
 pub record Listed : Type 0 where
   pub types : Option (List CType)
   pub are_named : Bool
   pub faults : List Fault
   pub after : Scope
 
-abbrev pub listed_types : Option CType → Option (List CType) → Option (List CType)
-listed_types None ts = None
-listed_types (Some t) None = None
-listed_types (Some t) (Some ts) = Some (t ∷ ts)
+abbrev pub none_listed : Scope → Listed
+none_listed s = record { types = Some []; are_named = true; faults = []; after = s }
+
+abbrev pub listed_types : Option (List CType) → Option CType → Option (List CType)
+listed_types (Some ts) (Some t) = Some (ts ++ t ∷ [])
+listed_types (Some ts) None = None
+listed_types None t = None
 
 abbrev pub is_named : Option (ℕ × Name) → Bool
 is_named None = false
 is_named (Some n) = true
 
-abbrev pub listed_after : Named → Listed → Listed
-listed_after x more = record {
-  types = listed_types x.type more.types;
-  are_named = is_named x.name && more.are_named;
-  faults = x.faults ++ duplicate_name x.name x.after ++ more.faults;
-  after = more.after;
+abbrev pub and_parameter : Listed → Named → Listed
+and_parameter x p = record {
+  types = listed_types x.types p.type;
+  are_named = x.are_named && is_named p.name;
+  faults = x.faults ++ p.faults ++ duplicate_name p.name p.after;
+  after = with_parameter p.name p.type p.after;
 }
 
-abbrev pub listed : List NamedSays → Scope → Listed
-listed [] s = record { types = Some []; are_named = true; faults = []; after = s }
-listed (p ∷ ps) s = let x = p s in listed_after x (listed ps (with_parameter x.name x.type x.after))
+-- from left to right
+abbrev pub listed : Listed → List NamedSays → Listed
+listed x [] = x
+listed x (p ∷ ps) = listed (and_parameter x (p x.after)) ps
 
 -- `void` alone, without name and qualifiers, is no parameter (C99 6.7.5.3p10)
 abbrev pub is_plain_void : CType → Bool
-is_plain_void t = is_void t && not t.qualifiers.is_const && not t.qualifiers.is_volatile && not t.qualifiers.is_restrict
+is_plain_void t = is_void t && not t.qualifiers.is_const && not t.qualifiers.is_volatile
+    && not t.qualifiers.is_restrict
 
 abbrev pub without_void : List CType → List CType
 without_void [] = []
@@ -542,7 +660,8 @@ to_function p x ps = record x {
 
 -- ---- structures and unions, member by member (C99 6.7.2.1)
 
--- The members so far: where they lie, their names, whether one is a bit-field or has no known layout, and the offset of the name of
+-- The members so far: where they lie, their names, whether one is a bit-field or has no known layout, and the offset
+-- of the name of
 -- the last one where it is a flexible array.
 pub record Laid : Type 0 where
   pub form : AggregateForm
@@ -579,7 +698,8 @@ opaque_where false x = x
 
 -- A bit-field, a member without a field and an opaque member leave the layout unknown.
 abbrev pub content_laid : Laid → Content
-content_laid x = cond x.has_bits (content_.Opaque cause.BitField) (opaque_where x.is_opaque (content_.Complete (finished x.layout)))
+content_laid x = cond x.has_bits (content_.Opaque cause.BitField) (opaque_where x.is_opaque (content_.Complete
+    (finished x.layout)))
 
 -- a flexible array must be the last member (C99 6.7.2.1p2)
 abbrev pub flexible_fault : Option ℕ → List Fault
@@ -621,9 +741,9 @@ lays_faulty faults x = record x { is_opaque = true; faults = x.faults ++ faults 
 abbrev pub lays_type : ℕ → Name → CType → Laying
 lays_type at name t x =
     cond (is_function t) (lays_faulty (fault_at at rule.TypeMismatch) x)
-      (cond (is_sized x.scope.tables t || is_opaque x.scope.tables t) (lays name t (member_extent x.scope.tables t) x)
-        (cond (may_be_flexible x t) (record (lays name t (member_extent x.scope.tables t) x) { flexible = Some at })
-          (lays_faulty (fault_at at incomplete) x)))
+    (cond (is_sized x.scope.tables t || is_opaque x.scope.tables t) (lays name t (member_extent x.scope.tables t) x)
+    (cond (may_be_flexible x t) (record (lays name t (member_extent x.scope.tables t) x) { flexible = Some at })
+    (lays_faulty (fault_at at incomplete) x)))
 
 abbrev pub lays_member : ℕ → Name → NamedType → Laying
 lays_member at name None x = lays_faulty [] x
@@ -637,7 +757,11 @@ lays_named (Some n) t x = with_member_name n.0 n.1 (lays_member n.0 n.1 t (next_
 
 abbrev pub lays_formed : Formed → Option CType → Laying
 lays_formed f t x =
-    lays_named f.name (formed_type f.after.tables (derived_from f.derivations t)) (record x { faults = x.faults ++ f.faults; scope = f.after })
+    lays_named f.name (formed_type f.after.tables (derived_from f.derivations t)) (record x {
+      faults = x.faults
+          ++ f.faults;
+      scope = f.after;
+    })
 
 -- a bit-field's name, where it has one
 abbrev pub with_bits_name : Option (ℕ × Name) → Laying
@@ -677,7 +801,12 @@ members_from said fs x = fields_of fs (specified said) (record x { faults = said
 -- the list has ended: the type is complete, or opaque
 abbrev pub ends_members : AggregateForm → ℕ → Laid → Saying
 ends_members form n l x =
-    record x { whole = Some (Some (aggregate n)); faults = l.faults; scope = with_content n form (content_laid l) l.scope }
+    record x {
+      whole = Some (Some (aggregate n));
+      faults = l.faults;
+      scope =
+          with_content n form (content_laid l) l.scope;
+    }
 
 abbrev pub members_of : AggregateForm → List Laying → Begun → Saying
 members_of form ms b x = ends_members form b.number (in_order ms (none_laid form b.faults b.scope)) x
@@ -740,7 +869,12 @@ ends_enumerators n c x =
     record x { whole = Some (Some (enumerated n)); faults = c.faults; scope = with_enumerators n c.scope }
 
 abbrev pub enumerators_of : List (Counting → Counting) → Begun → Saying
-enumerators_of es b x = ends_enumerators b.number (in_order es (record { next = Some (pos 0); faults = b.faults; scope = b.scope })) x
+enumerators_of es b x = ends_enumerators b.number (in_order es (record {
+  next = Some (pos 0);
+  faults =
+      b.faults;
+  scope = b.scope;
+})) x
 
 -- ---- type names (C99 6.7.6)
 
@@ -765,7 +899,8 @@ type_formed said f = record {
 abbrev pub adjusted_rule : Tables → CType → CType → Option Rule
 adjusted_rule tables t u =
     cond (mismatched t.derivations) (Some rule.TypeMismatch)
-      (cond (lacks_elements tables t t.derivations) (Some incomplete) (cond (is_too_large tables u) (Some too_large) None))
+    (cond (lacks_elements tables t t.derivations) (Some incomplete) (cond (is_too_large tables u) (Some too_large)
+    None))
 
 abbrev pub adjusted_type : Tables → Qualifiers → Option CType → NamedType
 adjusted_type tables q None = None
@@ -796,7 +931,8 @@ parameter_typed said f t = record {
 }
 
 abbrev pub parameter_formed : Said → Formed → Named
-parameter_formed said f = parameter_typed said f (adjusted_type f.after.tables f.brackets (derived_from f.derivations (specified said)))
+parameter_formed said f = parameter_typed said f (adjusted_type f.after.tables f.brackets (derived_from f.derivations
+    (specified said)))
 
 -- ---- the layers, with what is said of an expression left open
 
@@ -822,18 +958,25 @@ started at x = record x { start = started_at x.start at }
 
 abbrev pub specifier_step : {E : Type 0} → SpecifierLayer (Says E) → Saying
 specifier_step (open_.Storage at class) x = record (started at x) { storage = Some class }
-specifier_step (open_.Qualifier at qualifier) x = record (started at x) { qualifiers = with_both x.qualifiers (of_qualifier qualifier) }
+specifier_step (open_.Qualifier at qualifier) x = record (started at x) {
+  qualifiers =
+      with_both x.qualifiers (of_qualifier qualifier);
+}
 specifier_step (open_.Inline at) x = record (started at x) { is_inline = true }
 specifier_step (open_.Word at word) x = record (started at x) { words = x.words ++ word ∷ [] }
 specifier_step (open_.Typedef at name) x = typedef_in at (look_up x.scope name) (started at x)
-specifier_step (open_.Tag at kind tag) x = refers (form_of kind) tag (referred_tag x.alone x.scope tag.name) (started at x)
-specifier_step (open_.Aggregate at kind tag members) x = members_of (form_of kind) members (begins (form_of kind) tag x.faults x.scope) (started at x)
+specifier_step (open_.Tag at kind tag) x = refers (form_of kind) tag (referred_tag x.alone x.scope tag.name) (started
+    at x)
+specifier_step (open_.Aggregate at kind tag members) x = members_of (form_of kind) members (begins (form_of kind) tag
+    x.faults x.scope) (started at x)
 specifier_step (open_.EnumTag at tag) x = enumeration_tag tag.at (tag_of x.scope tag.name) (started at x)
-specifier_step (open_.Enumeration at tag enumerators trailing) x = enumerators_of enumerators (begins_enumeration tag x.faults x.scope) (started at x)
+specifier_step (open_.Enumeration at tag enumerators trailing) x = enumerators_of enumerators (begins_enumeration tag
+    x.faults x.scope) (started at x)
 
 abbrev pub field_step : {E : Type 0} → (E → Scope → Typed) → FieldLayer (Says E) → FieldSays
 field_step typed (open_.Plain declarator) t x = lays_formed (declarator x.scope) t x
-field_step typed (open_.Bits at declarator width) t x = let y = bits_declared declarator x in bits_wide (typed width y.scope) y
+field_step typed (open_.Bits at declarator width) t x = let y = bits_declared declarator x in bits_wide (typed width
+    y.scope) y
 
 abbrev pub member_step : {E : Type 0} → MemberDeclarationLayer (Says E) → Laying
 member_step m x = members_from (said_by m.specifiers false x.faults x.scope) m.fields x
@@ -846,9 +989,11 @@ declarator_step typed (open_.Name at name) s = named (Some (at, name)) s
 declarator_step typed open_.Omitted s = named None s
 declarator_step typed (open_.Grouped at inner) s = inner s
 declarator_step typed (open_.Pointer at qualifiers inner) s = to_pointer qualifiers (inner s)
-declarator_step typed (open_.Array at inner words length) s = let x = inner s in to_array (qualifiers_among words) x (counted typed length x.after)
+declarator_step typed (open_.Array at inner words length) s = let x =
+    inner s in to_array (qualifiers_among words) x (counted typed length x.after)
 declarator_step typed (open_.Function at inner parameters variadic) s =
-    let x = inner s in to_function (prototype_of parameters variadic) x (listed parameters (enter x.after))
+    let x = inner s in to_function (prototype_of parameters variadic) x (listed (none_listed (enter x.after))
+    parameters)
 
 abbrev pub parameter_step : {E : Type 0} → ParameterLayer (Says E) → NamedSays
 parameter_step p s = let said = said_by p.specifiers false [] s in parameter_formed said (p.declarator said.scope)

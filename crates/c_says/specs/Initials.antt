@@ -1,6 +1,38 @@
--- Initializers (C99 6.7.8): which object each expression of an initializer initialises, the length that an initializer gives to an
--- array of unknown length, and the rules that it breaks. `initial_step` and `item_step` are the layers, over what expressions say.
-use Rattle.std.specs.Prelude.{ℕ, zero, suc, ◌+◌, ◌*◌, ◌-◌, ℤ, pos, negsuc, max, nat_eq, nat_lt, nat_le, Bool, true, false, cond, not, ◌&&◌, ◌||◌, List, [], ◌∷◌, ◌++◌, length, Option, Some, None, slice_get}
+-- Initializers (C99 6.7.8): which object each expression of an initializer initialises, the length that an
+-- initializer gives to an
+-- array of unknown length, and the rules that it breaks. `initial_step` and `item_step` are the layers, over what
+-- expressions say.
+use Rattle.std.specs.Prelude.{
+  ℕ,
+  zero,
+  suc,
+  ◌+◌,
+  ◌*◌,
+  ◌-◌,
+  ℤ,
+  pos,
+  negsuc,
+  max,
+  nat_eq,
+  nat_lt,
+  nat_le,
+  Bool,
+  true,
+  false,
+  cond,
+  not,
+  ◌&&◌,
+  ◌||◌,
+  List,
+  [],
+  ◌∷◌,
+  ◌++◌,
+  length,
+  Option,
+  Some,
+  None,
+  slice_get,
+}
 use Rattle.std.specs.Str.{bytes_eq}
 use Rattle.c_type_terms.specs.declared.class.Class.{Class}
 use Rattle.c_type_terms.specs.declared.class.Class.TheVariants as class
@@ -14,7 +46,16 @@ use Rattle.c_type_terms.specs.declared.tables.AggregateForm.{AggregateForm}
 use Rattle.c_type_terms.specs.declared.tables.AggregateForm.TheVariants as form_
 use Rattle.c_type_terms.specs.declared.tables.Member.{Member}
 use Rattle.c_type_terms.specs.declared.tables.Tables.{Tables}
-use Rattle.c_type_terms.specs.Types.{rest_of, element_of, aggregate_of, class_of, kind_of, is_array, is_scalar, is_floating}
+use Rattle.c_type_terms.specs.Types.{
+  rest_of,
+  element_of,
+  aggregate_of,
+  class_of,
+  kind_of,
+  is_array,
+  is_scalar,
+  is_floating,
+}
 use Rattle.c_type_terms.specs.Integers.{bytes_of}
 use Rattle.c_type_terms.specs.Layouts.{size_of, is_sized, is_opaque, members_of}
 use Rattle.c_says.specs.declared.scope.Fault.{Fault}
@@ -22,7 +63,18 @@ use Rattle.c_says.specs.declared.scope.Rule.{Rule}
 use Rattle.c_says.specs.declared.scope.Rule.TheVariants as rule
 use Rattle.c_says.specs.declared.shown.Shown.{Shown}
 use Rattle.c_says.specs.Scopes.{Name, Scope}
-use Rattle.c_says.specs.Typing.{Typed, type_of, constant_of, used, fault_at, incomplete, no_constant, not_constant, is_assignable, same_aggregate}
+use Rattle.c_says.specs.Typing.{
+  Typed,
+  type_of,
+  constant_of,
+  used,
+  fault_at,
+  incomplete,
+  no_constant,
+  not_constant,
+  is_assignable,
+  same_aggregate,
+}
 use Rattle.c_says.specs.Declares.{form_at}
 
 -- ---- the objects within an object
@@ -35,7 +87,8 @@ pub record Part : Type 0 where
 -- the members that can be initialised: those before a flexible array (C99 6.7.2.1p16)
 abbrev pub sized_members : Tables → List Member → List Member
 sized_members tables [] = []
-sized_members tables (m ∷ ms) = cond (is_sized tables m.ctype || is_opaque tables m.ctype) (m ∷ sized_members tables ms) []
+sized_members tables (m ∷ ms) = cond (is_sized tables m.ctype || is_opaque tables m.ctype) (m
+    ∷ sized_members tables ms) []
 
 abbrev pub form_of_number : Tables → Option ℕ → AggregateForm
 form_of_number tables None = form_.Structure
@@ -51,7 +104,8 @@ member_count form_.Union (m ∷ ms) = 1
 abbrev pub has_part_in : Tables → CType → Class → List Derivation → ℕ → Bool
 has_part_in tables t class.Array (d.Array (Some n) ∷ ds) i = nat_lt i n
 has_part_in tables t class.Array ds i = true
-has_part_in tables t (class.Aggregate n) ds i = nat_lt i (member_count (form_of_number tables (aggregate_of t)) (sized_members tables (members_of tables t)))
+has_part_in tables t (class.Aggregate n) ds i = nat_lt i (member_count (form_of_number tables (aggregate_of t))
+    (sized_members tables (members_of tables t)))
 has_part_in tables t class ds i = nat_eq i 0
 
 abbrev pub has_part : Tables → CType → ℕ → Bool
@@ -84,7 +138,8 @@ pub record Frame : Type 0 where
   pub whole : Part
   pub next : ℕ
 
--- The frames of the closest braces, the innermost first and the object of the braces last, of which `high` parts were met; the parts
+-- The frames of the closest braces, the innermost first and the object of the braces last, of which `high` parts were
+-- met; the parts
 -- that the expressions initialise, in the order of the expressions.
 pub record Filling : Type 0 where
   pub frames : List Frame
@@ -158,7 +213,8 @@ text_faults t x = cond (text_fits t.derivations (length_of_type (type_of x))) []
 
 abbrev pub value_faults_as : CType → ℕ → Option CType → List Fault
 value_faults_as t at None = []
-value_faults_as t at (Some u) = cond (is_floating t) (fault_at at rule.FloatUsed) (cond (is_assignable t u) [] (fault_at at rule.TypeMismatch))
+value_faults_as t at (Some u) = cond (is_floating t) (fault_at at rule.FloatUsed) (cond (is_assignable t u) []
+    (fault_at at rule.TypeMismatch))
 
 -- a value is converted as in an assignment (C99 6.7.8p11)
 abbrev pub value_faults : CType → Typed → List Fault
@@ -194,7 +250,7 @@ descends zero tables x (f ∷ fs) y = is_surplus x y
 descends (suc levels) tables x (f ∷ fs) y =
     let p = part_at tables f.whole f.next in
     elim (is_scalar_part p.type || is_whole_of p.type x) as (λ _. Filling) [
-      true ↦ fills_part x p (stepped f ∷ fs) y
+      | true ↦ fills_part x p (stepped f ∷ fs) y
       | false ↦ descends levels tables x (with_part_left tables (started p ∷ stepped f ∷ fs)) y
     ]
 
@@ -209,12 +265,13 @@ is_braced_text _ x = false
 
 abbrev pub braced_text : List Frame → Typed → Fills
 braced_text [] x y = is_surplus x y
-braced_text (f ∷ fs) x y = record (fills_part x f.whole (record f { next = length_of_type (type_of x) } ∷ fs) y) { high = length_of_type (type_of x) }
+braced_text (f ∷ fs) x y = record (fills_part x f.whole (record f { next = length_of_type (type_of x) }
+    ∷ fs) y) { high = length_of_type (type_of x) }
 
 abbrev pub fills_value : Typed → Fills
 fills_value x y =
     cond (is_braced_text y.frames x) (braced_text y.frames x y)
-      (descends most_levels x.after.tables x (with_part_left x.after.tables y.frames) y)
+    (descends most_levels x.after.tables x (with_part_left x.after.tables y.frames) y)
 
 -- ---- a list in braces
 
@@ -225,7 +282,11 @@ fills_all (f ∷ fs) y = fills_all fs (f y)
 -- a list for a part of its own, behind which the closest braces go on
 abbrev pub fills_within : List Fills → Part → List Frame → Fills
 fills_within fs p frames y =
-    record (fills_all fs (record y { frames = started p ∷ []; high = 0 })) { frames = frames; high = high_of y.high frames }
+    record (fills_all fs (record y { frames = started p ∷ []; high = 0 })) {
+      frames = frames;
+      high =
+          high_of y.high frames;
+    }
 
 -- a list that initialises the next part (C99 6.7.8p20); there must be one
 abbrev pub fills_list : ℕ → List Fills → List Frame → Fills
@@ -259,7 +320,8 @@ at_number at (Some i) (f ∷ fs) y = record y { frames = record f { next = i } �
 
 abbrev pub to_member : ℕ → Name → List Frame → Fills
 to_member at name [] y = y
-to_member at name (f ∷ fs) y = at_number at (member_number 0 name (sized_members y.scope.tables (members_of y.scope.tables f.whole.type))) (f ∷ fs) y
+to_member at name (f ∷ fs) y = at_number at (member_number 0 name (sized_members y.scope.tables (members_of
+    y.scope.tables f.whole.type))) (f ∷ fs) y
 
 abbrev pub element_number : Tables → CType → Option ℤ → Option ℕ
 element_number tables t None = None
@@ -270,10 +332,15 @@ abbrev pub to_constant : ℕ → Option CType → Option ℤ → List Frame → 
 to_constant at None z fs y = record y { frames = [] }
 to_constant at (Some t) None fs y = record y { frames = [] }
 to_constant at (Some t) (Some z) [] y = y
-to_constant at (Some t) (Some z) (f ∷ fs) y = at_number at (element_number y.scope.tables f.whole.type (Some z)) (f ∷ fs) y
+to_constant at (Some t) (Some z) (f ∷ fs) y = at_number at (element_number y.scope.tables f.whole.type (Some z)) (f ∷
+    fs) y
 
 abbrev pub to_element : ℕ → Typed → Fills
-to_element at x y = to_constant at (type_of x) (constant_of x) y.frames (record y { faults = y.faults ++ x.faults ++ not_constant x; scope = x.after })
+to_element at x y = to_constant at (type_of x) (constant_of x) y.frames (record y {
+  faults = y.faults
+      ++ x.faults ++ not_constant x;
+  scope = x.after;
+})
 
 abbrev pub designates : {E : Type 0} → (E → Scope → Typed) → Designates E → Fills
 designates typed (ToMember at name) y = to_member at name y.frames y
@@ -324,4 +391,11 @@ item_says typed ds x y = x.fills (designated_by typed ds y)
 
 -- its parts in the order of its expressions, and how many of its own parts were met
 abbrev pub filling_of : InitialSaid → CType → Scope → Filling
-filling_of x t s = x.alone (record { type = t; offset = 0 }) (record { frames = []; high = 0; parts = []; faults = []; scope = s })
+filling_of x t s = x.alone (record { type = t; offset = 0 }) (record {
+  frames = [];
+  high = 0;
+  parts = [];
+  faults =
+      [];
+  scope = s;
+})

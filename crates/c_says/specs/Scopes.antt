@@ -1,4 +1,5 @@
--- The names in force, and how they come and go (C99 6.2.1 to 6.2.3): `Scope`, `look_up`, `tag_of`, `own_entry`, `declared`, `enter`,
+-- The names in force, and how they come and go (C99 6.2.1 to 6.2.3): `Scope`, `look_up`, `tag_of`, `own_entry`,
+-- `declared`, `enter`,
 -- `leave`, and the entries of the tables that stay when a block is left.
 use Rattle.std.specs.Prelude.{ℕ, Bool, true, false, cond, List, [], ◌∷◌, ◌++◌, length, Option, Some, None, slice_set}
 use Rattle.std.specs.Str.{bytes_eq}
@@ -24,8 +25,10 @@ pub record Block : Type 0 where
   pub entries : List Entry
   pub tags : List Tag
 
--- The names in force: those of the file, and of the blocks that are open, the innermost first. What stays when a block is left: the
--- objects and functions with linkage that were declared anywhere, and the tables of types. `function` is the name of the function
+-- The names in force: those of the file, and of the blocks that are open, the innermost first. What stays when a
+-- block is left: the
+-- objects and functions with linkage that were declared anywhere, and the tables of types. `function` is the name of
+-- the function
 -- whose body this is in.
 pub record Scope : Type 0 where
   pub file : Block
@@ -122,7 +125,12 @@ declared at name means s = with_innermost (with_entry (record { at = at; name = 
 
 -- a tag of the innermost block
 abbrev pub with_tag : Name → TagMeans → Bool → Scope → Scope
-with_tag name means listed s = with_innermost (with_tag_entry (record { name = name; means = means; is_listed = listed }) (innermost s)) s
+with_tag name means listed s = with_innermost (with_tag_entry (record {
+  name = name;
+  means = means;
+  is_listed =
+      listed;
+}) (innermost s)) s
 
 abbrev pub with_linked : ℕ → Name → Linkage → Bool → Scope → Scope
 with_linked at name linkage defined s =
@@ -159,22 +167,58 @@ next_signature s = length s.tables.signatures
 -- a structure or union without members so far
 abbrev pub with_aggregate : AggregateForm → Scope → Scope
 with_aggregate form s =
-    record s { tables = record s.tables { aggregates = s.tables.aggregates ++ record { form = form; content = content_.Incomplete } ∷ [] } }
+    record s {
+      tables = record s.tables {
+        aggregates = s.tables.aggregates ++ record {
+          form = form;
+          content =
+              content_.Incomplete;
+        } ∷ [];
+      };
+    }
 
 -- its list of members has ended (C99 6.7.2.3p4)
 abbrev pub with_content : ℕ → AggregateForm → Content → Scope → Scope
 with_content number form content s =
-    record s { tables = record s.tables { aggregates = slice_set s.tables.aggregates number (record { form = form; content = content }) } }
+    record s {
+      tables = record s.tables {
+        aggregates = slice_set s.tables.aggregates number (record {
+          form =
+              form;
+          content = content;
+        });
+      };
+    }
 
 abbrev pub with_enumeration : Scope → Scope
 with_enumeration s =
-    record s { tables = record s.tables { enumerations = s.tables.enumerations ++ record { is_complete = false } ∷ [] } }
+    record s {
+      tables = record s.tables {
+        enumerations = s.tables.enumerations ++ record { is_complete = false }
+            ∷ [];
+      };
+    }
 
 -- its list of enumerators has ended (C99 6.7.2.2p4)
 abbrev pub with_enumerators : ℕ → Scope → Scope
 with_enumerators number s =
-    record s { tables = record s.tables { enumerations = slice_set s.tables.enumerations number (record { is_complete = true }) } }
+    record s {
+      tables = record s.tables {
+        enumerations = slice_set s.tables.enumerations number (record {
+          is_complete
+              = true;
+        });
+      };
+    }
 
 abbrev pub with_signature : Prototype → List CType → Scope → Scope
 with_signature prototype parameters s =
-    record s { tables = record s.tables { signatures = s.tables.signatures ++ record { prototype = prototype; parameters = parameters } ∷ [] } }
+    record s {
+      tables = record s.tables {
+        signatures = s.tables.signatures ++ record {
+          prototype =
+              prototype;
+          parameters = parameters;
+        } ∷ [];
+      };
+    }

@@ -1,4 +1,5 @@
--- What the trees of C say (C99 6.5, 6.7): one fold over the whole syntax. `typed` is what an expression says from a scope; the others
+-- What the trees of C say (C99 6.5, 6.7): one fold over the whole syntax. `typed` is what an expression says from a
+-- scope; the others
 -- are what the trees that stand in expressions, and in which expressions stand, say.
 use Rattle.std.specs.Prelude.{ℕ, List, [], ◌∷◌, Option, Some, None}
 use Rattle.c_tree.specs.declared.expr.Declarator.{Declarator}
@@ -10,10 +11,64 @@ use Rattle.c_tree.specs.declared.expr.Parameter.{Parameter}
 use Rattle.c_tree.specs.declared.expr.Specifier.{Specifier}
 use Rattle.c_tree.specs.declared.expr.TypeName.{TypeName}
 use Rattle.c_tree.specs.declared.expr.Declarator.TheOpen as open_
-use Rattle.c_tree.specs.Folds.{Carrier, Algebra, ExprLayer, fold_declarator, fold_expr, fold_field, fold_specifier, fold_enumerator, fold_member, fold_parameter, fold_type_name}
+use Rattle.c_tree.specs.Folds.{
+  Carrier,
+  Algebra,
+  ExprLayer,
+  fold_declarator,
+  fold_expr,
+  fold_field,
+  fold_specifier,
+  fold_enumerator,
+  fold_member,
+  fold_parameter,
+  fold_type_name,
+}
 use Rattle.c_says.specs.Scopes.{Name, Scope, look_up}
-use Rattle.c_says.specs.Typing.{Typed, integer_constant, character_constant, floating_constant, string_literal, function_name, identifier, subscript, arguments_of, call, member, arrow, postfix, unary, size_of_expression, size_of_type, cast, binary, choice, assignment, comma}
-use Rattle.c_says.specs.Declares.{Says, DeclaratorSays, NamedSays, TypeSays, Laying, FieldSays, Saying, Counting, declarator_step, field_step, specifier_step, enumerator_step, member_step, parameter_step, type_name_step}
+use Rattle.c_says.specs.Typing.{
+  Typed,
+  Arguments,
+  told_of,
+  used,
+  no_arguments,
+  and_argument,
+  integer_constant,
+  character_constant,
+  floating_constant,
+  string_literal,
+  function_name,
+  identifier,
+  subscript,
+  call,
+  member,
+  arrow,
+  postfix,
+  unary,
+  size_of_expression,
+  size_of_type,
+  cast,
+  binary,
+  choice,
+  assignment,
+  comma,
+}
+use Rattle.c_says.specs.Declares.{
+  Says,
+  DeclaratorSays,
+  NamedSays,
+  TypeSays,
+  Laying,
+  FieldSays,
+  Saying,
+  Counting,
+  declarator_step,
+  field_step,
+  specifier_step,
+  enumerator_step,
+  member_step,
+  parameter_step,
+  type_name_step,
+}
 
 -- what all trees but expressions say, beside what is said of expressions
 abbrev pub saying : {E : Type 0} → (E → Scope → Typed) → (ExprLayer (Says E) → E) → Algebra (Says E)
@@ -31,17 +86,21 @@ saying {E} typed step = record {
 abbrev pub ExprSays : Type 0
 ExprSays = Scope → Typed
 
--- arguments from left to right, each in the scope that those before it leave
+-- arguments so far, and the scope behind them
 pub record Through : Type 0 where
-  pub all : List Typed
+  pub arguments : Arguments
   pub after : Scope
 
-abbrev pub through : List ExprSays → Scope → Through
-through [] s = record { all = []; after = s }
-through (f ∷ fs) s =
-    let x = f s in
-    let more = through fs x.after in
-    record { all = x ∷ more.all; after = more.after }
+abbrev pub through_one : Through → Typed → Through
+through_one x y = record { arguments = and_argument x.arguments (told_of (used y)); after = y.after }
+
+-- arguments from left to right, each in the scope that those before it leave
+abbrev pub through : Through → List ExprSays → Through
+through x [] = x
+through x (f ∷ fs) = through (through_one x (f x.after)) fs
+
+abbrev pub behind_callee : Typed → Through
+behind_callee f = record { arguments = no_arguments f.faults; after = f.after }
 
 -- each form in its order: type names and operands from left to right, each in the scope that those before it leave
 abbrev pub typed_step : ExprLayer (Says ExprSays) → ExprSays
@@ -53,7 +112,8 @@ typed_step (open_.FunctionName at) s = function_name at s.function s
 typed_step (open_.Identifier at name) s = identifier at s (look_up s name)
 typed_step (open_.Parenthesized at inner) s = inner s
 typed_step (open_.Subscript at array index) s = let x = array s in subscript at x (index x.after)
-typed_step (open_.Call at callee arguments) s = let f = callee s in let xs = through arguments f.after in call at f (arguments_of xs.all) xs.after
+typed_step (open_.Call at callee arguments) s = let f = callee s in let xs =
+    through (behind_callee f) arguments in call at f.at f.shown xs.arguments xs.after
 typed_step (open_.Member at object name) s = member at name (object s)
 typed_step (open_.Arrow at pointer name) s = arrow at name (pointer s)
 typed_step (open_.Postfix at operator operand) s = postfix at (operand s)

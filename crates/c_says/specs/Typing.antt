@@ -1,8 +1,38 @@
--- What an expression says before it is evaluated (C99 6.5, 6.6): `Typed`, its type as written, its constant value, whether it is an
+-- What an expression says before it is evaluated (C99 6.5, 6.6): `Typed`, its type as written, its constant value,
+-- whether it is an
 -- lvalue, the rules that it breaks, and the scope behind it. One function a form, over what its parts say.
 --
 -- A node that breaks a rule has no type, and a node of which a part has no type breaks no rule itself.
-use Rattle.std.specs.Prelude.{ℕ, zero, suc, ◌+◌, ℤ, pos, negsuc, nat_eq, nat_lt, Bool, true, false, cond, not, ◌&&◌, ◌||◌, List, [], ◌∷◌, ◌++◌, length, Option, Some, None, Result, Ok, Err, slice_get}
+use Rattle.std.specs.Prelude.{
+  ℕ,
+  zero,
+  suc,
+  ◌+◌,
+  ℤ,
+  pos,
+  negsuc,
+  nat_eq,
+  nat_lt,
+  Bool,
+  true,
+  false,
+  cond,
+  not,
+  ◌&&◌,
+  ◌||◌,
+  List,
+  [],
+  ◌∷◌,
+  ◌++◌,
+  length,
+  Option,
+  Some,
+  None,
+  Result,
+  Ok,
+  Err,
+  slice_get,
+}
 use Rattle.bit_words.specs.declared.run.Undefined.{Undefined}
 use Rattle.c_lexer.specs.declared.token.IntegerConstant.{IntegerConstant}
 use Rattle.c_tree.specs.declared.expr.BinaryOperator.{BinaryOperator}
@@ -27,11 +57,54 @@ use Rattle.c_type_terms.specs.declared.tables.Prototype.{Prototype}
 use Rattle.c_type_terms.specs.declared.tables.Prototype.TheVariants as prototype_
 use Rattle.c_type_terms.specs.declared.tables.Signature.{Signature}
 use Rattle.c_type_terms.specs.declared.tables.Tables.{Tables}
-use Rattle.c_type_terms.specs.Types.{unqualified, with_both, void, integer, pointer, pointer_to, array, qualified, qualifiers_of, is_const, unqualified_version, target_of, returned_of, class_of, kind_of, aggregate_of, is_integer, is_scalar, is_floating, is_pointer, is_void, is_array, is_function, content_of}
+use Rattle.c_type_terms.specs.Types.{
+  unqualified,
+  with_both,
+  void,
+  integer,
+  pointer,
+  pointer_to,
+  array,
+  qualified,
+  qualifiers_of,
+  is_const,
+  unqualified_version,
+  target_of,
+  returned_of,
+  class_of,
+  kind_of,
+  aggregate_of,
+  is_integer,
+  is_scalar,
+  is_floating,
+  is_pointer,
+  is_void,
+  is_array,
+  is_function,
+  content_of,
+}
 use Rattle.c_type_terms.specs.Integers.{promoted, usual, of_constant, converted, is_zero, number_of}
 use Rattle.c_type_terms.specs.Layouts.{size_of, is_sized, is_too_large, member_named}
 use Rattle.c_type_terms.specs.Compatible.{decayed}
-use Rattle.c_type_terms.specs.Operators.{Answer, sum, difference, product, quotient, remainder, shifted_left, shifted_right, bits_and, bits_xor, bits_or, complement, negation, less, less_equal, unequal, equal}
+use Rattle.c_type_terms.specs.Operators.{
+  Answer,
+  sum,
+  difference,
+  product,
+  quotient,
+  remainder,
+  shifted_left,
+  shifted_right,
+  bits_and,
+  bits_xor,
+  bits_or,
+  complement,
+  negation,
+  less,
+  less_equal,
+  unequal,
+  equal,
+}
 use Rattle.c_says.specs.declared.scope.Entry.{Entry}
 use Rattle.c_says.specs.declared.scope.Fault.{Fault}
 use Rattle.c_says.specs.declared.scope.LayoutRule.{LayoutRule}
@@ -41,11 +114,13 @@ use Rattle.c_says.specs.declared.scope.Means.TheVariants as means
 use Rattle.c_says.specs.declared.scope.Rule.{Rule}
 use Rattle.c_says.specs.declared.scope.Rule.TheVariants as rule
 use Rattle.c_says.specs.declared.shown.Argument.{Argument}
+use Rattle.c_says.specs.declared.shown.Called.{Called}
 use Rattle.c_says.specs.declared.shown.Shown.{Shown}
 use Rattle.c_says.specs.declared.shown.Told.{Told}
 use Rattle.c_says.specs.Scopes.{Name, Scope}
 
--- What an expression says: its own token, parentheses apart; what it shows, where neither it nor a part breaks a rule; the rules that
+-- What an expression says: its own token, parentheses apart; what it shows, where neither it nor a part breaks a
+-- rule; the rules that
 -- it and its parts break, in order; and the scope behind it.
 pub record Typed : Type 0 where
   pub at : ℕ
@@ -89,11 +164,27 @@ no_constant = rule.Layout layout.NotConstant
 
 -- a value that isn't constant
 abbrev pub some_value : CType → Shown
-some_value t = record { ctype = t; value = None; is_null = false; is_lvalue = false; is_literal = false; designates = None }
+some_value t = record {
+  ctype = t;
+  value = None;
+  is_null = false;
+  is_lvalue = false;
+  is_literal =
+      false;
+  designates = None;
+}
 
 -- an object
 abbrev pub an_object : CType → Shown
-an_object t = record { ctype = t; value = None; is_null = false; is_lvalue = true; is_literal = false; designates = None }
+an_object t = record {
+  ctype = t;
+  value = None;
+  is_null = false;
+  is_lvalue = true;
+  is_literal = false;
+  designates =
+      None;
+}
 
 abbrev pub null_where : Option ℤ → Bool
 null_where None = false
@@ -101,7 +192,15 @@ null_where (Some z) = is_zero z
 
 -- a value of an integer type, constant or not; a constant 0 is a null pointer constant (C99 6.3.2.3p3)
 abbrev pub an_integer : IntegerKind → Option ℤ → Shown
-an_integer kind z = record { ctype = integer kind; value = z; is_null = null_where z; is_lvalue = false; is_literal = false; designates = None }
+an_integer kind z = record {
+  ctype = integer kind;
+  value = z;
+  is_null = null_where z;
+  is_lvalue =
+      false;
+  is_literal = false;
+  designates = None;
+}
 
 -- ---- nodes
 
@@ -123,7 +222,12 @@ refused at r faults = typeless at (faults ++ fault_at at r)
 -- an expression of floating type is refused where it stands
 abbrev pub node : ℕ → Judgement → List Fault → Told
 node at (Err r) faults = refused at r faults
-node at (Ok x) faults = cond (is_floating x.ctype) (refused at rule.FloatUsed faults) (record { at = at; shown = Some x; faults = faults })
+node at (Ok x) faults = cond (is_floating x.ctype) (refused at rule.FloatUsed faults) (record {
+  at = at;
+  shown =
+      Some x;
+  faults = faults;
+})
 
 abbrev pub node_over : ℕ → Option Shown → (Shown → Judgement) → List Fault → Told
 node_over at None f faults = typeless at faults
@@ -151,8 +255,10 @@ abbrev pub value_where : Bool → Shown → Judgement
 value_where true x = Ok (record x { ctype = unqualified_version x.ctype; is_lvalue = false })
 value_where false x = Err incomplete
 
--- An array turns into a pointer to its first element, a function into a pointer to it, an object into its value, without
--- qualifiers (C99 6.3.2.1p2 to p4). An array that is no lvalue has no first element, and an object whose size isn't known no value.
+-- An array turns into a pointer to its first element, a function into a pointer to it, an object into its value,
+-- without
+-- qualifiers (C99 6.3.2.1p2 to p4). An array that is no lvalue has no first element, and an object whose size isn't
+-- known no value.
 abbrev pub value_by_class : Tables → Class → Shown → Judgement
 value_by_class tables class.Array x = value_of_array x
 value_by_class tables class.Function x = Ok (some_value (decayed x.ctype))
@@ -176,16 +282,25 @@ used x = typed_in (used_told x.after.tables (told_of x)) x.after
 -- ---- primary expressions (C99 6.5.1)
 
 -- C99 6.4.4.1p5
+abbrev pub integer_told : ℕ → IntegerConstant → Told
+integer_told at c = node at (Ok (an_integer (of_constant c.integer_type) (Some (pos c.value)))) []
+
 abbrev pub integer_constant : ℕ → IntegerConstant → Scope → Typed
-integer_constant at c s = typed_in (node at (Ok (an_integer (of_constant c.integer_type) (Some (pos c.value)))) []) s
+integer_constant at c s = typed_in (integer_told at c) s
 
 -- C99 6.4.4.4p10
+abbrev pub character_told : ℕ → ℤ → Told
+character_told at value = node at (Ok (an_integer k.Int (Some value))) []
+
 abbrev pub character_constant : ℕ → ℤ → Scope → Typed
-character_constant at value s = typed_in (node at (Ok (an_integer k.Int (Some value))) []) s
+character_constant at value s = typed_in (character_told at value) s
 
 -- C99 6.4.4.2p4: a constant of floating type
+abbrev pub floating_told : ℕ → Told
+floating_told at = refused at rule.FloatUsed []
+
 abbrev pub floating_constant : ℕ → Scope → Typed
-floating_constant at s = typed_in (refused at rule.FloatUsed []) s
+floating_constant at s = typed_in (floating_told at) s
 
 abbrev pub total : List (List ℕ) → ℕ
 total [] = 0
@@ -229,7 +344,8 @@ identifier at s e = typed_in (named_told at e) s
 
 -- ---- operands
 
-abbrev pub on_integers_of : Option IntegerKind → Option IntegerKind → (IntegerKind → IntegerKind → Judgement) → Judgement
+abbrev pub on_integers_of : Option IntegerKind → Option IntegerKind → (IntegerKind → IntegerKind → Judgement) →
+    Judgement
 on_integers_of (Some a) (Some b) f = f a b
 on_integers_of (Some a) None f = Err rule.TypeMismatch
 on_integers_of None b f = Err rule.TypeMismatch
@@ -393,7 +509,8 @@ turned_on op kind (Some z) = defined (turned op kind z)
 
 -- C99 6.5.3.3p1 to p4
 abbrev pub promoted_by : UnaryOperator → Shown → Judgement
-promoted_by op x = on_integer_of (kind_of x.ctype) (λ a. Ok (an_integer (promoted a) (turned_on op (promoted a) x.value)))
+promoted_by op x = on_integer_of (kind_of x.ctype) (λ a. Ok (an_integer (promoted a) (turned_on op (promoted a)
+    x.value)))
 
 -- C99 6.5.3.3p5
 abbrev pub negated : Shown → Judgement
@@ -430,15 +547,32 @@ stepped_in tables class.Opaque x = Err rule.TypeMismatch
 abbrev pub stepped : Tables → Shown → Judgement
 stepped tables x = on_modifiable x (stepped_in tables (class_of x.ctype) x)
 
+-- `&`, `++` and `--` take the operand as it stands, the others its value
+abbrev pub operand_told : Tables → UnaryOperator → Told → Told
+operand_told tables u.Address x = x
+operand_told tables u.Increment x = x
+operand_told tables u.Decrement x = x
+operand_told tables u.Indirection x = used_told tables x
+operand_told tables u.Plus x = used_told tables x
+operand_told tables u.Minus x = used_told tables x
+operand_told tables u.Complement x = used_told tables x
+operand_told tables u.Not x = used_told tables x
+
+abbrev pub operand : UnaryOperator → Typed → Typed
+operand op x = typed_in (operand_told x.after.tables op (told_of x)) x.after
+
+abbrev pub unary_judged : Tables → UnaryOperator → Shown → Judgement
+unary_judged tables u.Address x = address x
+unary_judged tables u.Indirection x = indirection x
+unary_judged tables u.Plus x = promoted_by u.Plus x
+unary_judged tables u.Minus x = promoted_by u.Minus x
+unary_judged tables u.Complement x = promoted_by u.Complement x
+unary_judged tables u.Not x = negated x
+unary_judged tables u.Increment x = stepped tables x
+unary_judged tables u.Decrement x = stepped tables x
+
 abbrev pub unary : ℕ → UnaryOperator → Typed → Typed
-unary at u.Address x = over at x address
-unary at u.Indirection x = over at (used x) indirection
-unary at u.Plus x = over at (used x) (promoted_by u.Plus)
-unary at u.Minus x = over at (used x) (promoted_by u.Minus)
-unary at u.Complement x = over at (used x) (promoted_by u.Complement)
-unary at u.Not x = over at (used x) negated
-unary at u.Increment x = over at x (stepped x.after.tables)
-unary at u.Decrement x = over at x (stepped x.after.tables)
+unary at op x = over at (operand op x) (unary_judged x.after.tables op)
 
 abbrev pub postfix : ℕ → Typed → Typed
 postfix at x = over at x (stepped x.after.tables)
@@ -452,11 +586,15 @@ size_as (Some n) = Ok (an_integer k.UnsignedLong (Some (pos n)))
 abbrev pub size_in : Tables → CType → Judgement
 size_in tables t = cond (is_too_large tables t) (Err too_large) (size_as (size_of tables t))
 
+abbrev pub size_shown : Tables → Shown → Judgement
+size_shown tables x = size_in tables x.ctype
+
 -- the operand isn't evaluated, and doesn't turn into a pointer
 abbrev pub size_of_expression : ℕ → Typed → Typed
-size_of_expression at x = over at x (λ y. size_in x.after.tables y.ctype)
+size_of_expression at x = over at x (size_shown x.after.tables)
 
--- ---- type names (C99 6.7.6) as other definitions tell them: the type, or the rule that it breaks, where its parts have types
+-- ---- type names (C99 6.7.6) as other definitions tell them: the type, or the rule that it breaks, where its parts
+-- have types
 
 abbrev pub NamedType : Type 0
 NamedType = Option (Result CType Rule)
@@ -488,7 +626,15 @@ keeps_null to x = null_where x.value && is_plain_void_pointer_to (target_of to)
 abbrev pub cast_shown : CType → Shown → Shown
 cast_shown to x =
     let z = cast_value (kind_of to) (kind_of x.ctype) x.value in
-    record { ctype = unqualified_version to; value = z; is_null = null_where z || keeps_null to x; is_lvalue = false; is_literal = false; designates = None }
+    record {
+      ctype = unqualified_version to;
+      value = z;
+      is_null = null_where z || keeps_null to x;
+      is_lvalue =
+          false;
+      is_literal = false;
+      designates = None;
+    }
 
 -- C99 6.5.4p2: to void, or a scalar to a scalar type
 abbrev pub cast_to : CType → Shown → Judgement
@@ -517,7 +663,15 @@ subscript at x y = over_two at (used x) (used y) (element y.after.tables)
 -- ---- members (C99 6.5.2.3)
 
 abbrev pub member_shown : Qualifiers → Bool → Member → Shown
-member_shown q lvalue m = record { ctype = qualified q m.ctype; value = None; is_null = false; is_lvalue = lvalue; is_literal = false; designates = None }
+member_shown q lvalue m = record {
+  ctype = qualified q m.ctype;
+  value = None;
+  is_null = false;
+  is_lvalue =
+      lvalue;
+  is_literal = false;
+  designates = None;
+}
 
 abbrev pub found_member : Qualifiers → Bool → Option Member → Judgement
 found_member q lvalue None = Err rule.TypeMismatch
@@ -557,11 +711,13 @@ arrow at name x = over at (used x) (pointed_member x.after.tables name)
 abbrev pub with_target_qualifiers : CType → CType → CType
 with_target_qualifiers t other = pointer_to (qualified (qualifiers_of other) t)
 
--- C99 6.5.15p6: to what both pointers point, with the qualifiers of both; a null pointer constant takes the other's type, and a
+-- C99 6.5.15p6: to what both pointers point, with the qualifiers of both; a null pointer constant takes the other's
+-- type, and a
 -- pointer to void makes the other one so
 abbrev pub joined_targets : Shown → Shown → CType → CType → CType
 joined_targets x y t u =
-    cond x.is_null y.ctype (cond y.is_null x.ctype (cond (is_void t) (with_target_qualifiers t u) (cond (is_void u) (with_target_qualifiers u t) (with_target_qualifiers t u))))
+    cond x.is_null y.ctype (cond y.is_null x.ctype (cond (is_void t) (with_target_qualifiers t u) (cond (is_void u)
+    (with_target_qualifiers u t) (with_target_qualifiers t u))))
 
 abbrev pub joined_pointers : Shown → Shown → Option CType → Option CType → Judgement
 joined_pointers x y (Some t) (Some u) = Ok (some_value (joined_targets x y t u))
@@ -587,18 +743,21 @@ same_aggregate None n = false
 -- two void expressions, or two values of one structure or union type
 abbrev pub joined_others : Shown → Shown → Judgement
 joined_others x y =
-    cond ((is_void x.ctype && is_void y.ctype) || same_aggregate (aggregate_of x.ctype) (aggregate_of y.ctype)) (Ok (some_value x.ctype)) (Err rule.TypeMismatch)
+    cond ((is_void x.ctype && is_void y.ctype) || same_aggregate (aggregate_of x.ctype) (aggregate_of y.ctype)) (Ok
+    (some_value x.ctype)) (Err rule.TypeMismatch)
 
 abbrev pub joined_kinds : Option ℤ → Shown → Shown → Option IntegerKind → Option IntegerKind → Judgement
 joined_kinds c x y (Some a) (Some b) = Ok (an_integer (usual a b) (chosen_as (usual a b) (chosen c x.value y.value)))
 joined_kinds c x y (Some a) None = joined_pointers x y (target_of x.ctype) (target_of y.ctype)
 joined_kinds c x y None (Some b) = joined_pointers x y (target_of x.ctype) (target_of y.ctype)
 joined_kinds c x y None None =
-    cond (is_pointer x.ctype && is_pointer y.ctype) (joined_pointers x y (target_of x.ctype) (target_of y.ctype)) (joined_others x y)
+    cond (is_pointer x.ctype && is_pointer y.ctype) (joined_pointers x y (target_of x.ctype) (target_of y.ctype))
+    (joined_others x y)
 
 -- C99 6.5.15p2, p3, p5
 abbrev pub choice_of : Shown → Shown → Shown → Judgement
-choice_of c x y = cond (is_scalar c.ctype) (joined_kinds c.value x y (kind_of x.ctype) (kind_of y.ctype)) (Err rule.TypeMismatch)
+choice_of c x y = cond (is_scalar c.ctype) (joined_kinds c.value x y (kind_of x.ctype) (kind_of y.ctype)) (Err
+    rule.TypeMismatch)
 
 abbrev pub choice_over : ℕ → Option Shown → Option Shown → Option Shown → List Fault → Told
 choice_over at None x y faults = typeless at faults
@@ -606,7 +765,8 @@ choice_over at (Some c) x y faults = node_over_two at x y (choice_of c) faults
 
 abbrev pub choice : ℕ → Typed → Typed → Typed → Typed
 choice at c x y =
-    typed_in (choice_over at (used c).shown (used x).shown (used y).shown ((used c).faults ++ (used x).faults ++ (used y).faults)) y.after
+    typed_in (choice_over at (used c).shown (used x).shown (used y).shown ((used c).faults ++ (used x).faults
+    ++ (used y).faults)) y.after
 
 -- ---- assignment (C99 6.5.16)
 
@@ -617,7 +777,8 @@ is_assignable to from = (is_scalar to && is_scalar from) || same_aggregate (aggr
 -- the value has the type of the target without qualifiers (C99 6.5.16p3)
 abbrev pub assigned : Shown → Shown → Judgement
 assigned x y =
-    on_modifiable x (cond (is_assignable x.ctype y.ctype) (Ok (some_value (unqualified_version x.ctype))) (Err rule.TypeMismatch))
+    on_modifiable x (cond (is_assignable x.ctype y.ctype) (Ok (some_value (unqualified_version x.ctype))) (Err
+    rule.TypeMismatch))
 
 -- C99 6.5.16.2p1, p2: the target is a pointer only in `+=` and `-=` of an integer, else both are of arithmetic type
 abbrev pub compound_of : Tables → BinaryOperator → Bool → Shown → Shown → Judgement
@@ -630,21 +791,22 @@ abbrev pub compound : Tables → BinaryOperator → Shown → Shown → Judgemen
 compound tables op x y =
     on_modifiable x (compound_of tables op (is_pointer x.ctype) x y)
 
+abbrev pub assignment_judged : Tables → Option BinaryOperator → Shown → Shown → Judgement
+assignment_judged tables None x y = assigned x y
+assignment_judged tables (Some op) x y = compound tables op x y
+
 abbrev pub assignment : ℕ → Option BinaryOperator → Typed → Typed → Typed
-assignment at None x y = over_two at x (used y) assigned
-assignment at (Some op) x y = over_two at x (used y) (compound y.after.tables op)
+assignment at op x y = over_two at x (used y) (assignment_judged y.after.tables op)
 
 -- ---- the comma operator (C99 6.5.17): a void expression, then a value, which isn't constant (C99 6.6p3)
 
+abbrev pub second_judged : Shown → Judgement
+second_judged x = Ok (some_value x.ctype)
+
 abbrev pub comma : ℕ → Typed → Typed → Typed
-comma at x y = over_two at x (used y) (λ a b. Ok (some_value b.ctype))
+comma at x y = over_two at x (used y) (λ a b. second_judged b)
 
 -- ---- calls (C99 6.5.2.2)
-
--- what is said of a call besides its parts: the result's type, where no rule is broken
-pub record Called : Type 0 where
-  pub ctype : Option CType
-  pub faults : List Fault
 
 abbrev pub broken : ℕ → Rule → Called
 broken at r = record { ctype = None; faults = fault_at at r }
@@ -688,7 +850,8 @@ surplus_faults callee prototype_.EmptyDefinition (x ∷ xs) = loose_faults calle
 abbrev pub argument_faults : ℕ → Prototype → List CType → List Argument → List Fault
 argument_faults callee p [] xs = surplus_faults callee p xs
 argument_faults callee p (t ∷ ts) [] = fault_at callee rule.TypeMismatch
-argument_faults callee p (t ∷ ts) (x ∷ xs) = argument_fault callee x.at x.class (class_of t) ++ argument_faults callee p ts xs
+argument_faults callee p (t ∷ ts) (x ∷ xs) = argument_fault callee x.at x.class (class_of t)
+    ++ argument_faults callee p ts xs
 
 abbrev pub signature_faults : ℕ → Option Signature → List Argument → List Fault
 signature_faults callee None xs = []
@@ -713,43 +876,48 @@ called_with faults t = record { ctype = type_where faults (unqualified_version t
 
 abbrev pub called_directly : Tables → ℕ → List Derivation → Option CType → List Argument → Called
 called_directly tables callee (d.Function n ∷ ds) (Some result) xs =
-    called_with (signature_faults callee (slice_get tables.signatures n) xs ++ result_faults callee (class_of result)) result
+    called_with (signature_faults callee (slice_get tables.signatures n) xs
+    ++ result_faults callee (class_of result)) result
 called_directly tables callee _ _ xs = broken callee rule.TypeMismatch
 
+abbrev pub is_named : Option Entry → Bool
+is_named None = false
+is_named (Some e) = true
+
+abbrev pub named_place : Bool → ℕ → ℕ → ℕ
+named_place is_name at callee = cond is_name callee at
+
 -- a call by a pointer stands at the name of the pointer, else at the `(` of the call
-abbrev pub called_through : ℕ → ℕ → Option Entry → Bool → Called
-called_through at callee None true = broken at rule.IndirectCall
-called_through at callee (Some e) true = broken callee rule.IndirectCall
-called_through at callee None false = broken at rule.TypeMismatch
-called_through at callee (Some e) false = broken callee rule.TypeMismatch
+abbrev pub called_through : ℕ → ℕ → Bool → Bool → Called
+called_through at callee is_name is_indirect =
+    broken (named_place is_name at callee) (cond is_indirect rule.IndirectCall rule.TypeMismatch)
 
 abbrev pub points_to_function : Option CType → Bool
 points_to_function None = false
 points_to_function (Some t) = is_function t
 
 -- the callee is the name of a function, perhaps in parentheses; every other call is indirect (C99 6.5.2.2p1)
-abbrev pub called_as : Tables → ℕ → ℕ → Option Entry → Bool → CType → List Argument → Called
-called_as tables at callee (Some e) true t xs = called_directly tables callee t.derivations (returned_of t) xs
-called_as tables at callee None true t xs = called_through at callee None true
-called_as tables at callee e false t xs = called_through at callee e (points_to_function (target_of t))
+abbrev pub called_as : Tables → ℕ → ℕ → Bool → Bool → CType → List Argument → Called
+called_as tables at callee true true t xs = called_directly tables callee t.derivations (returned_of t) xs
+called_as tables at callee false true t xs = called_through at callee false true
+called_as tables at callee is_name false t xs = called_through at callee is_name (points_to_function (target_of t))
 
--- what is said of arguments together: as values, where each has a type
+-- what is said of arguments together, as values, from left to right: none where one has no type
 pub record Arguments : Type 0 where
   pub all : Option (List Argument)
   pub faults : List Fault
 
+abbrev pub no_arguments : List Fault → Arguments
+no_arguments faults = record { all = Some []; faults = faults }
+
 abbrev pub with_argument : ℕ → Option Shown → Option (List Argument) → Option (List Argument)
-with_argument at None xs = None
+with_argument at (Some x) (Some xs) = Some (xs ++ record { at = at; class = class_of x.ctype } ∷ [])
 with_argument at (Some x) None = None
-with_argument at (Some x) (Some xs) = Some (record { at = at; class = class_of x.ctype } ∷ xs)
+with_argument at None xs = None
 
-abbrev pub with_value : Typed → Arguments → Arguments
-with_value x more = record { all = with_argument x.at x.shown more.all; faults = x.faults ++ more.faults }
-
--- arguments from left to right
-abbrev pub arguments_of : List Typed → Arguments
-arguments_of [] = record { all = Some []; faults = [] }
-arguments_of (x ∷ xs) = with_value (used x) (arguments_of xs)
+-- one more, as a value
+abbrev pub and_argument : Arguments → Told → Arguments
+and_argument xs x = record { all = with_argument x.at x.shown xs.all; faults = xs.faults ++ x.faults }
 
 abbrev pub called_shown : Option CType → Option Shown
 called_shown None = None
@@ -762,10 +930,11 @@ abbrev pub call_over : Tables → ℕ → ℕ → Option Shown → Option (List 
 call_over tables at callee None xs faults = typeless at faults
 call_over tables at callee (Some f) None faults = typeless at faults
 call_over tables at callee (Some f) (Some xs) faults =
-    call_of at faults (called_as tables at callee f.designates (is_function f.ctype) f.ctype xs)
+    call_of at faults (called_as tables at callee (is_named f.designates) (is_function f.ctype) f.ctype xs)
 
-abbrev pub call : ℕ → Typed → Arguments → Scope → Typed
-call at f xs s = typed_in (call_over s.tables at f.at f.shown xs.all (f.faults ++ xs.faults)) s
+-- a call of what stands at `callee`, whose faults stand before those of the arguments
+abbrev pub call : ℕ → ℕ → Option Shown → Arguments → Scope → Typed
+call at callee f xs s = typed_in (call_over s.tables at callee f xs.all xs.faults) s
 
 -- ---- constant expressions (C99 6.6)
 
@@ -789,7 +958,8 @@ abbrev pub constant_as : Option ℤ → List Fault → Result ℤ LayoutRule
 constant_as None faults = Err (cause_in faults)
 constant_as (Some z) faults = Ok z
 
--- the constant value of an expression, or why there is none: a size that isn't known, one that is too large, or that it isn't constant
+-- the constant value of an expression, or why there is none: a size that isn't known, one that is too large, or that
+-- it isn't constant
 abbrev pub const_value : Typed → Result ℤ LayoutRule
 const_value x = constant_as (constant_of x) x.faults
 

@@ -1,5 +1,6 @@
 -- What the trees of initializers, declarations and function definitions say (C99 6.7, 6.7.8, 6.9.1): `initial_says`,
--- `declaration_says`, `function_says`. The functions named `.._by` take what is said of expressions, specifiers and declarators.
+-- `declaration_says`, `function_says`. The functions named `.._by` take what is said of expressions, specifiers and
+-- declarators.
 use Rattle.std.specs.Prelude.{ℕ, List, [], ◌∷◌, map, Option, Some, None}
 use Rattle.c_tree.specs.declared.expr.Declarator.{Declarator}
 use Rattle.c_tree.specs.declared.expr.Expr.{Expr}
@@ -14,8 +15,27 @@ use Rattle.c_type_terms.specs.declared.ctype.CType.{CType}
 use Rattle.c_says.specs.Scopes.{Scope}
 use Rattle.c_says.specs.Typing.{Typed}
 use Rattle.c_says.specs.Declares.{Saying, DeclaratorSays}
-use Rattle.c_says.specs.Initials.{Fills, Filling, InitialSaid, Designates, ToMember, ToElement, value_says, list_says, item_says, filling_of}
-use Rattle.c_says.specs.Declarations.{Initialised, InitialSays, Item, Declares, FunctionSaid, declaration_by, function_by}
+use Rattle.c_says.specs.Initials.{
+  Fills,
+  Filling,
+  InitialSaid,
+  Designates,
+  ToMember,
+  ToElement,
+  value_says,
+  list_says,
+  item_says,
+  filling_of,
+}
+use Rattle.c_says.specs.Declarations.{
+  Initialised,
+  InitialSays,
+  Item,
+  Declares,
+  FunctionSaid,
+  declaration_by,
+  function_by,
+}
 use Rattle.c_says.specs.Trees.{typed, declarator_says, specifier_says}
 
 -- ---- initializers
@@ -57,8 +77,10 @@ initial_if says (Some x) = Some (initialises (initial_by says x))
 abbrev pub item_by : ExprTyped → (Declarator → DeclaratorSays) → InitDeclarator → Item
 item_by says declarators x = record { declarator = declarators x.declarator; initial = initial_if says x.initializer }
 
-abbrev pub declared_by : ExprTyped → (Specifier → Saying) → (Declarator → DeclaratorSays) → Declaration → Scope → Declares
-declared_by says specifiers declarators x s = declaration_by (map specifiers x.specifiers) (map (item_by says declarators) x.declarators) s
+abbrev pub declared_by : ExprTyped → (Specifier → Saying) → (Declarator → DeclaratorSays) → Declaration → Scope →
+    Declares
+declared_by says specifiers declarators x s = declaration_by (map specifiers x.specifiers) (map (item_by says
+    declarators) x.declarators) s
 
 -- what a declaration declares in a scope, and the rules that it breaks
 abbrev pub declaration_says : Declaration → Scope → Declares

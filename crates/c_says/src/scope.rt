@@ -74,7 +74,8 @@ pub enum Means {
     Faulty,
 }
 
-/// An ordinary name in force. Its offset is that of its declaration; for a name with linkage, of the first declaration of
+/// An ordinary name in force. Its offset is that of its declaration; for a name with linkage, of the first
+/// declaration of
 /// that object or function.
 #[derive(Drop)]
 pub struct Entry {
@@ -98,7 +99,8 @@ pub struct Tag {
     pub is_listed: bool,
 }
 
-/// An object or function with linkage (C99 6.2.2p2), by the offset of its first declaration, and whether it has a definition.
+/// An object or function with linkage (C99 6.2.2p2), by the offset of its first declaration, and whether it has a
+/// definition.
 #[derive(Drop)]
 pub struct Linked {
     pub at: u32,

@@ -4,7 +4,8 @@ use crate::scope::{Entry, Fault};
 use c_type_terms::{CType, Class};
 use plain_data::{Items, Shared};
 
-/// What a node says of itself where it breaks no rule: its type as written, its value where it is constant, and whether it
+/// What a node says of itself where it breaks no rule: its type as written, its value where it is constant, and
+/// whether it
 /// is a null pointer constant (C99 6.3.2.3p3), an lvalue (C99 6.3.2.1p1) and a string literal. `designates` is the
 /// declaration of the name that it is, parentheses apart.
 #[derive(Drop)]
@@ -24,11 +25,19 @@ pub struct Argument {
     pub class: Class,
 }
 
-/// What an expression says, apart from the scope behind it: its own token, parentheses apart; what it shows, where neither
+/// What an expression says, apart from the scope behind it: its own token, parentheses apart; what it shows, where
+/// neither
 /// it nor a part breaks a rule; and the rules that it and its parts break, in order.
 #[derive(Drop)]
 pub struct Told {
     pub at: u32,
     pub shown: Option<Shown>,
+    pub faults: Items<Fault>,
+}
+
+/// What is said of a call besides its parts: the type of its result, where no rule is broken (C99 6.5.2.2).
+#[derive(Drop)]
+pub struct Called {
+    pub ctype: Option<CType>,
     pub faults: Items<Fault>,
 }

@@ -1,2 +1,4 @@
 pub mod Qualified
 pub mod Words
+pub mod Rows
+pub mod Values

@@ -18,7 +18,8 @@ found_from q (d.Pointer p ∷ ds) = refl
 found_from q (d.Array n ∷ ds) = found_from q ds
 found_from q (d.Function s ∷ ds) = refl
 
-pub qualifiers_found : (t : CType) → qualifiers_of t ≡ found t.qualifiers (slice_get t.derivations (arrays_in t.derivations))
+pub qualifiers_found : (t : CType)
+    → qualifiers_of t ≡ found t.qualifiers (slice_get t.derivations (arrays_in t.derivations))
 qualifiers_found t = found_from t.qualifiers t.derivations
 
 abbrev pub set_at : Qualifiers → ℕ → List Derivation → Option Derivation → List Derivation
@@ -27,16 +28,19 @@ set_at q k ds (Some (d.Pointer p)) = slice_set ds k (d.Pointer q)
 set_at q k ds (Some (d.Array n)) = ds
 set_at q k ds (Some (d.Function s)) = ds
 
-behind : (q : Qualifiers) (k : ℕ) (x : Derivation) (ds : List Derivation) (o : Option Derivation) → x ∷ set_at q k ds o ≡ set_at q (suc k) (x ∷ ds) o
+behind : (q : Qualifiers) (k : ℕ) (x : Derivation) (ds : List Derivation) (o : Option Derivation)
+    → x ∷ set_at q k ds o ≡ set_at q (suc k) (x ∷ ds) o
 behind q k x ds None = refl
 behind q k x ds (Some (d.Pointer p)) = refl
 behind q k x ds (Some (d.Array n)) = refl
 behind q k x ds (Some (d.Function s)) = refl
 
-set_from : (q : Qualifiers) (ds : List Derivation) → requalified_from q ds ≡ set_at q (arrays_in ds) ds (slice_get ds (arrays_in ds))
+set_from : (q : Qualifiers) (ds : List Derivation)
+    → requalified_from q ds ≡ set_at q (arrays_in ds) ds (slice_get ds (arrays_in ds))
 set_from q [] = refl
 set_from q (d.Pointer p ∷ ds) = refl
-set_from q (d.Array n ∷ ds) = ap (λ r. d.Array n ∷ r) (set_from q ds) ∙ behind q (arrays_in ds) (d.Array n) ds (slice_get ds (arrays_in ds))
+set_from q (d.Array n ∷ ds) =
+    ap (λ r. d.Array n ∷ r) (set_from q ds) ∙ behind q (arrays_in ds) (d.Array n) ds (slice_get ds (arrays_in ds))
 set_from q (d.Function s ∷ ds) = refl
 
 abbrev pub is_base : Option Derivation → Bool
@@ -51,8 +55,14 @@ base_from (d.Function s ∷ ds) = refl
 
 pub requalified_found : (q : Qualifiers) (t : CType)
     → requalified q t ≡ record {
-      derivations = set_at q (arrays_in t.derivations) t.derivations (slice_get t.derivations (arrays_in t.derivations));
+      derivations =
+          set_at q (arrays_in t.derivations) t.derivations (slice_get t.derivations (arrays_in t.derivations));
       base = t.base;
       qualifiers = cond (is_base (slice_get t.derivations (arrays_in t.derivations))) q t.qualifiers;
     }
-requalified_found q t = (λ i. record { derivations = set_from q t.derivations i; base = t.base; qualifiers = cond (base_from t.derivations i) q t.qualifiers })
+requalified_found q t = λ i.
+    record {
+      derivations = set_from q t.derivations i;
+      base = t.base;
+      qualifiers = cond (base_from t.derivations i) q t.qualifiers;
+    }

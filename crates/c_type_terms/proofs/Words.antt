@@ -17,8 +17,10 @@ wide (pos n) low high = record { sfits = omega (arith, ints) }
 wide (negsuc n) low high = record { sfits = omega (arith, ints) }
 
 -- a product of numbers of 64 bits, computed at 128 bits
-pub product_passed : (x y : ℤ) → negsuc (2 ^ 63 - 1) ≤ℤ x → x ≤ℤ pos (2 ^ 63 - 1) → negsuc (2 ^ 63 - 1) ≤ℤ y → y ≤ℤ pos (2 ^ 63 - 1)
+pub product_passed : (x y : ℤ) → negsuc (2 ^ 63 - 1) ≤ℤ x → x ≤ℤ pos (2 ^ 63 - 1)
+    → negsuc (2 ^ 63 - 1) ≤ℤ y → y ≤ℤ pos (2 ^ 63 - 1)
     → to_z w128 (of_z w128 (to_z w128 (of_z w128 x) *ℤ to_z w128 (of_z w128 y))) ≡ x *ℤ y
 product_passed x y xl xh yl yh =
     (λ i. to_z w128 (of_z w128 (to_z-of_z w128 x (wide x xl xh) i *ℤ to_z-of_z w128 y (wide y yl yh) i)))
-    ∙ to_z-of_z w128 (x *ℤ y) (fits_signed_mul w128 x y (2 ^ 63) (2 ^ 63) (abs_most x xl xh) (abs_most y yl yh) (omega arith))
+    ∙ to_z-of_z w128 (x *ℤ y)
+    (fits_signed_mul w128 x y (2 ^ 63) (2 ^ 63) (abs_most x xl xh) (abs_most y yl yh) (omega arith))

@@ -108,8 +108,8 @@ lengths_agree _ _ = true
 
 -- ---- function types (C99 6.7.5.3p15)
 
--- a parameter type of which a declaration without prototype may speak: the default argument promotions leave it as it is,
--- up to compatibility (C99 6.5.2.2p6)
+-- a parameter type of which a declaration without prototype may speak: the default argument promotions leave it as it
+-- is, up to compatibility (C99 6.5.2.2p6)
 abbrev pub is_default_base : Base → Bool
 is_default_base b.Void = true
 is_default_base (b.Integer kind) = same_kind kind (promoted kind)
@@ -179,7 +179,8 @@ abbrev pub derivations_agree : (ℕ → ℕ → Bool) → CType → CType → Li
 derivations_agree signatures t u [] [] = bases_agree t.base u.base && same_qualifiers t.qualifiers u.qualifiers
 derivations_agree signatures t u [] (e ∷ es) = false
 derivations_agree signatures t u (x ∷ ds) [] = false
-derivations_agree signatures t u (x ∷ ds) (e ∷ es) = step_agrees signatures x e && derivations_agree signatures t u ds es
+derivations_agree signatures t u (x ∷ ds) (e ∷ es) =
+    step_agrees signatures x e && derivations_agree signatures t u ds es
 
 abbrev pub types_agree : (ℕ → ℕ → Bool) → CType → CType → Bool
 types_agree signatures t u = derivations_agree signatures t u t.derivations u.derivations
@@ -193,13 +194,18 @@ unqualified_from signatures t u ds es = derivations_agree signatures t u ds es
 abbrev pub unqualified_agree : (ℕ → ℕ → Bool) → CType → CType → Bool
 unqualified_agree signatures t u = unqualified_from signatures t u t.derivations u.derivations
 
--- two signatures agree, each with itself; a function's parameters have signatures of smaller numbers, so as many levels as
--- there are signatures are enough
+-- two signatures agree, each with itself; a function's parameters have signatures of smaller numbers, so as many
+-- levels as there are signatures are enough
 abbrev pub signatures_at : ℕ → Tables → ℕ → ℕ → Bool
 signatures_at zero tables f g = nat_eq f g
 signatures_at (suc n) tables f g =
     nat_eq f g
-    || both_agree (unqualified_agree (signatures_at n tables)) (slice_get tables.signatures f) (slice_get tables.signatures g)
+    || both_agree (unqualified_agree (signatures_at n tables)) (slice_get tables.signatures f)
+    (slice_get tables.signatures g)
+
+-- parameters, where signatures are compared down to this level
+abbrev pub parameters_at : ℕ → Tables → CType → CType → Bool
+parameters_at n tables t u = unqualified_agree (signatures_at n tables) t u
 
 abbrev pub compatible : Tables → CType → CType → Bool
 compatible tables t u = types_agree (signatures_at (length tables.signatures) tables) t u
@@ -240,6 +246,7 @@ composite_from tables [] es = []
 composite_from tables (x ∷ ds) [] = x ∷ ds
 composite_from tables (x ∷ ds) (e ∷ es) = merged tables x e ∷ composite_from tables ds es
 
--- of two prototypes the first is taken: it says the same of each parameter, but for what a pointer among them points to
+-- of two prototypes the first is taken: it says the same of each parameter, but for what a pointer among them points
+-- to
 abbrev pub composite : Tables → CType → CType → CType
 composite tables t u = record t { derivations = composite_from tables t.derivations u.derivations }

@@ -20,7 +20,7 @@ use Rattle.c_type_terms.specs.declared.tables.Content.TheVariants as c
 use Rattle.c_type_terms.specs.declared.tables.Layout.{Layout}
 use Rattle.c_type_terms.specs.declared.tables.Member.{Member}
 use Rattle.c_type_terms.specs.declared.tables.Tables.{Tables}
-use Rattle.c_type_terms.specs.Types.{content_of, is_listed, aggregate_of}
+use Rattle.c_type_terms.specs.Types.{content_of, is_listed, aggregate_of, qualified, qualifiers_of}
 use Rattle.c_type_terms.specs.Integers.{bytes_of}
 
 -- Bytes are counted up to 2^32 - 1: no object may have more than 1,048,576, so a size at the end is too large in any
@@ -229,6 +229,10 @@ member_named name (m ∷ ms) = cond (bytes_eq m.name name) (Some m) (member_name
 
 abbrev pub member_of : Tables → CType → List ℕ → Option Member
 member_of tables t name = member_named name (members_of tables t)
+
+-- a member has the qualifiers of the whole too (C99 6.5.2.3p3)
+abbrev pub member_type : CType → Member → CType
+member_type t m = qualified (qualifiers_of t) m.ctype
 
 abbrev pub offset_in : Option Member → Option ℕ
 offset_in None = None

@@ -180,6 +180,15 @@ kind_in _ = None
 abbrev pub kind_of : CType → Option IntegerKind
 kind_of t = kind_in (class_of t)
 
+-- the integer type of the number by which a scalar converts: a pointer's is its 64-bit number (C99 6.3.2.3p5, p6)
+abbrev pub number_kind_in : Class → Option IntegerKind
+number_kind_in (l.Integer kind) = Some kind
+number_kind_in l.Pointer = Some k.UnsignedLong
+number_kind_in _ = None
+
+abbrev pub number_kind : CType → Option IntegerKind
+number_kind t = number_kind_in (class_of t)
+
 abbrev pub number_in : Class → Option ℕ
 number_in (l.Aggregate number) = Some number
 number_in _ = None

@@ -2,8 +2,10 @@
 ghost use Rattle.std.specs.Prelude.{◌≡◌, ◌∷◌, ◌≤◌, length, IfOk};
 ghost use Rattle.c_type_terms.specs.Types as spec;
 ghost use Rattle.c_type_terms.specs.Compatible.{adjusted, decayed};
+ghost use Rattle.c_type_terms.specs.Layouts.{member_type};
 
 use crate::ctype::{Base, CType, Derivation, IntegerKind, Qualifiers};
+use crate::tables::Member;
 use plain_data::Items;
 use std::alloc::{AllocError, Global};
 
@@ -36,6 +38,18 @@ impl Class {
         ensures { result ≡ spec.is_arithmetic_class self }
     {
         matches!(self, Class::Integer(_) | Class::Floating)
+    }
+
+    /// The integer type of the number by which a scalar converts: a pointer's is its 64-bit number (C99 6.3.2.3p5,
+    /// p6). A floating type has none.
+    pub fn number_kind(self) -> Option<IntegerKind>
+        ensures { result ≡ spec.number_kind_in self }
+    {
+        match self {
+            Class::Integer(kind) => Some(kind),
+            Class::Pointer => Some(IntegerKind::UnsignedLong),
+            _ => None,
+        }
     }
 
     /// An arithmetic type or a pointer type (C99 6.2.5p21).
@@ -268,6 +282,15 @@ impl CType {
     {
         let all = qualifiers.with(self.qualifiers());
         self.requalified(all)
+    }
+
+    /// The type of a member of this type, which has the qualifiers of the whole too (C99 6.5.2.3p3). It fails for want
+    /// of memory alone.
+    pub fn member_type(&self, alloc: Global, member: &Member) -> Result<CType, AllocError>
+        ensures { IfOk result (λ t. t ≡ member_type self.now member.now) }
+    {
+        let ctype = member.ctype.duplicate(alloc)?;
+        Ok(ctype.qualified(self.qualifiers()))
     }
 
     /// The type of a parameter that is declared with this type, where an array's brackets have these qualifiers (C99

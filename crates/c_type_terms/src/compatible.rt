@@ -213,7 +213,7 @@ impl Tables {
 
     #[cycle(compatible)]
     fn unqualified_agree(&self, depth: usize, t: &CType, u: &CType) -> bool
-        ensures { result ≡ spec.unqualified_agree (spec.signatures_at depth self.now) t.now u.now }
+        ensures { result ≡ spec.parameters_at depth self.now t.now u.now }
     {
         let ds = t.derivations.as_slice();
         let es = u.derivations.as_slice();
@@ -228,7 +228,7 @@ impl Tables {
 
     #[cycle(compatible)]
     fn parameters_agree(&self, depth: usize, ts: &[CType], us: &[CType]) -> bool
-        ensures { result ≡ spec.parameters_agree (spec.unqualified_agree (spec.signatures_at depth self.now)) ts.now us.now }
+        ensures { result ≡ spec.parameters_agree (spec.parameters_at depth self.now) ts.now us.now }
     {
         let mut left = ts;
         let mut right = us;
@@ -247,7 +247,7 @@ impl Tables {
 
     #[cycle(compatible)]
     fn prototypes_agree(&self, depth: usize, f: &Signature, g: &Signature) -> bool
-        ensures { result ≡ spec.prototypes_agree (spec.unqualified_agree (spec.signatures_at depth self.now))
+        ensures { result ≡ spec.prototypes_agree (spec.parameters_at depth self.now)
             f.now.prototype g.now.prototype f.now.parameters g.now.parameters }
     {
         let ts = f.parameters.as_slice();

@@ -214,10 +214,9 @@ impl IntegerKind {
         }
     }
 
-    /// The value of the type to which a number is converted (C99 6.3.1.2, 6.3.1.3): modulo 2^N, or for `_Bool` whether
-    /// it isn't 0.
+    /// What `convert` answers, with the bounds of all types, for the operators.
     #[tactic(auto, unfolding(crate::specs::Integers::converted))]
-    pub fn convert(self, value: i128) -> i128
+    pub(crate) fn operand(self, value: i128) -> i128
         ensures value { result ≡ spec.converted self value }
         ensures low { negsuc (2 ^ 63 - 1) ≤ℤ result }
         ensures high { result ≤ℤ pos (2 ^ 64 - 1) }
@@ -229,6 +228,17 @@ impl IntegerKind {
         } else {
             self.value_of_word(wrap(value, self.width()))
         }
+    }
+
+    /// The value of the type to which a number is converted (C99 6.3.1.2, 6.3.1.3): modulo 2^N, or for `_Bool` whether
+    /// it isn't 0. A value of the type is itself.
+    #[tactic(auto, using(crate::proofs::Values::converted_same, crate::proofs::Values::converted_within))]
+    pub fn convert(self, value: i128) -> i128
+        ensures value { result ≡ spec.converted self value }
+        ensures same { spec.is_in self value ≡ true → result ≡ value }
+        ensures within { spec.is_in self result ≡ true }
+    {
+        self.operand(value)
     }
 }
 

@@ -365,8 +365,8 @@ impl Layout {
         }
     }
 
-    /// Places the next member: in a structure behind those before it, in a union at the beginning (C99 6.7.2.1p13, p14).
-    /// It fails for want of memory alone.
+    /// Places the next member: in a structure behind those before it, in a union at the beginning (C99 6.7.2.1p13,
+    /// p14). It fails for want of memory alone.
     pub fn place(
         &mut self,
         form: AggregateForm,

@@ -16,3 +16,6 @@ pub use tables::{
     Aggregate, AggregateForm, Content, Enumeration, Layout, Member, OpaqueCause, Prototype,
     Signature, Tables,
 };
+
+#[cfg(test)]
+mod tests;

@@ -67,7 +67,7 @@ impl IntegerKind {
         ensures { result ≡ spec.exact self value }
     {
         if !self.is_signed() {
-            Ok(self.convert(value))
+            Ok(self.operand(value))
         } else if self.has(value) {
             Ok(value)
         } else {
@@ -79,14 +79,14 @@ impl IntegerKind {
     pub fn sum(self, x: i128, y: i128) -> Result<i128, Undefined>
         ensures { result ≡ spec.sum self x y }
     {
-        self.exact(plus(self.convert(x), self.convert(y)))
+        self.exact(plus(self.operand(x), self.operand(y)))
     }
 
     /// `x - y` (C99 6.5.6).
     pub fn difference(self, x: i128, y: i128) -> Result<i128, Undefined>
         ensures { result ≡ spec.difference self x y }
     {
-        self.exact(minus(self.convert(x), self.convert(y)))
+        self.exact(minus(self.operand(x), self.operand(y)))
     }
 
     /// A natural number modulo 2^N, or for `_Bool` whether it isn't 0.
@@ -119,8 +119,8 @@ impl IntegerKind {
     pub fn product(self, x: i128, y: i128) -> Result<i128, Undefined>
         ensures { result ≡ spec.product self x y }
     {
-        let a = self.convert(x);
-        let b = self.convert(y);
+        let a = self.operand(x);
+        let b = self.operand(y);
         if self.is_signed() {
             self.exact(times(a, b))
         } else {
@@ -132,11 +132,11 @@ impl IntegerKind {
     pub fn quotient(self, x: i128, y: i128) -> Result<i128, Undefined>
         ensures { result ≡ spec.quotient self x y }
     {
-        let divisor = self.convert(y);
+        let divisor = self.operand(y);
         if divisor == 0 {
             Err(Undefined::ZeroDivisor)
         } else {
-            self.exact(over(self.convert(x), divisor))
+            self.exact(over(self.operand(x), divisor))
         }
     }
 
@@ -145,7 +145,7 @@ impl IntegerKind {
         ensures { result ≡ spec.remainder self x y }
     {
         match self.quotient(x, y) {
-            Ok(_) => Ok(self.convert(x) % self.convert(y)),
+            Ok(_) => Ok(self.operand(x) % self.operand(y)),
             Err(kind) => Err(kind),
         }
     }
@@ -161,7 +161,7 @@ impl IntegerKind {
     pub fn shifted_left(self, x: i128, count: i128) -> Result<i128, Undefined>
         ensures { result ≡ spec.shifted_left self x count }
     {
-        let value = self.convert(x);
+        let value = self.operand(x);
         if self.is_far(count) || value < 0 {
             return Err(Undefined::Shift);
         }
@@ -178,7 +178,7 @@ impl IntegerKind {
         if self.is_far(count) {
             Err(Undefined::Shift)
         } else {
-            Ok(self.convert(x) >> count as u32)
+            Ok(self.operand(x) >> count as u32)
         }
     }
 
@@ -213,41 +213,41 @@ impl IntegerKind {
     pub fn complement(self, x: i128) -> i128
         ensures { result ≡ spec.complement self x }
     {
-        self.convert(-1 - x)
+        self.operand(-1 - x)
     }
 
     /// `-x` (C99 6.5.3.3p3).
     pub fn negation(self, x: i128) -> Result<i128, Undefined>
         ensures { result ≡ spec.negation self x }
     {
-        self.exact(0 - self.convert(x))
+        self.exact(0 - self.operand(x))
     }
 
     /// `x < y`: 1 or 0 (C99 6.5.8).
     pub fn less(self, x: i128, y: i128) -> i128
         ensures { result ≡ spec.less self x y }
     {
-        i128::from(self.convert(x) < self.convert(y))
+        i128::from(self.operand(x) < self.operand(y))
     }
 
     /// `x <= y`: 1 or 0 (C99 6.5.8).
     pub fn less_equal(self, x: i128, y: i128) -> i128
         ensures { result ≡ spec.less_equal self x y }
     {
-        i128::from(!(self.convert(y) < self.convert(x)))
+        i128::from(!(self.operand(y) < self.operand(x)))
     }
 
     /// `x == y`: 1 or 0 (C99 6.5.9).
     pub fn equal(self, x: i128, y: i128) -> i128
         ensures { result ≡ spec.equal self x y }
     {
-        i128::from(self.convert(x) == self.convert(y))
+        i128::from(self.operand(x) == self.operand(y))
     }
 
     /// `x != y`: 1 or 0 (C99 6.5.9).
     pub fn unequal(self, x: i128, y: i128) -> i128
         ensures { result ≡ spec.unequal self x y }
     {
-        i128::from(self.convert(x) != self.convert(y))
+        i128::from(self.operand(x) != self.operand(y))
     }
 }

@@ -6,7 +6,7 @@ ghost use Rattle.c_type_terms.specs.Layouts.{member_named};
 ghost use Rattle.c_says.specs.Typing as spec;
 
 use crate::operators::addition;
-use crate::unary::indirection;
+use crate::turning::indirection;
 use crate::values::{INCOMPLETE, an_object};
 use c_lexer::Name;
 use c_says::{Rule, Shown};
@@ -87,7 +87,13 @@ fn member_of_content(
         Content::Opaque(OpaqueCause::BitField) => Ok(Err(Rule::BitField)),
         Content::Opaque(OpaqueCause::Other) => Ok(Err(INCOMPLETE)),
         Content::Complete(layout) => {
-            member_among(alloc, qualifiers, is_lvalue, name, layout.members.as_slice())
+            member_among(
+                alloc,
+                qualifiers,
+                is_lvalue,
+                name,
+                layout.members.as_slice(),
+            )
         }
     }
 }
@@ -122,7 +128,14 @@ pub(crate) fn member_shown_of(
 ) -> Result<Result<Shown, Rule>, AllocError>
     ensures { IfOk result (λ j. j ≡ spec.member_shown_of tables.now name.now x.now) }
 {
-    member_in(alloc, tables, x.ctype.qualifiers(), x.is_lvalue, name, x.ctype.aggregate())
+    member_in(
+        alloc,
+        tables,
+        x.ctype.qualifiers(),
+        x.is_lvalue,
+        name,
+        x.ctype.aggregate(),
+    )
 }
 
 /// A member of what a pointer points to. It fails for want of memory alone.

@@ -4,7 +4,7 @@ ghost use Rattle.c_type_terms.specs.Types as types;
 ghost use Rattle.c_says.specs.Typing as spec;
 
 use crate::operators::{is_integer, is_pointer, is_scalar, moved};
-use crate::unary::{is_void, on_modifiable, unqualified_type};
+use crate::turning::{is_void, on_modifiable, unqualified_type};
 use crate::values::{an_integer, is_zero_value, some_value};
 use c_says::{Rule, Shown};
 use c_tree::BinaryOperator;
@@ -24,11 +24,7 @@ fn moved_plainly(
     moved(alloc, tables, &plain)
 }
 
-fn stepped_in(
-    alloc: Global,
-    tables: &Tables,
-    x: &Shown,
-) -> Result<Result<Shown, Rule>, AllocError>
+fn stepped_in(alloc: Global, tables: &Tables, x: &Shown) -> Result<Result<Shown, Rule>, AllocError>
     ensures { IfOk result (λ j. j ≡ spec.stepped_in tables.now (types.class_of x.now.ctype) x.now) }
 {
     match x.ctype.class() {
@@ -191,11 +187,7 @@ pub(crate) fn cast_to(
 
 // ---- choices
 
-fn with_target_qualifiers(
-    alloc: Global,
-    target: CType,
-    other: &CType,
-) -> Result<CType, AllocError>
+fn with_target_qualifiers(alloc: Global, target: CType, other: &CType) -> Result<CType, AllocError>
     ensures { IfOk result (λ t. t ≡ spec.with_target_qualifiers target other.now) }
 {
     target
@@ -224,11 +216,7 @@ fn joined_targets(
     with_target_qualifiers(alloc, left, &right)
 }
 
-fn joined_pointers(
-    alloc: Global,
-    x: &Shown,
-    y: &Shown,
-) -> Result<Result<Shown, Rule>, AllocError>
+fn joined_pointers(alloc: Global, x: &Shown, y: &Shown) -> Result<Result<Shown, Rule>, AllocError>
     ensures { IfOk result (λ j. j ≡ spec.joined_pointers x.now y.now (types.target_of x.now.ctype) (types.target_of y.now.ctype)) }
 {
     let left = x.ctype.target(alloc)?;
@@ -261,11 +249,7 @@ fn chosen_as(kind: IntegerKind, value: Option<i128>) -> Option<i128>
     }
 }
 
-fn joined_others(
-    alloc: Global,
-    x: &Shown,
-    y: &Shown,
-) -> Result<Result<Shown, Rule>, AllocError>
+fn joined_others(alloc: Global, x: &Shown, y: &Shown) -> Result<Result<Shown, Rule>, AllocError>
     ensures { IfOk result (λ j. j ≡ spec.joined_others x.now y.now) }
 {
     let both_void = is_void(&x.ctype) && is_void(&y.ctype);

@@ -11,12 +11,7 @@ use c_type_terms::{CType, Class, IntegerKind, Tables};
 use std::alloc::{AllocError, Global};
 
 /// What an operator makes of two numbers, brought to the type in which it works; `&&` and `||` take them as they are.
-fn worked(
-    operator: BinaryOperator,
-    kind: IntegerKind,
-    x: i128,
-    y: i128,
-) -> Result<i128, Undefined>
+fn worked(operator: BinaryOperator, kind: IntegerKind, x: i128, y: i128) -> Result<i128, Undefined>
     ensures { result ≡ spec.worked operator kind x y }
 {
     match operator {
@@ -58,12 +53,7 @@ fn worked_on(
     }
 }
 
-fn arithmetic(
-    alloc: Global,
-    operator: BinaryOperator,
-    x: &Shown,
-    y: &Shown,
-) -> Result<Shown, Rule>
+fn arithmetic(alloc: Global, operator: BinaryOperator, x: &Shown, y: &Shown) -> Result<Shown, Rule>
     ensures { result ≡ spec.arithmetic operator x.now y.now }
 {
     match (x.ctype.kind(), y.ctype.kind()) {
@@ -120,12 +110,7 @@ fn compared_values(
     }
 }
 
-fn comparison(
-    alloc: Global,
-    operator: BinaryOperator,
-    x: &Shown,
-    y: &Shown,
-) -> Result<Shown, Rule>
+fn comparison(alloc: Global, operator: BinaryOperator, x: &Shown, y: &Shown) -> Result<Shown, Rule>
     ensures { result ≡ spec.comparison operator x.now y.now }
 {
     if is_scalar(&x.ctype) && is_scalar(&y.ctype) {

@@ -78,7 +78,11 @@ pub(crate) fn has_size(tables: &Tables, ctype: &CType) -> bool
 fn value_of_array(alloc: Global, x: Shown) -> Result<Result<Shown, Rule>, AllocError>
     ensures { IfOk result (λ j. j ≡ spec.value_of_array x) }
 {
-    let Shown { ctype, is_lvalue, .. } = x;
+    let Shown {
+        ctype,
+        is_lvalue,
+        ..
+    } = x;
     if is_lvalue {
         Ok(Ok(some_value(ctype.decayed(alloc)?)))
     } else {

@@ -1,5 +1,5 @@
 use Rattle.std.proofs.Common.{◌≡◌, ◌+◌, ◌*◌, length}
-use Rattle.c_type_terms.specs.Compatible.{signatures_at, derivations_agree, parameters_agree, unqualified_agree}
+use Rattle.c_type_terms.specs.Compatible.{signatures_at, derivations_agree, parameters_agree, parameters_at}
 use Rattle.c_type_terms.proofs.tables.Tables.+compatible.Given as goal
 
 abbrev pub decreases-signatures_agree : goal.decreases-signatures_agree
@@ -30,8 +30,8 @@ decreases-derivations_agree-steps l = length l.left
 
 abbrev pub invariant-parameters_agree-types : goal.invariant-parameters_agree-types
 invariant-parameters_agree-types l =
-    parameters_agree (unqualified_agree (signatures_at l.depth l.self)) l.left l.right
-    ≡ parameters_agree (unqualified_agree (signatures_at l.depth l.self)) l.ts l.us
+    parameters_agree (parameters_at l.depth l.self) l.left l.right
+    ≡ parameters_agree (parameters_at l.depth l.self) l.ts l.us
 
 abbrev pub decreases-parameters_agree-types : goal.decreases-parameters_agree-types
 decreases-parameters_agree-types l = length l.left

@@ -11,7 +11,7 @@ use c_tree::UnaryOperator;
 use c_type_terms::{CType, Class, IntegerKind, Qualifiers, Tables};
 use std::alloc::{AllocError, Global};
 
-fn is_function(ctype: &CType) -> bool
+pub(crate) fn is_function(ctype: &CType) -> bool
     ensures { result ≡ types.is_function ctype.now }
 {
     matches!(ctype.class(), Class::Function)
@@ -94,11 +94,7 @@ fn turned_on(operator: UnaryOperator, kind: IntegerKind, value: Option<i128>) ->
 }
 
 /// The operators `+`, `-` and `~` over a value.
-pub(crate) fn promoted_by(
-    alloc: Global,
-    operator: UnaryOperator,
-    x: &Shown,
-) -> Result<Shown, Rule>
+pub(crate) fn promoted_by(alloc: Global, operator: UnaryOperator, x: &Shown) -> Result<Shown, Rule>
     ensures { result ≡ spec.promoted_by operator x.now }
 {
     match x.ctype.kind() {

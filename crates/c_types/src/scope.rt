@@ -1,0 +1,208 @@
+//! The names in force (C99 6.2.1 to 6.2.4).
+
+ghost use Rattle.std.specs.Prelude.{◌≡◌, reverse, OnOk};
+ghost use Rattle.std.specs.Option.{option_copied};
+ghost use Rattle.c_says.specs.Scopes as spec;
+
+use crate::names::Named;
+use c_lexer::Name;
+use c_says::{Entry, Linked, Tag};
+use c_type_terms::Tables;
+use plain_data::{Items, Shared};
+use std::alloc::{AllocError, Global};
+use std::marker::Model;
+
+/// What one block declares, or the file.
+#[derive(Drop)]
+pub struct Block {
+    entries: Named<Entry>,
+    tags: Named<Tag>,
+}
+
+impl Model for Block {
+    ghost use Rattle.c_says.specs.Scopes as spec;
+
+    ghost Value = { spec.Block };
+
+    ghost view = { λ b. record { entries = b.entries; tags = b.tags } };
+}
+
+impl Block {
+    /// A block that declares nothing so far.
+    pub fn new(alloc: Global) -> Block
+        ensures { result ≡ spec.no_names }
+    {
+        Block {
+            entries: Named::new(alloc),
+            tags: Named::new(alloc),
+        }
+    }
+
+    /// The last declaration of an ordinary name in the block.
+    pub fn entry(&self, name: &[u8]) -> Option<&Shared<Entry>>
+        ensures { option_copied result ≡ spec.entry_in self.now name.now }
+    {
+        self.entries.get(name)
+    }
+
+    /// The last declaration of a tag in the block.
+    pub fn tag(&self, name: &[u8]) -> Option<&Shared<Tag>>
+        ensures { option_copied result ≡ spec.tag_in self.now name.now }
+    {
+        self.tags.get(name)
+    }
+
+    /// Declares an ordinary name. It fails for want of memory alone.
+    pub fn add_entry(&mut self, entry: Shared<Entry>) -> Result<(), AllocError>
+        ensures { OnOk result (self.new ≡ spec.with_entry entry self.old) }
+    {
+        self.entries.push(entry)
+    }
+
+    /// Declares a tag. It fails for want of memory alone.
+    pub fn add_tag(&mut self, tag: Shared<Tag>) -> Result<(), AllocError>
+        ensures { OnOk result (self.new ≡ spec.with_tag_entry tag self.old) }
+    {
+        self.tags.push(tag)
+    }
+}
+
+#[tactic(auto, using(crate::proofs::ByBytes::reverse_snoc))]
+fn entry_over<'a>(file: &'a Block, blocks: &'a [Block], name: &[u8]) -> Option<&'a Shared<Entry>>
+    ensures { option_copied result ≡ spec.entry_over file.now (reverse blocks.now) name.now }
+{
+    match blocks.split_last() {
+        Some((last, rest)) => match last.entry(name) {
+            Some(entry) => Some(entry),
+            None => entry_over(file, rest, name),
+        },
+        None => file.entry(name),
+    }
+}
+
+#[tactic(auto, using(crate::proofs::ByBytes::reverse_snoc))]
+fn tag_over<'a>(file: &'a Block, blocks: &'a [Block], name: &[u8]) -> Option<&'a Shared<Tag>>
+    ensures { option_copied result ≡ spec.tag_over file.now (reverse blocks.now) name.now }
+{
+    match blocks.split_last() {
+        Some((last, rest)) => match last.tag(name) {
+            Some(tag) => Some(tag),
+            None => tag_over(file, rest, name),
+        },
+        None => file.tag(name),
+    }
+}
+
+#[tactic(auto, using(crate::proofs::ByBytes::reverse_snoc))]
+fn innermost_of<'a>(file: &'a Block, blocks: &'a [Block]) -> &'a Block
+    ensures { result.now ≡ spec.innermost_of file.now (reverse blocks.now) }
+{
+    match blocks.split_last() {
+        Some((last, _)) => last,
+        None => file,
+    }
+}
+
+/// The names in force, and the tables of types, which stay when a block is left.
+#[derive(Drop)]
+pub struct Scope {
+    alloc: Global,
+    file: Block,
+    blocks: Vec<Block>,
+    linked: Named<Linked>,
+    function: Option<Name>,
+    tables: Tables,
+}
+
+impl Model for Scope {
+    ghost use Rattle.std.specs.Prelude.{reverse};
+    ghost use Rattle.c_says.specs.Scopes as spec;
+
+    ghost Value = { spec.Scope };
+
+    ghost view = { λ s. record { file = s.file; blocks = reverse s.blocks.items; linked = s.linked; function = s.function; tables = s.tables } };
+}
+
+impl Scope {
+    /// The file scope, with nothing declared. It takes no memory.
+    pub fn new(alloc: Global) -> Scope
+        ensures { result ≡ spec.empty }
+    {
+        Scope {
+            alloc,
+            file: Block::new(alloc),
+            blocks: Vec::new(alloc),
+            linked: Named::new(alloc),
+            function: None,
+            tables: Tables {
+                aggregates: Items::new(alloc),
+                enumerations: Items::new(alloc),
+                signatures: Items::new(alloc),
+            },
+        }
+    }
+
+    /// The structures and unions, enumerated types and signatures so far.
+    pub fn tables(&self) -> &Tables
+        ensures { result.now ≡ self.now.tables }
+    {
+        &self.tables
+    }
+
+    /// The declaration of an ordinary name that is in force.
+    pub fn look_up(&self, name: &[u8]) -> Option<&Shared<Entry>>
+        ensures { option_copied result ≡ spec.look_up self.now name.now }
+    {
+        entry_over(&self.file, &self.blocks, name)
+    }
+
+    /// Opens a block. It fails for want of memory alone.
+    pub fn enter(&mut self) -> Result<(), AllocError>
+        ensures { OnOk result (self.new ≡ spec.enter self.old) }
+    {
+        self.blocks.push(Block::new(self.alloc))?;
+        Ok(())
+    }
+
+    /// Leaves the innermost block, where one is open. It takes no memory.
+    pub fn leave(&mut self)
+        ensures { self.new ≡ spec.leave self.old }
+    {
+        let _ = self.blocks.pop();
+    }
+
+    /// The tag that is in force.
+    pub fn tag_of(&self, name: &[u8]) -> Option<&Shared<Tag>>
+        ensures { option_copied result ≡ spec.tag_of self.now name.now }
+    {
+        tag_over(&self.file, &self.blocks, name)
+    }
+
+    /// The last declaration of an ordinary name in the innermost block, or in the file where no block is open.
+    pub fn own_entry(&self, name: &[u8]) -> Option<&Shared<Entry>>
+        ensures { option_copied result ≡ spec.own_entry self.now name.now }
+    {
+        innermost_of(&self.file, &self.blocks).entry(name)
+    }
+
+    /// The last declaration of a tag in the innermost block, or in the file where no block is open.
+    pub fn own_tag(&self, name: &[u8]) -> Option<&Shared<Tag>>
+        ensures { option_copied result ≡ spec.own_tag self.now name.now }
+    {
+        innermost_of(&self.file, &self.blocks).tag(name)
+    }
+
+    /// The object or function with linkage of a name, where one was declared anywhere.
+    pub fn linked_as(&self, name: &[u8]) -> Option<&Shared<Linked>>
+        ensures { option_copied result ≡ spec.linked_as self.now name.now }
+    {
+        self.linked.get(name)
+    }
+
+    /// Notes an object or function with linkage. It fails for want of memory alone.
+    pub fn note_linked(&mut self, linked: Shared<Linked>) -> Result<(), AllocError>
+        ensures { OnOk result (self.new ≡ spec.with_linked linked.at linked.name linked.linkage linked.is_defined self.old) }
+    {
+        self.linked.push(linked)
+    }
+}
