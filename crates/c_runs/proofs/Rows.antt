@@ -26,7 +26,7 @@ use Rattle.c_runs.specs.Notes.{ExprNoted, noting}
 use Rattle.c_runs.specs.Names.{Names, Word, Binding, Literal, ordinary, none}
 use Rattle.c_runs.specs.Statements.{declares_by}
 use Rattle.c_runs.specs.Programs.{Program, Outer, in_order, with_function, declared_outer, main'}
-use Rattle.c_runs.specs.Runs.{Machine, run_of, level_of, room_of, unrolled_size, size_of}
+use Rattle.c_runs.specs.Runs.{Machine, run_of, met_of, level_of, room_of, unrolled_size}
 use Rattle.c_runs.specs.Checks.{breaches_of, has_main}
 use Rattle.c_runs.proofs.Scene.{OfExpr, OfDeclarator, OfSpecifier, OfParameter, OfStmt, OfInitial}
 use Rattle.c_runs.proofs.Scene.{int, text, the, op, un, set, element, increment, call, word, name, pointer, array, omitted, taking, parameter}
@@ -193,6 +193,20 @@ uninitialised = machine seventy_seven (printf_declared ∷ main_with (printf' �
 pub row_uninitialised : (run_of uninitialised).printed ≡ 55 ∷ 55 ∷ 10 ∷ []
 unfolding converted exact level_of pieces_from
 row_uninitialised = refl
+
+-- the places of `printf`, `main` and the literal, and that of the object
+pub row_places_met : met_of uninitialised ≡ 1 ∷ 2 ∷ 3 ∷ 4 ∷ []
+unfolding converted exact level_of pieces_from
+row_places_met = refl
+
+pub row_room : room_of uninitialised ≡ 8
+unfolding converted exact level_of pieces_from
+row_room = refl
+
+-- the block, the object, the statement, the call, its two arguments, `return`, its value
+pub row_nodes : unrolled_size uninitialised ≡ 8
+unfolding converted exact level_of pieces_from
+row_nodes = refl
 
 -- ---- printf("%d\n", printf("%d\n", 7)): the inner call ends before the outer one begins
 

@@ -41,7 +41,7 @@ use Rattle.c_says.specs.declared.scope.Means.{Means}
 use Rattle.c_says.specs.declared.scope.Means.TheVariants as means
 use Rattle.c_says.specs.Scopes.{Name, Block, Scope}
 use Rattle.c_means.specs.declared.kind.Kind.TheVariants as k
-use Rattle.c_means.specs.Parts.{State, Env, Level, Site, entered, note, print, with_store}
+use Rattle.c_means.specs.Parts.{State, Env, Level, Site, entered, note, print, meet, with_store}
 use Rattle.c_means.specs.Values.{address, bytes_of, class_in, converted_to}
 use Rattle.c_means.specs.Objects.{value_at}
 use Rattle.c_means.specs.Expressions.{object_number}
@@ -74,6 +74,11 @@ asked l p = l.world.word p % 2 ^ 64
 
 abbrev pub value_or_zero : List ℤ → ℕ → ℤ
 value_or_zero vs i = unwrap_or (slice_get vs i) (pos 0)
+
+-- so many places from one on
+abbrev pub meets : ℕ → ℕ → State → State
+meets p zero d = d
+meets p (suc n) d = meets (suc p) n (meet p d)
 
 -- ---- texts (C99 7.19.6.1): the arguments of a format, with the types to which they were converted
 
@@ -287,7 +292,8 @@ prints_if l named g env (Some text) d = prints l named g env text d
 abbrev pub log_call : Level → List Entry → LogText → Site → Env → List ℤ → ℕ → State → State
 log_call l named f g env vs base d =
     let ps = log_pieces f g in
-    prints_if l named g env (text_with ps (arguments_of l ps (drop (before_format f) (spoken g.types vs)) (base + 4) d.store)) d
+    prints_if l named g env (text_with ps (arguments_of l ps (drop (before_format f) (spoken g.types vs)) (base + 4) d.store))
+      (meets (base + 4) (pointers_in ps) d)
 
 -- ---- identity calls
 
@@ -303,8 +309,8 @@ as_number z = word width.W64 z
 abbrev pub heap_object : Level → Site → ℕ → ℕ → Bool → State → State
 heap_object l g n q zeroes d =
     cond (nat_lt l.limits.heap n) (finished (finish.Left g.at) d)
-      (cond (nat_eq (asked l q) 0) (answers g (pos 0) d)
-        (answers g (pos (start q)) (with_store (zeroed_if zeroes (make q (record { kind = object.Heap; size = n }) d.store)) d)))
+      (cond (nat_eq (asked l q) 0) (answers g (pos 0) (meet q d))
+        (answers g (pos (start q)) (meet q (with_store (zeroed_if zeroes (make q (record { kind = object.Heap; size = n }) d.store)) d))))
   where
     zeroed_if : Bool → Store → Store
     zeroed_if true s = zero_range (start q) n s
@@ -360,9 +366,9 @@ outside_pointer l never_null g q d =
       (answers g (pos (start q)) (with_store (outside_object l g (pointed g.ctype) q d.store) d))
 
 abbrev pub outside_answer : Class → Level → Bool → Site → ℕ → State → State
-outside_answer class.Pointer l never_null g q d = outside_pointer l never_null g q d
+outside_answer class.Pointer l never_null g q d = outside_pointer l never_null g q (meet q d)
 outside_answer class.Void l never_null g q d = answers g (pos 0) d
-outside_answer c l never_null g q d = answers g (pos (asked l q)) d
+outside_answer c l never_null g q d = answers g (pos (asked l q)) (meet q d)
 
 -- ---- filled buffers: the least of the word at the second place, the length and the bound
 
@@ -384,9 +390,10 @@ abbrev pub is_odd : ℕ → Bool
 is_odd n = nat_eq (n % 2) 1
 
 abbrev pub fill_by : FillAnswer → Level → Bool → Site → ℕ → ℕ → ℕ → State → State
-fill_by answer.Free l never_null g q a n d = filled l g q a n (outside_answer (class_in g.ctype) l never_null g q) d
+fill_by answer.Free l never_null g q a n d =
+    filled l g q a n (outside_answer (class_in g.ctype) l never_null g q) (meets (q + 1) 2 d)
 fill_by answer.Count l never_null g q a n d =
-    cond (is_odd (asked l (q + 3))) (answers g (negsuc 0) d) (filled l g q a n (answers g (pos n)) d)
+    cond (is_odd (asked l (q + 3))) (answers g (negsuc 0) (meet (q + 3) d)) (filled l g q a n (answers g (pos n)) (meets (q + 1) 3 d))
 
 abbrev pub outside_call : Level → Option FillFunction → Bool → Site → List ℤ → ℕ → State → State
 outside_call l None never_null g vs q d = outside_answer (class_in g.ctype) l never_null g q d

@@ -19,7 +19,7 @@ use Rattle.c_means.specs.Parts.{State, Outcome, Level, Site}
 use Rattle.c_means.specs.Values.{bytes_of, converted_to, bytes_of_value}
 use Rattle.c_runs.specs.declared.breach.Breach.{Breach}
 use Rattle.c_runs.specs.declared.breach.BrokenRule.TheVariants as broken
-use Rattle.c_runs.specs.Notes.{Noted, ExprNoted, Sizing, noted, typed_as, is_static_value}
+use Rattle.c_runs.specs.Notes.{Noted, ExprNoted, noted, typed_as, is_static_value}
 use Rattle.c_runs.specs.Items.{Arrow, Acts, breach_if, with_value, running}
 
 -- ---- the expressions of an initializer, in order
@@ -131,7 +131,7 @@ pub record Initial : Type 0 where
   pub is_zeroed : Bool
   pub calls : List (Level → Site)
   pub called : List Name
-  pub size : Sizing → ℕ
+  pub size : Level → ℕ
   pub room : Level → ℕ
   pub constant : List Breach
   pub run : ℕ → Acts
@@ -144,9 +144,9 @@ abbrev pub all_called : List Noted → List Name
 all_called [] = []
 all_called (x ∷ xs) = x.notes.called ++ all_called xs
 
-abbrev pub all_sizes : List Noted → Sizing → ℕ
-all_sizes [] z = 0
-all_sizes (x ∷ xs) z = x.notes.size z + all_sizes xs z
+abbrev pub all_sizes : List Noted → Level → ℕ
+all_sizes [] l = 0
+all_sizes (x ∷ xs) l = x.part.size l + all_sizes xs l
 
 abbrev pub all_rooms : List Noted → Level → ℕ
 all_rooms [] l = 0
@@ -177,7 +177,7 @@ initialising x t s = initial_of x.is_braced (filling_of x.says t s) (evaluated x
 
 -- no initializer: nothing is done
 abbrev pub uninitialised : Initial
-uninitialised = record { is_zeroed = false; calls = []; called = []; size = λ z. 0; room = λ l. 0; constant = []; run = λ a l env base d. d }
+uninitialised = record { is_zeroed = false; calls = []; called = []; size = λ l. 0; room = λ l. 0; constant = []; run = λ a l env base d. d }
 
 abbrev pub initialising_if : Option Initially → Option CType → Scope → Initial
 initialising_if None t s = uninitialised

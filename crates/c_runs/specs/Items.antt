@@ -12,11 +12,10 @@ use Rattle.c_says.specs.declared.scope.Fault.{Fault}
 use Rattle.c_says.specs.Scopes.{Name, Scope, enter, leave}
 use Rattle.c_means.specs.declared.kind.Kind.{Kind}
 use Rattle.c_means.specs.declared.kind.Kind.TheVariants as k
-use Rattle.c_means.specs.Parts.{State, Env, Outcome, Level, Site}
+use Rattle.c_means.specs.Parts.{State, Env, Outcome, Level, Site, meet, with_store}
 use Rattle.c_runs.specs.declared.breach.Breach.{Breach}
 use Rattle.c_runs.specs.declared.breach.BrokenRule.{BrokenRule}
 use Rattle.c_runs.specs.declared.breach.BrokenRule.TheVariants as broken
-use Rattle.c_runs.specs.Notes.{Sizing}
 
 -- ---- rules that are broken
 
@@ -73,7 +72,7 @@ pub record Made : Type 0 where
 
 abbrev pub born : List Made → Arrow
 born [] d = d
-born (m ∷ ms) d = born ms (record d { store = make m.place (record { kind = Automatic; size = m.size }) d.store })
+born (m ∷ ms) d = born ms (meet m.place (with_store (make m.place (record { kind = Automatic; size = m.size }) d.store) d))
 
 abbrev pub dead : List Made → Arrow
 dead [] d = d
@@ -111,7 +110,7 @@ pub record Item : Type 0 where
   pub called : List Name
   pub lasting : List Lasting
   pub links : List Name
-  pub size : Sizing → ℕ
+  pub size : Level → ℕ
   pub room : Level → ℕ
   pub objects : Level → ℕ → List Made
   pub run : Acts
@@ -125,7 +124,7 @@ nothing s = record {
   called = [];
   lasting = [];
   links = [];
-  size = λ z. 0;
+  size = λ l. 0;
   room = λ l. 0;
   objects = λ l base. [];
   run = passes;
@@ -141,7 +140,7 @@ followed x y = record {
   called = x.called ++ y.called;
   lasting = x.lasting ++ y.lasting;
   links = x.links ++ y.links;
-  size = λ z. x.size z + y.size z;
+  size = λ l. x.size l + y.size l;
   room = λ l. x.room l + y.room l;
   objects = λ l base. x.objects l base ++ y.objects l (base + x.room l);
   run = λ l env base d. y.run l env (base + x.room l) (x.run l env base d);
@@ -152,7 +151,7 @@ with_breaches bs x = record x { breaches = bs ++ x.breaches }
 
 -- one node more in the measure
 abbrev pub node : Item → Item
-node x = record x { size = λ z. 1 + x.size z }
+node x = record x { size = λ l. 1 + x.size l }
 
 -- it acts where the run is running
 abbrev pub guarded : Item → Item

@@ -1,5 +1,5 @@
--- What is told of an expression besides what it does: the calls in it, the functions that it calls, how many nodes it is in the measure,
--- and whether it is an address constant (C99 6.6p9). `noted` is the fold; its `part` is what the expression is worth.
+-- What is told of an expression besides what it does: the calls in it, the functions that it calls, and whether it is an address
+-- constant (C99 6.6p9). `noted` is the fold; its `part` is what the expression is worth.
 use Rattle.std.specs.Prelude.{ℕ, ◌+◌, Bool, true, false, cond, ◌&&◌, ◌||◌, List, [], ◌∷◌, ◌++◌, Option, Some, None, is_some}
 use Rattle.c_tree.specs.declared.expr.BinaryOperator.{BinaryOperator}
 use Rattle.c_tree.specs.declared.expr.BinaryOperator.TheVariants as o
@@ -24,21 +24,15 @@ use Rattle.c_says.specs.Trees.{saying}
 use Rattle.c_means.specs.Parts.{Part, Level, Site}
 use Rattle.c_means.specs.Expressions.{integer_constant, floating_constant, character_constant, string_literal, function_name}
 use Rattle.c_means.specs.Expressions.{identifier, subscript, call, member, arrow, postfix, unary, size_of_expression, size_of_type}
-use Rattle.c_means.specs.Expressions.{cast, binary, choice, assignment, comma, site, passed, parameters_of, designated, all_typed}
+use Rattle.c_means.specs.Expressions.{cast, binary, choice, assignment, comma, site, passed, parameters_of, designated}
 
 -- ---- what is told
-
--- How often the turns of a loop count, and how many nodes a function's body is, by its name.
-pub record Sizing : Type 0 where
-  pub turns : ℕ
-  pub body : Name → ℕ
 
 -- `calls` are all calls, `called` the functions that are called where the call is evaluated. `is_place` tells that the expression is an
 -- lvalue or function whose address is constant, `is_address` that its value is an address constant.
 pub record Notes : Type 0 where
   pub calls : List (Level → Site)
   pub called : List Name
-  pub size : Sizing → ℕ
   pub is_place : Bool
   pub is_address : Bool
 
@@ -53,16 +47,15 @@ ExprNoted = Scope → Noted
 -- ---- one node over its parts
 
 abbrev pub alone : Notes
-alone = record { calls = []; called = []; size = λ z. 1; is_place = false; is_address = false }
+alone = record { calls = []; called = []; is_place = false; is_address = false }
 
 abbrev pub over : Notes → Notes
-over x = record { calls = x.calls; called = x.called; size = λ z. 1 + x.size z; is_place = false; is_address = false }
+over x = record { calls = x.calls; called = x.called; is_place = false; is_address = false }
 
 abbrev pub over_two : Notes → Notes → Notes
 over_two x y = record {
   calls = x.calls ++ y.calls;
   called = x.called ++ y.called;
-  size = λ z. 1 + (x.size z + y.size z);
   is_place = false;
   is_address = false;
 }
@@ -71,7 +64,6 @@ abbrev pub over_three : Notes → Notes → Notes → Notes
 over_three x y z = record {
   calls = x.calls ++ y.calls ++ z.calls;
   called = x.called ++ y.called ++ z.called;
-  size = λ w. 1 + (x.size w + (y.size w + z.size w));
   is_place = false;
   is_address = false;
 }
@@ -151,7 +143,7 @@ choice_noted at c x y =
     valued_over (is_constant c.part && is_static_value x && is_static_value y) (choice at c.part x.part y.part)
       (over_three c.notes x.notes y.notes)
 
--- its operand isn't evaluated, and is no node; the calls in it are those that keep the rules of calls
+-- its operand isn't evaluated; the calls in it are those that keep the rules of calls
 abbrev pub unevaluated : Notes → Notes
 unevaluated x = record alone { calls = x.calls }
 
@@ -160,11 +152,10 @@ pub record Through : Type 0 where
   pub parts : List Part
   pub calls : List (Level → Site)
   pub called : List Name
-  pub size : Sizing → ℕ
   pub after : Scope
 
 abbrev pub through : List ExprNoted → Scope → Through
-through [] s = record { parts = []; calls = []; called = []; size = λ z. 0; after = s }
+through [] s = record { parts = []; calls = []; called = []; after = s }
 through (f ∷ fs) s =
     let x = f s in
     let more = through fs x.part.typed.after in
@@ -172,7 +163,6 @@ through (f ∷ fs) s =
       parts = x.part ∷ more.parts;
       calls = x.notes.calls ++ more.calls;
       called = x.notes.called ++ more.called;
-      size = λ z. x.notes.size z + more.size z;
       after = more.after;
     }
 
@@ -186,7 +176,6 @@ abbrev pub name_of : Option Entry → List Name
 name_of None = []
 name_of (Some e) = e.name ∷ []
 
--- the callee's name is no node
 abbrev pub call_noted : Part → Noted → Through → Noted
 call_noted p f xs = record {
   part = p;
@@ -194,15 +183,10 @@ call_noted p f xs = record {
     calls = f.notes.calls ++ xs.calls
         ++ site_of (designated f.part.typed.shown) (type_of p.typed) f.part xs.parts p.typed xs.after;
     called = f.notes.called ++ xs.called ++ name_of (designated f.part.typed.shown);
-    size = λ z. 1 + (xs.size z + called_sizes (name_of (designated f.part.typed.shown)) z);
     is_place = false;
     is_address = false;
   };
 }
-  where
-    called_sizes : List Name → Sizing → ℕ
-    called_sizes [] z = 0
-    called_sizes (name ∷ names) z = z.body name
 
 -- ---- the fold
 

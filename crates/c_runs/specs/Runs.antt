@@ -26,16 +26,15 @@ use Rattle.c_says.specs.Scopes.{Name, Scope, entry_in, linked_as}
 use Rattle.c_says.specs.Declarations.{tentative_type, object_type}
 use Rattle.c_means.specs.declared.kind.Kind.{Kind}
 use Rattle.c_means.specs.declared.kind.Kind.TheVariants as k
-use Rattle.c_means.specs.Parts.{State, Env, World, Limits, Level, Site, Calls, entered}
+use Rattle.c_means.specs.Parts.{State, Env, World, Limits, Level, Site, Calls, entered, meet}
 use Rattle.c_means.specs.Values.{bytes_of}
 use Rattle.c_runs.specs.declared.profile.Profile.{Profile}
-use Rattle.c_runs.specs.Notes.{Sizing}
 use Rattle.c_runs.specs.Items.{Arrow, Made, Lasting, Item, born, dead, known, running, lived}
 use Rattle.c_runs.specs.Initials.{stores, text_byte}
 use Rattle.c_runs.specs.Statements.{no_env}
 use Rattle.c_runs.specs.Names.{Names, Literal}
 use Rattle.c_runs.specs.Rules.{Taking, Rules, LogCall, IdentityCall, BodyCall, LibraryCall, PreludeCall, OutsideCall, rule_by, log_of, identity_index, fill_of, library_of, callee_taking, declared_taking, same_taking, is_among}
-use Rattle.c_runs.specs.Calls.{asked, finished, log_call, log_pieces, pointers_in, identity_call, library_call, outside_call}
+use Rattle.c_runs.specs.Calls.{asked, finished, meets, log_call, log_pieces, pointers_in, identity_call, library_call, outside_call}
 use Rattle.c_runs.specs.Programs.{Function, Outer, Program, program_of, functions_of, function_named, main', reached, Needs, Text, needs_of, watched_lasting}
 
 -- ---- what a run is of
@@ -162,6 +161,7 @@ bare m turns = record {
   turns = turns;
   static = places_of m.program;
   identity = identity_index m.profile;
+  size = λ g. 0;
   room = λ g. 0;
   call = λ g env vs base s count. entered s count;
 }
@@ -169,6 +169,10 @@ bare m turns = record {
 -- the levels of the functions that a function calls; none where its own was the last
 abbrev pub Below : Type 0
 Below = Option (Function → ℕ → Level)
+
+abbrev pub size_below : Below → Function → ℕ → ℕ
+size_below None f turns = 0
+size_below (Some level) f turns = f.body.size (level f turns)
 
 abbrev pub room_below : Below → Function → ℕ → ℕ
 room_below None f turns = 0
@@ -188,6 +192,15 @@ room_by m below g (LibraryCall f) = 4
 room_by m below g (PreludeCall f) = room_below below f m.limits.texts
 room_by m below g OutsideCall = 4
 
+-- a call by rule adds no node
+abbrev pub size_by : Machine → Below → Rules Function → ℕ
+size_by m below (LogCall text) = 0
+size_by m below (IdentityCall i) = 0
+size_by m below (BodyCall f) = size_below below f m.limits.turns
+size_by m below (LibraryCall f) = 0
+size_by m below (PreludeCall f) = size_below below f m.limits.texts
+size_by m below OutsideCall = 0
+
 abbrev pub is_never_null : Machine → Site → Bool
 is_never_null m g = is_among g.callee.name m.profile.never_null
 
@@ -205,6 +218,7 @@ call_by m caller turns below OutsideCall g env vs base s count =
 -- the level of a function that runs
 abbrev pub level : Machine → Below → Function → ℕ → Level
 level m below f turns = record (bare m turns) {
+  size = λ g. size_by m below (rule_of m g);
   room = λ g. room_by m below g (rule_of m g);
   call = λ g. call_by m f turns below (rule_of m g) g;
 }
@@ -285,9 +299,30 @@ abbrev pub sets : Machine → List Lasting → Arrow
 sets m [] d = d
 sets m (x ∷ xs) d = running (sets m xs) (x.set (bare m m.limits.turns) d)
 
+-- the places of what is made, each once
+abbrev pub linked_offset : Option Linked → List ℕ → List ℕ
+linked_offset None ats = ats
+linked_offset (Some x) ats = with_offset x.at ats
+
+abbrev pub name_offsets : Scope → List Name → List ℕ → List ℕ
+name_offsets s [] ats = ats
+name_offsets s (name ∷ names) ats = linked_offset (linked_as s name) (name_offsets s names ats)
+
+abbrev pub text_offsets : List Text → List ℕ → List ℕ
+text_offsets [] ats = ats
+text_offsets (x ∷ xs) ats = with_offset x.at (text_offsets xs ats)
+
+abbrev pub meets_offsets : Machine → List ℕ → Arrow
+meets_offsets m [] d = d
+meets_offsets m (at ∷ ats) d = meets_offsets m ats (meet (places_of m.program at) d)
+
+abbrev pub meets_needs : Machine → Needs → Arrow
+meets_needs m x d =
+    meets_offsets m (name_offsets m.program.scope x.links (lasting_offsets x.lasting (text_offsets x.texts []))) d
+
 -- before `main` is called
 abbrev pub prepared : Machine → Arrow
-prepared m d = let x = needs_of m.profile m.program in running (sets m x.lasting) (makes m x d)
+prepared m d = let x = needs_of m.profile m.program in running (sets m x.lasting) (makes m x (meets_needs m x d))
 
 -- ---- `main` (C99 5.1.2.2.1)
 
@@ -318,7 +353,7 @@ makes_arguments m p d =
       (zeroed_if true (suc p) n (object_at object.Outside (suc p) n (makes_strings m (suc (suc p)) m.limits.arguments d)))
 
 abbrev pub main_state : Machine → List Entry → ℕ → Arrow
-main_state m (e ∷ f ∷ []) p d = makes_arguments m p d
+main_state m (e ∷ f ∷ []) p d = makes_arguments m p (meets p (2 + m.limits.arguments) d)
 main_state m _ p d = d
 
 abbrev pub main_arguments : Machine → List Entry → ℕ → List ℤ
@@ -334,11 +369,15 @@ finish_of _ None = finish.Return (pos 0)
 abbrev pub ran : State → Run
 ran d = record { printed = d.printed; events = d.events; finish = finish_of d.kind d.value }
 
-abbrev pub called_main : Machine → Function → State → State
+-- what was met before `main` is called comes first
+abbrev pub behind : State → State → State
+behind d r = record r { met = d.met ++ r.met }
+
+abbrev pub called_main : Machine → Function → Arrow
 called_main m f d =
     let p = entry_place m.program in
     let e = main_state m f.parameters p d in
-    by_body (level_of m (m.depth - 1) f m.limits.turns) f (main_arguments m f.parameters p) (p + entry_room m f.parameters) e.store e.count
+    behind e (by_body (level_of m (m.depth - 1) f m.limits.turns) f (main_arguments m f.parameters p) (p + entry_room m f.parameters) e.store e.count)
 
 abbrev pub main_run : Machine → Option Function → State → State
 main_run m None d = d
@@ -347,9 +386,16 @@ main_run m (Some f) d = running (called_main m f) d
 abbrev pub main_of : Machine → Option Function
 main_of m = function_named (functions_of m.program) main'
 
+abbrev pub end_of : Machine → State
+end_of m = main_run m (main_of m) (prepared m (entered (initial m.world.byte) 0))
+
 -- the run of a machine
 abbrev pub run_of : Machine → Run
-run_of m = ran (main_run m (main_of m) (prepared m (entered (initial m.world.byte) 0)))
+run_of m = ran (end_of m)
+
+-- the places that its run met, in order: those whose words were asked for, and those of the objects that were made
+abbrev pub met_of : Machine → List ℕ
+met_of m = (end_of m).met
 
 -- ---- the places that a run may take, from 1
 
@@ -362,32 +408,9 @@ room_of m = length (offsets_of m.program) + main_room m (main_of m)
 
 -- ---- the measure: how many nodes `main` is, with those of the bodies that it calls, and of each turn
 
--- the type in force at the end of the file tells whether a name is of the prelude
-abbrev pub taking_in : Tables → Option Entry → Option Taking
-taking_in tables None = None
-taking_in tables (Some e) = declared_taking tables e.means
-
-abbrev pub size_rule : Machine → Name → Rules Function
-size_rule m name =
-    rule_by (log_of m.profile name) (identity_index m.profile name) (function_named (functions_of m.program) name) None
-      (prelude_of m (taking_in m.program.scope.tables (entry_in m.program.scope.file name)) name)
-
-abbrev pub size_below : (Function → ℕ → ℕ) → Machine → Rules Function → ℕ
-size_below sized m (BodyCall f) = sized f m.limits.turns
-size_below sized m (PreludeCall f) = sized f m.limits.texts
-size_below sized m (LogCall text) = 0
-size_below sized m (IdentityCall i) = 0
-size_below sized m (LibraryCall f) = 0
-size_below sized m OutsideCall = 0
-
--- the nodes of a function's body with so many levels left, its own among them
-unfoldable pub size_of : Machine → ℕ → Function → ℕ → ℕ
-size_of m zero f turns = 0
-size_of m (suc n) f turns = f.body.size (record { turns = turns; body = λ name. size_below (size_of m n) m (size_rule m name) })
-
 abbrev pub main_size : Machine → Option Function → ℕ
 main_size m None = 0
-main_size m (Some f) = size_of m m.depth f m.limits.turns
+main_size m (Some f) = f.body.size (level_of m (m.depth - 1) f m.limits.turns)
 
 abbrev pub unrolled_size : Machine → ℕ
 unrolled_size m = main_size m (main_of m)

@@ -38,7 +38,7 @@ use Rattle.c_means.specs.Operators.{value_type, kind_in}
 use Rattle.c_means.specs.Expressions.{on_branch}
 use Rattle.c_runs.specs.declared.breach.Breach.{Breach}
 use Rattle.c_runs.specs.declared.breach.BrokenRule.TheVariants as broken
-use Rattle.c_runs.specs.Notes.{Noted, ExprNoted, Sizing, noted, declarator_noted, specifier_noted}
+use Rattle.c_runs.specs.Notes.{Noted, ExprNoted, noted, declarator_noted, specifier_noted}
 use Rattle.c_runs.specs.Items.{Arrow, Acts, Made, Case, Lasting, Item, Label, Context, Code, breach, breach_if, typing, running, become, arrive, passes, with_value, nothing, followed, with_breaches, node, guarded, closed, without_cases, in_scope, opened, block_of, unchosen, sub, in_turn, labels_of, every_of, past_break, past_continue, past_switch, at_label, at_case, at_default, same}
 use Rattle.c_runs.specs.Initials.{Initial, Initially, initially, initialising_if, said_if}
 
@@ -50,7 +50,7 @@ plain x s bs run = record (nothing s) {
   breaches = typing x.part.typed.faults ++ bs;
   calls = x.notes.calls;
   called = x.notes.called;
-  size = x.notes.size;
+  size = x.part.size;
   room = x.part.room;
   run = λ l env base. running (run l env base);
 }
@@ -79,7 +79,7 @@ abbrev pub automatic : Entry → ℕ → Initial → Scope → Item
 automatic e n x s = record (nothing s) {
   calls = x.calls;
   called = x.called;
-  size = λ z. 1 + x.size z;
+  size = λ l. 1 + x.size l;
   room = λ l. 1 + x.room l;
   objects = λ l base. record { at = e.at; place = base; size = n } ∷ [];
   run = λ l env base. running (λ d. x.run (start (env e.at)) l env (base + 1) (zeroed_if x.is_zeroed (start (env e.at)) n d));
@@ -111,7 +111,7 @@ lasting at e n l defined x s = record (nothing s) {
   calls = x.calls;
   lasting = lasting_object at e n defined x ∷ [];
   links = link e.name l;
-  size = λ z. cond defined (1 + x.size z) 0;
+  size = λ l. cond defined (1 + x.size l) 0;
 }
 
 -- by what the name means: only objects act
@@ -242,7 +242,7 @@ case_of at (Some z) x = chosen_by at (Some z) (arrived (at_case (Some z)) x)
 abbrev pub case_item : ℕ → Noted → Code → Context → Item
 case_item at x body c =
     let i = with_breaches (case_breaches at x c) (case_of at (case_value c.chooses (constant_of x.part.typed)) (body.here (in_scope x.part.typed.after c))) in
-    record i { calls = x.notes.calls ++ i.calls; size = λ z. 1 + (x.notes.size z + i.size z) }
+    record i { calls = x.notes.calls ++ i.calls; size = λ l. 1 + (x.part.size l + i.size l) }
 
 abbrev pub with_here : Code → (Context → Item) → Code
 with_here body here = record { labels = body.labels; own = body.labels; every = body.every; here = here; content = here }
@@ -403,7 +403,7 @@ turns_from at test body step l env (suc n) base d =
 -- what each turn takes, once more than there are turns
 abbrev pub each_turn : Item → Item
 each_turn x = record x {
-  size = λ z. 1 + (z.turns + 1) * x.size z;
+  size = λ l. 1 + (l.turns + 1) * x.size l;
   room = λ l. (l.turns + 1) * x.room l;
 }
 
