@@ -9,7 +9,13 @@ use Rattle.c_tree.specs.declared.expr.UnaryOperator.TheVariants as u
 use Rattle.c_tree.specs.declared.expr.Declarator.{Declarator}
 use Rattle.c_tree.specs.declared.expr.Declarator.TheOpen as open_
 use Rattle.c_tree.specs.declared.expr.Specifier.{Specifier}
+use Rattle.c_tree.specs.declared.expr.Enumerator.{Enumerator}
+use Rattle.c_tree.specs.declared.expr.Field.{Field}
+use Rattle.c_tree.specs.declared.expr.MemberDeclaration.{MemberDeclaration}
+use Rattle.c_tree.specs.declared.expr.Parameter.{Parameter}
+use Rattle.c_tree.specs.declared.expr.TypeName.{TypeName}
 use Rattle.c_tree.specs.Folds.{Algebra, ExprLayer, fold_expr, fold_declarator, fold_specifier}
+use Rattle.c_tree.specs.Folds.{fold_field, fold_enumerator, fold_member, fold_parameter, fold_type_name}
 use Rattle.c_type_terms.specs.declared.ctype.CType.{CType}
 use Rattle.c_type_terms.specs.Types.{is_pointer, is_array, is_function}
 use Rattle.c_says.specs.declared.scope.Duration.TheVariants as duration
@@ -19,7 +25,7 @@ use Rattle.c_says.specs.declared.scope.Means.TheVariants as means
 use Rattle.c_says.specs.Scopes.{Name, Scope, look_up}
 use Rattle.c_says.specs.Typing.{Typed, type_of, constant_of}
 use Rattle.c_says.specs.Typing as says
-use Rattle.c_says.specs.Declares.{Says, DeclaratorSays, Saying}
+use Rattle.c_says.specs.Declares.{Says, DeclaratorSays, NamedSays, TypeSays, Laying, FieldSays, Saying, Counting}
 use Rattle.c_says.specs.Trees.{saying}
 use Rattle.c_means.specs.Parts.{Part, Level, Site}
 use Rattle.c_means.specs.Expressions.{integer_constant, floating_constant, character_constant, string_literal, function_name}
@@ -245,9 +251,24 @@ noting = saying {E = ExprNoted} typed_as noted_step
 unfoldable pub noted : Expr → ExprNoted
 noted e = fold_expr {c = Says ExprNoted} noting e
 
--- declarators and specifiers, as they stand among such expressions
+-- the others, as they stand among such expressions
 unfoldable pub declarator_noted : Declarator → DeclaratorSays
 declarator_noted x = fold_declarator {c = Says ExprNoted} noting x
 
 unfoldable pub specifier_noted : Specifier → Saying
 specifier_noted x = fold_specifier {c = Says ExprNoted} noting x
+
+unfoldable pub field_noted : Field → FieldSays
+field_noted x = fold_field {c = Says ExprNoted} noting x
+
+unfoldable pub enumerator_noted : Enumerator → Counting → Counting
+enumerator_noted x = fold_enumerator {c = Says ExprNoted} noting x
+
+unfoldable pub member_noted : MemberDeclaration → Laying
+member_noted x = fold_member {c = Says ExprNoted} noting x
+
+unfoldable pub parameter_noted : Parameter → NamedSays
+parameter_noted x = fold_parameter {c = Says ExprNoted} noting x
+
+unfoldable pub type_name_noted : TypeName → TypeSays
+type_name_noted x = fold_type_name {c = Says ExprNoted} noting x
