@@ -4,7 +4,7 @@ use Rattle.std.specs.Prelude.{map, option_map}
 use Rattle.c_tree.specs.declared.expr.Expr.{Expr}
 use Rattle.c_tree.specs.declared.unit.Declaration.{Declaration}
 use Rattle.c_tree.specs.declared.unit.ForStart.{ForStart}
-use Rattle.c_tree.specs.declared.unit.Initializer.{Initializer, fold-roll-Initializer}
+use Rattle.c_tree.specs.declared.unit.Initializer.{fold-roll-Initializer}
 use Rattle.c_tree.specs.declared.unit.Initializer.TheOpen as initial_open
 use Rattle.c_tree.specs.declared.unit.Initializer.TheVariants as initial
 use Rattle.c_tree.specs.declared.unit.Initializer.TheVariants.{rolls-Value as rolls-Initializer-Value}

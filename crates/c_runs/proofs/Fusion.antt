@@ -1,5 +1,5 @@
 -- What is noted of an expression has the part that the expression is worth: one induction over all trees.
-use Rattle.std.proofs.Common.{◌≡◌, ℕ, List, [], ◌∷◌, Option, Some, None, Bool, refl, sym, ap, ◌∙◌}
+use Rattle.std.proofs.Common.{◌≡◌, ℕ, List, [], ◌∷◌, Option, Some, None, refl, sym, ap, ◌∙◌}
 use Rattle.std.proofs.Math.Path.{fun_ext}
 use Rattle.std.specs.Prelude.{map, option_map}
 use Rattle.c_tree.specs.declared.expr.ArrayWord.{ArrayWord}
@@ -20,7 +20,7 @@ use Rattle.c_tree.specs.Folds.{DeclaratorLayer, FieldLayer, SpecifierLayer, Memb
 use Rattle.c_tree.specs.Folds.{TypeNameLayer}
 use Rattle.c_tree.proofs.Induction.{Each, Maybe, Steps, of_expr, of_type_name, of_declarator, of_specifier}
 use Rattle.c_tree.proofs.Induction.{of_parameter, of_field, of_enumerator, of_member_declaration}
-use Rattle.c_says.specs.Scopes.{Name, Scope, look_up}
+use Rattle.c_says.specs.Scopes.{Name, Scope}
 use Rattle.c_says.specs.Declares.{Says, Counting, DeclaratorSays, FieldSays, NamedSays, Laying, Saying, TypeSays}
 use Rattle.c_says.specs.Declares.{declarator_step, field_step}
 use Rattle.c_says.specs.Declares.{specifier_step, member_step, parameter_step, type_name_step}

@@ -1,16 +1,15 @@
 -- Worked rows: whole programs, and what their runs print and how they end.
-use Rattle.std.proofs.Common.{◌≡◌, ℕ, ◌+◌, ℤ, pos, negsuc, List, [], ◌∷◌, true, false, Bool, cond, Option, Some, None, refl}
+use Rattle.std.proofs.Common.{◌≡◌, ℕ, pos, negsuc, List, [], ◌∷◌, true, false, cond, Some, None, refl}
 use Rattle.std.specs.Prelude.{nat_eq}
 use Rattle.bit_words.specs.declared.run.Event.{Event}
-use Rattle.bit_words.specs.declared.run.Finish.{Finish}
 use Rattle.bit_words.specs.declared.run.Finish.TheVariants as finish
 use Rattle.bit_words.specs.declared.run.Happening.{Happening}
 use Rattle.bit_words.specs.declared.run.Happening.TheVariants as happening
-use Rattle.bit_words.specs.declared.run.Run.{Run}
 use Rattle.bit_words.specs.declared.run.Side.TheVariants as side
 use Rattle.bit_words.specs.declared.run.Undefined.TheVariants as undefined
 use Rattle.c_tree.specs.declared.expr.BinaryOperator.TheVariants as o
 use Rattle.c_tree.specs.declared.expr.TypeWord.TheVariants as w
+use Rattle.c_tree.specs.declared.expr.UnaryOperator.TheVariants as u
 use Rattle.c_type_terms.specs.Integers.{converted}
 use Rattle.c_type_terms.specs.Operators.{exact}
 use Rattle.c_tree.specs.Folds.{fold_specifier}
@@ -20,18 +19,23 @@ use Rattle.c_says.specs.Declarations.{function_by}
 use Rattle.c_says.proofs.Built.{all_say}
 use Rattle.c_means.specs.Parts.{World, Limits}
 use Rattle.printf_text.specs.Pieces.{pieces_from}
+use Rattle.c_says.specs.declared.scope.Rule.TheVariants as rule
+use Rattle.c_runs.specs.declared.breach.Breach.{Breach}
+use Rattle.c_runs.specs.declared.breach.BrokenRule.{BrokenRule}
+use Rattle.c_runs.specs.declared.breach.BrokenRule.TheVariants as broken
 use Rattle.c_runs.specs.declared.profile.LogText.TheVariants as log_
 use Rattle.c_runs.specs.declared.profile.Profile.{Profile}
 use Rattle.c_runs.specs.Notes.{ExprNoted, noting}
-use Rattle.c_runs.specs.Names.{Names, Word, Binding, Literal, ordinary, none}
+use Rattle.c_runs.specs.Names.{Names, Word, Literal, ordinary, none}
 use Rattle.c_runs.specs.Statements.{declares_by}
-use Rattle.c_runs.specs.Programs.{Program, Outer, in_order, with_function, declared_outer, main'}
+use Rattle.c_runs.specs.Programs.{Outer, in_order, with_function, declared_outer, main'}
 use Rattle.c_runs.specs.Runs.{Machine, run_of, met_of, level_of, room_of, unrolled_size}
 use Rattle.c_runs.specs.Checks.{breaches_of, has_main}
-use Rattle.c_runs.proofs.Scene.{OfExpr, OfDeclarator, OfSpecifier, OfParameter, OfStmt, OfInitial}
-use Rattle.c_runs.proofs.Scene.{int, text, the, op, un, set, element, increment, call, word, name, pointer, array, omitted, taking, parameter}
-use Rattle.c_runs.proofs.Scene.{does, block, returns, while, when, for, switch, case, otherwise, label, goto, break, continue}
-use Rattle.c_runs.proofs.Scene.{value, declare, braced, item_at, plain_item}
+use Rattle.c_runs.proofs.Scene.{OfExpr, OfDeclarator, OfSpecifier, OfParameter, OfStmt}
+use Rattle.c_runs.proofs.Scene.{int, text, the, op, un, set, element, increment, call, word, name, pointer, array, open_array, omitted, taking, parameter}
+use Rattle.c_runs.proofs.Scene.{does, block, returns, when, for, switch, case, otherwise, label, goto, break, continue}
+use Rattle.c_runs.proofs.Scene.{loop, returns_nothing}
+use Rattle.c_runs.proofs.Scene.{value, declare, braced, item_at, plain_item, static}
 
 -- ---- programs
 
@@ -55,13 +59,13 @@ declaring at n = record none { declares = record { at = at; word = ordinary n } 
 abbrev int_function : ℕ → Name → List OfParameter → List Name → List Literal → List OfStmt → Scope → Outer
 int_function at n ps uses literals xs s =
     with_function (function_by (all_say (fold_specifier {c = Says ExprNoted} noting) (word w.Int ∷ [])) (taking (name at n) ps).says s) None
-      (Some (block xs).says) (declaring at n) (record (declaring at n) { uses = words uses; literals = literals }) s
+    (Some (block xs).says) (declaring at n) (record (declaring at n) { uses = words uses; literals = literals }) s
 
 -- int printf(const char *, ...);
 abbrev printf_declared : Scope → Outer
 printf_declared s =
     declared_outer (declares_by (all_say (fold_specifier {c = Says ExprNoted} noting) (word w.Int ∷ []))
-      (record { declarator = (taking (name 1 printf') []).says; initial = None } ∷ []) s) (declaring 1 printf')
+    (record { declarator = (taking (name 1 printf') []).says; initial = None } ∷ []) s) (declaring 1 printf')
 
 abbrev void_parameter : OfParameter
 void_parameter = parameter (word w.Void ∷ []) omitted
@@ -169,7 +173,7 @@ descends = returns 53 (call 55 f' (op 0 o.Subtract x (int 1) ∷ []))
 abbrev deep : ℕ → Machine
 deep n = machine silent (
     int_function 5 f' (parameter (word w.Int ∷ []) (name 7 x') ∷ []) (f' ∷ []) []
-      (when 50 (op 0 o.Equal x (int 0)) (returns 51 (int 0)) ∷ descends ∷ [])
+    (when 50 (op 0 o.Equal x (int 0)) (returns 51 (int 0)) ∷ descends ∷ [])
     ∷ main_with (f' ∷ []) [] (returns 80 (call 85 f' (int n ∷ [])) ∷ []) ∷ [])
 
 pub row_eight_levels : (run_of (deep 6)).finish ≡ finish.Return (pos 0)
@@ -269,3 +273,168 @@ pub row_designators : (run_of (machine silent (main_with [] [] (
     ≡ finish.Return (pos 57)
 unfolding converted exact level_of
 row_designators = refl
+
+-- ---- void *malloc(unsigned long); void free(void *); int main(void) { char *x = malloc(4); *x = 65; free(x); *x = 66; return 0; }
+
+abbrev malloc' : Name
+malloc' = 109 ∷ 97 ∷ 108 ∷ 108 ∷ 111 ∷ 99 ∷ []
+
+abbrev free' : Name
+free' = 102 ∷ 114 ∷ 101 ∷ 101 ∷ []
+
+abbrev declared_function : ℕ → Name → List OfSpecifier → OfDeclarator → Scope → Outer
+declared_function at n ss d s =
+    declared_outer (declares_by (all_say (fold_specifier {c = Says ExprNoted} noting) ss)
+    (record { declarator = d.says; initial = None } ∷ []) s) (declaring at n)
+
+abbrev malloc_declared : Scope → Outer
+malloc_declared =
+    declared_function 2 malloc' (word w.Void ∷ [])
+    (pointer (taking (name 2 malloc') (parameter (word w.Unsigned ∷ word w.Long ∷ []) omitted ∷ [])))
+
+abbrev free_declared : Scope → Outer
+free_declared =
+    declared_function 3 free' (word w.Void ∷ []) (taking (name 3 free') (parameter (word w.Void ∷ []) (pointer omitted) ∷ []))
+
+abbrev giving : ℕ → ℕ → World
+giving place answer = record { word = λ p. cond (nat_eq p place) answer 0; byte = λ a. 0 }
+
+abbrev pointed : ℕ → ℕ → OfExpr
+pointed at z = set (un at u.Indirection x) (int z)
+
+-- the places of `malloc`, `free` and `main` come first, then the object; the call's answer is the next
+abbrev dangling : ℕ → Machine
+dangling answer = machine (giving 5 answer) (malloc_declared ∷ free_declared ∷ main_with (malloc' ∷ free' ∷ []) [] (
+    declare (word w.Char ∷ []) (pointer (name 20 x')) (Some (value (call 25 malloc' (int 4 ∷ []))))
+    ∷ does (pointed 30 65) ∷ does (call 35 free' (x ∷ [])) ∷ does (pointed 40 66) ∷ returns 80 (int 0) ∷ []) ∷ [])
+
+pub row_dangling_write : (run_of (dangling 1)).finish ≡ finish.Stopped undefined.Dereference 40
+unfolding converted exact level_of
+row_dangling_write = refl
+
+pub row_malloc_fails : (run_of (dangling 0)).finish ≡ finish.Stopped undefined.Dereference 30
+unfolding converted exact level_of
+row_malloc_fails = refl
+
+pub row_heap_places : met_of (dangling 1) ≡ 1 ∷ 2 ∷ 3 ∷ 4 ∷ 5 ∷ []
+unfolding converted exact level_of
+row_heap_places = refl
+
+-- ---- free(&x) of an automatic object
+
+pub row_free_of_local : (run_of (machine silent (free_declared ∷ main_with (free' ∷ []) [] (
+    declare (word w.Int ∷ []) (name 20 x') None ∷ does (call 35 free' (un 0 u.Address x ∷ [])) ∷ returns 80 (int 0) ∷ []) ∷ []))).finish
+    ≡ finish.Stopped undefined.Free 35
+unfolding converted exact level_of
+row_free_of_local = refl
+
+-- ---- char x[] = "ab"; printf("%s\n", x), and what its event shows; a static local keeps its value
+
+abbrev text_line : OfExpr
+text_line = text 40 (37 ∷ 115 ∷ 10 ∷ [])
+
+abbrev texts : Machine
+texts = machine silent (printf_declared ∷ main_with (printf' ∷ [])
+    (record { at = 40; text = Some (37 ∷ 115 ∷ 10 ∷ []) } ∷ record { at = 25; text = Some (97 ∷ 98 ∷ []) } ∷ []) (
+    declare (word w.Char ∷ []) (open_array (name 20 x')) (Some (value (text 25 (97 ∷ 98 ∷ []))))
+    ∷ declare (word w.Int ∷ []) (name 28 f') (Some (value (int 9)))
+    ∷ does (call 70 printf' (text_line ∷ x ∷ [])) ∷ returns 80 (int 0) ∷ []) ∷ [])
+
+pub row_text : (run_of texts).printed ≡ 97 ∷ 98 ∷ 10 ∷ []
+unfolding converted exact level_of pieces_from
+row_text = refl
+
+pub row_watched : happenings (run_of texts).events ≡ happening.Call 70 ∷ happening.Print 70 3 (pos 9 ∷ []) ∷ []
+unfolding converted exact level_of pieces_from
+row_watched = refl
+
+-- ---- int f(void) { static int x = 5; x = x + 1; return x; } int main(void) { f(); return f(); }
+
+abbrev keeping : Machine
+keeping = machine silent (
+    int_function 5 f' (void_parameter ∷ []) [] []
+    (declare (static ∷ word w.Int ∷ []) (name 7 x') (Some (value (int 5))) ∷ adds 1 ∷ returns 8 x ∷ [])
+    ∷ main_with (f' ∷ []) [] (does (call 60 f' []) ∷ returns 80 (call 85 f' []) ∷ []) ∷ [])
+
+pub row_static_local : (run_of keeping).finish ≡ finish.Return (pos 7)
+unfolding converted exact level_of
+row_static_local = refl
+
+pub row_static_accepted : breaches_of keeping ≡ []
+unfolding converted exact level_of
+row_static_accepted = refl
+
+-- ---- an outside function: int f(void); int main(void) { return f(); } where the word of the call's first place is 2^32 - 5
+
+abbrev asking : Machine
+asking = machine (giving 3 4294967291) (
+    declared_function 5 f' (word w.Int ∷ []) (taking (name 5 f') (void_parameter ∷ []))
+    ∷ main_with (f' ∷ []) [] (returns 80 (call 85 f' []) ∷ []) ∷ [])
+
+pub row_outside_answer : (run_of asking).finish ≡ finish.Return (negsuc 4)
+unfolding converted exact level_of
+row_outside_answer = refl
+
+-- ---- int x = 0; do { x = x + 1; if (x == 2) continue; } while (x < 3); return x;
+
+abbrev rounds : ℕ → Machine
+rounds n = machine silent (main_with [] [] (
+    declare (word w.Int ∷ []) (name 20 x') (Some (value (int 0)))
+    ∷ loop 30 (block (adds 1 ∷ when 31 (op 0 o.Equal x (int 2)) (continue 32) ∷ [])) (op 0 o.Less x (int n)) ∷ returns 80 x ∷ []) ∷ [])
+
+pub row_do : (run_of (rounds 3)).finish ≡ finish.Return (pos 3)
+unfolding converted exact level_of
+row_do = refl
+
+pub row_do_left : (run_of (rounds 9)).finish ≡ finish.Left 30
+unfolding converted exact level_of
+row_do_left = refl
+
+-- ---- a value that is missing: used, and not used
+
+abbrev missing : OfStmt → Machine
+missing s = machine silent (
+    int_function 5 f' (void_parameter ∷ []) [] [] [] ∷ main_with (f' ∷ []) [] (s ∷ returns 80 (int 0) ∷ []) ∷ [])
+
+pub row_missing_unused : (run_of (missing (does (call 60 f' [])))).finish ≡ finish.Return (pos 0)
+unfolding converted exact level_of
+row_missing_unused = refl
+
+pub row_missing_used : (run_of (missing (returns 61 (call 60 f' [])))).finish ≡ finish.Stopped undefined.MissingValue 60
+unfolding converted exact level_of
+row_missing_used = refl
+
+-- ---- what is refused
+
+abbrev faulty : List OfStmt → Machine
+faulty xs = machine silent (printf_declared ∷ main_with (printf' ∷ []) line_literal xs ∷ [])
+
+abbrev broken_at : ℕ → BrokenRule → List Breach
+broken_at at r = record { at = at; rule = r } ∷ []
+
+-- `break` outside of a loop
+pub row_break_refused : breaches_of (faulty (break 50 ∷ [])) ≡ broken_at 50 broken.BadGoto
+unfolding converted exact level_of pieces_from
+row_break_refused = refl
+
+-- a `goto` back
+pub row_goto_refused : breaches_of (faulty (label 50 f' (does (int 0)) ∷ goto 60 f' ∷ [])) ≡ broken_at 60 broken.BadGoto
+unfolding converted exact level_of pieces_from
+row_goto_refused = refl
+
+-- two cases of one value
+pub row_case_refused :
+    breaches_of (faulty (switch 50 (int 1) (block (case 51 (int 1) (break 52) ∷ case 53 (int 1) (break 54) ∷ [])) ∷ []))
+    ≡ broken_at 53 broken.BadGoto
+unfolding converted exact level_of pieces_from
+row_case_refused = refl
+
+-- an argument too few
+pub row_format_refused : breaches_of (faulty (does (call 70 printf' (line ∷ [])) ∷ [])) ≡ broken_at 70 broken.FormatArgument
+unfolding converted exact level_of pieces_from
+row_format_refused = refl
+
+-- `return` without a value
+pub row_return_refused : breaches_of (faulty (returns_nothing 55 ∷ [])) ≡ broken_at 55 (broken.Typing rule.TypeMismatch)
+unfolding converted exact level_of pieces_from
+row_return_refused = refl

@@ -1,31 +1,27 @@
 -- Programs of the worked rows: each tree is written once, beside what it is worth.
-use Rattle.std.proofs.Common.{◌≡◌, ℕ, ◌+◌, ℤ, pos, List, [], ◌∷◌, ◌++◌, false, Option, Some, None, refl, ap, ◌∙◌}
+use Rattle.std.proofs.Common.{◌≡◌, ℕ, List, [], ◌∷◌, false, Option, Some, None, ap, ◌∙◌}
 use Rattle.std.specs.Prelude.{map, option_map}
 use Rattle.c_lexer.specs.declared.token.IntegerType.TheVariants as integer_type
 use Rattle.c_tree.specs.declared.expr.BinaryOperator.{BinaryOperator}
 use Rattle.c_tree.specs.declared.expr.PostfixOperator.TheVariants as postfix_
+use Rattle.c_tree.specs.declared.expr.StorageClass.TheVariants as class
 use Rattle.c_tree.specs.declared.expr.TypeWord.{TypeWord}
-use Rattle.c_tree.specs.declared.expr.TypeWord.TheVariants as w
 use Rattle.c_tree.specs.declared.expr.UnaryOperator.{UnaryOperator}
-use Rattle.c_tree.specs.declared.unit.Declaration.{Declaration}
 use Rattle.c_tree.specs.declared.unit.Designator.TheVariants as designator
 use Rattle.c_tree.specs.declared.unit.ForStart.TheVariants as start_
 use Rattle.c_tree.specs.declared.unit.InitDeclarator.{InitDeclarator}
-use Rattle.c_tree.specs.declared.unit.Initializer.{Initializer}
 use Rattle.c_tree.specs.declared.unit.Initializer.TheVariants as initial
 use Rattle.c_tree.specs.declared.unit.Stmt.TheVariants as tree
 use Rattle.c_tree.specs.Folds.{fold_expr, fold_declarator, fold_specifier, fold_parameter}
-use Rattle.c_says.specs.Scopes.{Name, Scope}
+use Rattle.c_says.specs.Scopes.{Name}
 use Rattle.c_says.specs.Declares.{Says}
 use Rattle.c_says.proofs.Built.{Built, trees, all_say, all_are}
 use Rattle.c_says.proofs.Built as built
 use Rattle.c_runs.specs.Notes.{ExprNoted, noted, noting, declarator_noted, specifier_noted}
-use Rattle.c_runs.specs.Items.{Item, Code}
 use Rattle.c_says.specs.Initials.{ToElement}
-use Rattle.c_runs.specs.Initials.{Initially, initially, listed_item, listed, value_initially, list_initially}
+use Rattle.c_runs.specs.Initials.{initially, listed_item, listed, value_initially, list_initially}
 use Rattle.c_runs.specs.Statements.{stmt, code, compound, labeled, case_labeled, default_labeled, if_of, switch_of, while_of, do_of}
-use Rattle.c_runs.specs.Statements.{for_of, goto_of, continue_of, break_of, return_of, maybe_value, declares_by, declaring, Declaring}
-use Rattle.c_runs.specs.Statements.{declaration}
+use Rattle.c_runs.specs.Statements.{for_of, goto_of, continue_of, break_of, return_of, maybe_value, declares_by, declaring}
 use Rattle.c_runs.specs.Items.{node}
 use Rattle.c_runs.proofs.Equations as eqs
 
@@ -86,6 +82,12 @@ pointer d = built.pointer noting 0 [] d
 
 abbrev pub array : ℕ → OfDeclarator → OfDeclarator
 array n d = built.array noting 0 d [] (Some (int n))
+
+abbrev pub open_array : OfDeclarator → OfDeclarator
+open_array d = built.array noting 0 d [] None
+
+abbrev pub static : OfSpecifier
+static = built.storage noting 0 class.Static
 
 abbrev pub omitted : OfDeclarator
 omitted = built.omitted noting
@@ -198,6 +200,17 @@ break at = record { tree = tree.Break at; says = code (break_of at) []; is = eqs
 abbrev pub continue : ℕ → OfStmt
 continue at = record { tree = tree.Continue at; says = code (continue_of at) []; is = eqs.does-Continue at }
 
+abbrev pub loop : ℕ → OfStmt → OfExpr → OfStmt
+loop at b x = record {
+  tree = tree.Do at b.tree x.tree;
+  says = do_of at b.says x.says;
+  is = eqs.does-Do at b.tree x.tree ∙ ap (λ e. do_of at e (noted x.tree)) b.is
+      ∙ ap (do_of at b.says) (noted_is x);
+}
+
+abbrev pub returns_nothing : ℕ → OfStmt
+returns_nothing at = record { tree = tree.Return at None; says = code (return_of at None) []; is = eqs.does-Return at None }
+
 -- ---- a declaration of one name
 
 abbrev pub OfInitial : Type 0
@@ -248,7 +261,7 @@ declare ss d x = record {
   is = eqs.does-Declared (record { specifiers = trees (fold_specifier {c = Says ExprNoted} noting) ss; declarators = one d x ∷ [] })
       ∙ ap (λ fs. code (λ c. declares_by fs (declaring (one d x) ∷ []) c.scope) []) (specifiers_are ss)
       ∙ ap (λ f. code (λ c. declares_by (all_say (fold_specifier {c = Says ExprNoted} noting) ss)
-          (record { declarator = f; initial = option_map initially (built.tree_if initially x) } ∷ []) c.scope) []) (declarator_is d)
+      (record { declarator = f; initial = option_map initially (built.tree_if initially x) } ∷ []) c.scope) []) (declarator_is d)
       ∙ ap (λ i. code (λ c. declares_by (all_say (fold_specifier {c = Says ExprNoted} noting) ss)
-          (record { declarator = d.says; initial = i } ∷ []) c.scope) []) (built.is_if initially x);
+      (record { declarator = d.says; initial = i } ∷ []) c.scope) []) (built.is_if initially x);
 }

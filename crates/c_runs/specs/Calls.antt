@@ -1,18 +1,16 @@
 -- What calls do that aren't by body: log calls, identity calls, `exit`, `abort`, `malloc`, `calloc`, `free`, and functions outside. A call
 -- has four places behind those of its arguments: of the answer, of how much is filled, of what is filled, and of whether filling fails;
 -- then one for each `%p` of a log call's format.
-use Rattle.std.specs.Prelude.{ℕ, zero, suc, ◌+◌, ◌-◌, ◌*◌, ◌%◌, ◌^◌, ℤ, pos, negsuc, min, Bool, true, false, cond, not, ◌&&◌, ◌||◌, nat_eq, nat_le, nat_lt, List, [], ◌∷◌, ◌++◌, length, drop, Option, Some, None, Result, Ok, Err, slice_get, unwrap_or}
+use Rattle.std.specs.Prelude.{ℕ, zero, suc, ◌+◌, ◌-◌, ◌*◌, ◌%◌, ◌^◌, ℤ, pos, negsuc, min, Bool, true, false, cond, not, ◌&&◌, nat_eq, nat_lt, List, [], ◌∷◌, ◌++◌, length, drop, Option, Some, None, Result, Ok, Err, slice_get, unwrap_or}
 use Rattle.bit_words.specs.declared.run.Finish.{Finish}
 use Rattle.bit_words.specs.declared.run.Finish.TheVariants as finish
 use Rattle.bit_words.specs.declared.run.Happening.TheVariants as happening
 use Rattle.bit_words.specs.declared.run.Undefined.{Undefined}
 use Rattle.bit_words.specs.declared.run.Undefined.TheVariants as undefined
-use Rattle.bit_words.specs.declared.width.Width.{Width}
 use Rattle.bit_words.specs.declared.width.Width.TheVariants as width
 use Rattle.bit_words.specs.Words.{word}
 use Rattle.printf_text.specs.declared.piece.Arg.{Arg}
 use Rattle.printf_text.specs.declared.piece.Arg.TheVariants as arg
-use Rattle.printf_text.specs.declared.piece.Conversion.{Conversion}
 use Rattle.printf_text.specs.declared.piece.Form.{Form}
 use Rattle.printf_text.specs.declared.piece.Form.TheVariants as form
 use Rattle.printf_text.specs.declared.piece.Piece.{Piece}
@@ -34,14 +32,13 @@ use Rattle.c_type_terms.specs.Integers as integers
 use Rattle.c_store.specs.declared.object.ObjectKind.TheVariants as object
 use Rattle.c_store.specs.Store.{Store, start, object_of, offset_of, object_size, make, end, zero_range, lay}
 use Rattle.c_store.specs.Access.{is_live, can_access, can_write, can_free}
-use Rattle.c_says.specs.declared.scope.Duration.{Duration}
 use Rattle.c_says.specs.declared.scope.Duration.TheVariants as duration
 use Rattle.c_says.specs.declared.scope.Entry.{Entry}
 use Rattle.c_says.specs.declared.scope.Means.{Means}
 use Rattle.c_says.specs.declared.scope.Means.TheVariants as means
-use Rattle.c_says.specs.Scopes.{Name, Block, Scope}
+use Rattle.c_says.specs.Scopes.{Block}
 use Rattle.c_means.specs.declared.kind.Kind.TheVariants as k
-use Rattle.c_means.specs.Parts.{State, Env, Level, Site, entered, note, print, meet, with_store}
+use Rattle.c_means.specs.Parts.{State, Env, Level, Site, note, print, meet, with_store}
 use Rattle.c_means.specs.Values.{address, bytes_of, class_in, converted_to}
 use Rattle.c_means.specs.Objects.{value_at}
 use Rattle.c_means.specs.Expressions.{object_number}
@@ -191,8 +188,8 @@ arguments_of l (piece.Converted c ∷ ps) xs p s =
     let ys = behind_star c.width xs in
     let zs = behind_star c.precision ys in
     before_args (star_args c.width xs ++ star_args c.precision ys)
-      (formed_arg l c.form (size_of (negsuc 0) c.precision (star_args c.precision ys)) (first_value zs) p s)
-      (arguments_of l ps (drop 1 zs) (p + pointer_places c.form) s)
+    (formed_arg l c.form (size_of (negsuc 0) c.precision (star_args c.precision ys)) (first_value zs) p s)
+    (arguments_of l ps (drop 1 zs) (p + pointer_places c.form) s)
 
 abbrev pub text_with : List Piece → Option (List Arg) → Option (List ℕ)
 text_with ps None = None
@@ -283,7 +280,7 @@ prints l named g env [] d = answers_int g (pos 0) d
 prints l named g env (b ∷ bs) d =
     let text = b ∷ bs in
     answers_int g (pos (length text))
-      (print text (note (happening.Print g.at (length text) (seen_all l env d.store (watched named g))) d))
+    (print text (note (happening.Print g.at (length text) (seen_all l env d.store (watched named g))) d))
 
 abbrev pub prints_if : Level → List Entry → Site → Env → Option (List ℕ) → State → State
 prints_if l named g env None d = stopped g.at undefined.Dereference d
@@ -293,7 +290,7 @@ abbrev pub log_call : Level → List Entry → LogText → Site → Env → List
 log_call l named f g env vs base d =
     let ps = log_pieces f g in
     prints_if l named g env (text_with ps (arguments_of l ps (drop (before_format f) (spoken g.types vs)) (base + 4) d.store))
-      (meets (base + 4) (pointers_in ps) d)
+    (meets (base + 4) (pointers_in ps) d)
 
 -- ---- identity calls
 
@@ -309,8 +306,8 @@ as_number z = word width.W64 z
 abbrev pub heap_object : Level → Site → ℕ → ℕ → Bool → State → State
 heap_object l g n q zeroes d =
     cond (nat_lt l.limits.heap n) (finished (finish.Left g.at) d)
-      (cond (nat_eq (asked l q) 0) (answers g (pos 0) (meet q d))
-        (answers g (pos (start q)) (meet q (with_store (zeroed_if zeroes (make q (record { kind = object.Heap; size = n }) d.store)) d))))
+    (cond (nat_eq (asked l q) 0) (answers g (pos 0) (meet q d))
+    (answers g (pos (start q)) (meet q (with_store (zeroed_if zeroes (make q (record { kind = object.Heap; size = n }) d.store)) d))))
   where
     zeroed_if : Bool → Store → Store
     zeroed_if true s = zero_range (start q) n s
@@ -363,7 +360,7 @@ pointed (Some t) = target_of t
 abbrev pub outside_pointer : Level → Bool → Site → ℕ → State → State
 outside_pointer l never_null g q d =
     cond (nat_eq (asked l q) 0 && not never_null) (answers g (pos 0) d)
-      (answers g (pos (start q)) (with_store (outside_object l g (pointed g.ctype) q d.store) d))
+    (answers g (pos (start q)) (with_store (outside_object l g (pointed g.ctype) q d.store) d))
 
 abbrev pub outside_answer : Class → Level → Bool → Site → ℕ → State → State
 outside_answer class.Pointer l never_null g q d = outside_pointer l never_null g q (meet q d)
@@ -383,8 +380,8 @@ fills_at l q a n s = lay a n (λ i. l.world.byte (start (q + 2) + i)) s
 abbrev pub filled : Level → Site → ℕ → ℕ → ℕ → (State → State) → State → State
 filled l g q a n f d =
     cond (can_access d.store a n)
-      (cond (can_write d.store a n) (f (with_store (fills_at l q a n d.store) d)) (stopped g.at undefined.LiteralWrite d))
-      (stopped g.at undefined.Dereference d)
+    (cond (can_write d.store a n) (f (with_store (fills_at l q a n d.store) d)) (stopped g.at undefined.LiteralWrite d))
+    (stopped g.at undefined.Dereference d)
 
 abbrev pub is_odd : ℕ → Bool
 is_odd n = nat_eq (n % 2) 1
@@ -399,4 +396,4 @@ abbrev pub outside_call : Level → Option FillFunction → Bool → Site → Li
 outside_call l None never_null g vs q d = outside_answer (class_in g.ctype) l never_null g q d
 outside_call l (Some f) never_null g vs q d =
     fill_by f.answer l never_null g q (address (value_or_zero vs f.buffer))
-      (fill_count l q (as_number (value_or_zero vs f.length))) d
+    (fill_count l q (as_number (value_or_zero vs f.length))) d

@@ -1,7 +1,7 @@
 -- The rules that an accepted program keeps: those of needed declarations and of the functions that are reached, and those that a log,
 -- identity or filling function has by the profile. `breaches_of` lists what is broken; a program is accepted where `main` is one and the
 -- list is empty.
-use Rattle.std.specs.Prelude.{◌≡◌, ℕ, zero, suc, Bool, true, false, cond, not, ◌&&◌, ◌||◌, nat_eq, List, [], ◌∷◌, ◌++◌, length, drop, Option, Some, None, is_some, Result, Ok, Err, slice_get, unwrap_or}
+use Rattle.std.specs.Prelude.{◌≡◌, ℕ, suc, Bool, true, false, not, ◌&&◌, nat_eq, List, [], ◌∷◌, ◌++◌, length, drop, Option, Some, None, Result, Ok, Err, slice_get, unwrap_or}
 use Rattle.printf_text.specs.declared.kind.Kind.{Kind}
 use Rattle.printf_text.specs.declared.kind.Kind.TheVariants as kind
 use Rattle.printf_text.specs.declared.parse.FormatFault.{FormatFault}
@@ -22,20 +22,19 @@ use Rattle.c_says.specs.declared.scope.Entry.{Entry}
 use Rattle.c_says.specs.declared.scope.Means.{Means}
 use Rattle.c_says.specs.declared.scope.Means.TheVariants as means
 use Rattle.c_says.specs.declared.scope.Rule.TheVariants as rule
-use Rattle.c_says.specs.Scopes.{Name, Scope, entry_in}
+use Rattle.c_says.specs.Scopes.{Scope, entry_in}
 use Rattle.c_says.specs.Typing.{incomplete}
 use Rattle.c_says.specs.Declarations.{tentative_type}
-use Rattle.c_means.specs.Parts.{Level, Site, World, Limits}
+use Rattle.c_means.specs.Parts.{Level, Site}
 use Rattle.c_runs.specs.declared.breach.Breach.{Breach}
 use Rattle.c_runs.specs.declared.breach.BrokenRule.{BrokenRule}
 use Rattle.c_runs.specs.declared.breach.BrokenRule.TheVariants as broken
 use Rattle.c_runs.specs.declared.profile.FillFunction.{FillFunction}
 use Rattle.c_runs.specs.declared.profile.LogText.{LogText}
 use Rattle.c_runs.specs.declared.profile.LogText.TheVariants as log_
-use Rattle.c_runs.specs.declared.profile.Profile.{Profile}
 use Rattle.c_runs.specs.Items.{Lasting, Item, breach, breach_if}
-use Rattle.c_runs.specs.Rules.{Plain, PlainPointer, PlainInteger, plain_type, plain_result, same_plain, Rules, LogCall, IdentityCall, BodyCall, LibraryCall, PreludeCall, OutsideCall, fill_of}
-use Rattle.c_runs.specs.Programs.{Function, Outer, Program, functions_of, function_named, main', reached, needed}
+use Rattle.c_runs.specs.Rules.{Plain, PlainInteger, plain_type, plain_result, same_plain, Rules, LogCall, IdentityCall, BodyCall, LibraryCall, PreludeCall, OutsideCall, fill_of}
+use Rattle.c_runs.specs.Programs.{Function, Outer, reached, needed}
 use Rattle.c_runs.specs.Runs.{Machine, rule_of, bare, main_of}
 
 abbrev pub mismatch : BrokenRule

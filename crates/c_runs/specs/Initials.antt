@@ -1,5 +1,5 @@
 -- Initializers (C99 6.7.8): what they do to the object that is declared. What is said of them stands in `c_says`.
-use Rattle.std.specs.Prelude.{ℕ, zero, suc, ◌+◌, ℤ, Bool, true, false, cond, List, [], ◌∷◌, ◌++◌, map, Option, Some, None, Result, Ok, Err, length, unwrap_or, is_some, not, ◌&&◌}
+use Rattle.std.specs.Prelude.{ℕ, zero, suc, ◌+◌, ℤ, Bool, true, false, cond, List, [], ◌∷◌, ◌++◌, map, Option, Some, None, length, unwrap_or, is_some, not, ◌&&◌}
 use Rattle.c_tree.specs.declared.unit.Designator.{Designator}
 use Rattle.c_tree.specs.declared.unit.Designator.TheVariants as designator
 use Rattle.c_tree.specs.declared.unit.Initializer.{Initializer, fold-Initializer}
@@ -15,7 +15,7 @@ use Rattle.c_says.specs.Typing.{no_constant}
 use Rattle.c_says.specs.Initials.{Part, Filling, Fills, InitialSaid, Designates, ToMember, ToElement, value_says, list_says, item_says, filling_of, is_text_of}
 use Rattle.c_says.specs.Declarations.{InitialSays}
 use Rattle.c_says.specs.Units.{initialises}
-use Rattle.c_means.specs.Parts.{State, Outcome, Level, Site}
+use Rattle.c_means.specs.Parts.{Level, Site}
 use Rattle.c_means.specs.Values.{bytes_of, converted_to, bytes_of_value}
 use Rattle.c_runs.specs.declared.breach.Breach.{Breach}
 use Rattle.c_runs.specs.declared.breach.BrokenRule.TheVariants as broken
@@ -107,8 +107,8 @@ sets_text tables p a bytes = lays_text (a + p.offset) (text_room tables p.type b
 abbrev pub sets : Part → Noted → ℕ → Acts
 sets p x a l env base d =
     cond (is_text_of p.type x.part.typed)
-      (sets_text x.part.typed.after.tables p a (unwrap_or (x.part.text l) []) d)
-      (with_value (x.part.run l env base d) (stores x.part.typed.after.tables p.type (a + p.offset)))
+    (sets_text x.part.typed.after.tables p a (unwrap_or (x.part.text l) []) d)
+    (with_value (x.part.run l env base d) (stores x.part.typed.after.tables p.type (a + p.offset)))
 
 -- each expression in the scope that those before it leave
 abbrev pub evaluated : List Element → Scope → List Noted

@@ -135,7 +135,6 @@ tag_declared (Some t) = declaring t.at (tagged t.name)
 abbrev pub tag_used : TagName → Names
 tag_used t = record (using (tagged t.name)) { refers = record { at = t.at; word = tagged t.name } ∷ [] }
 
-
 abbrev pub Every : Carrier
 Every = record {
   declarator = Names;

@@ -1,6 +1,6 @@
 -- What is told of an expression besides what it does: the calls in it, the functions that it calls, and whether it is an address
 -- constant (C99 6.6p9). `noted` is the fold; its `part` is what the expression is worth.
-use Rattle.std.specs.Prelude.{ℕ, ◌+◌, Bool, true, false, cond, ◌&&◌, ◌||◌, List, [], ◌∷◌, ◌++◌, Option, Some, None, is_some}
+use Rattle.std.specs.Prelude.{ℕ, Bool, true, false, ◌&&◌, ◌||◌, List, [], ◌∷◌, ◌++◌, Option, Some, None, is_some}
 use Rattle.c_tree.specs.declared.expr.BinaryOperator.{BinaryOperator}
 use Rattle.c_tree.specs.declared.expr.BinaryOperator.TheVariants as o
 use Rattle.c_tree.specs.declared.expr.Expr.{Expr}
@@ -24,7 +24,6 @@ use Rattle.c_says.specs.declared.scope.Means.{Means}
 use Rattle.c_says.specs.declared.scope.Means.TheVariants as means
 use Rattle.c_says.specs.Scopes.{Name, Scope, look_up}
 use Rattle.c_says.specs.Typing.{Typed, type_of, constant_of}
-use Rattle.c_says.specs.Typing as says
 use Rattle.c_says.specs.Declares.{Says, DeclaratorSays, NamedSays, TypeSays, Laying, FieldSays, Saying, Counting}
 use Rattle.c_says.specs.Trees.{saying}
 use Rattle.c_means.specs.Parts.{Part, Level, Site}
@@ -75,7 +74,6 @@ over_three x y z = record {
 }
 
 -- ---- address constants (C99 6.6p9)
-
 
 abbrev pub is_constant : Part → Bool
 is_constant p = is_some (constant_of p.typed)
@@ -147,7 +145,7 @@ cast_noted p x = valued_over (is_static_value x && is_static_pointer (type_of p.
 abbrev pub choice_noted : ℕ → Noted → Noted → Noted → Noted
 choice_noted at c x y =
     valued_over (is_constant c.part && is_static_value x && is_static_value y) (choice at c.part x.part y.part)
-      (over_three c.notes x.notes y.notes)
+    (over_three c.notes x.notes y.notes)
 
 -- its operand isn't evaluated; the calls in it are those that keep the rules of calls
 abbrev pub unevaluated : Notes → Notes

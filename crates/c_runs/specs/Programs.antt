@@ -1,5 +1,5 @@
 -- Programs: their external declarations in order, the functions that are reached, and the declarations that are needed (C99 6.9).
-use Rattle.std.specs.Prelude.{ℕ, zero, suc, ◌+◌, ◌*◌, Bool, true, false, cond, not, ◌&&◌, ◌||◌, nat_eq, nat_lt, List, [], ◌∷◌, ◌++◌, length, map, Option, Some, None, is_some, unwrap_or}
+use Rattle.std.specs.Prelude.{ℕ, zero, suc, ◌+◌, ◌*◌, Bool, false, cond, ◌||◌, nat_eq, List, [], ◌∷◌, ◌++◌, length, map, Option, Some, None, is_some, unwrap_or}
 use Rattle.std.specs.Str.{bytes_eq}
 use Rattle.c_tree.specs.declared.unit.Body.{Body}
 use Rattle.c_tree.specs.declared.unit.Body.TheVariants as body
@@ -13,16 +13,13 @@ use Rattle.c_says.specs.declared.scope.Entry.{Entry}
 use Rattle.c_says.specs.declared.scope.Means.{Means}
 use Rattle.c_says.specs.declared.scope.Means.TheVariants as means
 use Rattle.c_says.specs.Scopes.{Name, Scope, empty, entry_in, leave}
-use Rattle.c_says.specs.Declares.{Saying, DeclaratorSays}
 use Rattle.c_says.specs.Declarations.{FunctionSaid, function_by}
-use Rattle.c_runs.specs.declared.breach.Breach.{Breach}
-use Rattle.c_runs.specs.declared.breach.BrokenRule.TheVariants as broken
 use Rattle.c_runs.specs.declared.profile.Profile.{Profile}
 use Rattle.c_runs.specs.Notes.{declarator_noted, specifier_noted}
-use Rattle.c_runs.specs.Items.{Item, Code, Context, Lasting, breach, typing, nothing}
+use Rattle.c_runs.specs.Items.{Item, Code, Context, Lasting, typing, nothing}
 use Rattle.c_runs.specs.Statements.{stmt, declaration}
-use Rattle.c_runs.specs.Names.{Names, Word, Binding, Literal, same_word, ordinary, scoped, none, with_name, settled, ◌then◌, external_names, specifier_of, declarator_names, all_of}
-use Rattle.c_runs.specs.Rules.{log_of, identity_index, is_among}
+use Rattle.c_runs.specs.Names.{Names, Word, Binding, Literal, same_word, ordinary, none, with_name, settled, ◌then◌, external_names, specifier_of, declarator_names, all_of}
+use Rattle.c_runs.specs.Rules.{log_of, identity_index}
 use Rattle.c_runs.specs.Calls.{inserted, is_integer_object}
 
 -- ---- functions
@@ -117,7 +114,7 @@ declared_outer x names = record { item = x; names = names; function = None; afte
 abbrev pub outer : External → Scope → Outer
 outer (external.Function specifiers declarator b) s =
     with_function (function_by (map specifier_noted specifiers) (declarator_noted declarator) s) (unread_in b) (code_in b)
-      (head_names specifiers declarator) (external_names (external.Function specifiers declarator b)) s
+    (head_names specifiers declarator) (external_names (external.Function specifiers declarator b)) s
 outer (external.Declared d) s = declared_outer (declaration d s) (external_names (external.Declared d))
 outer (external.Empty at) s = declared_outer (nothing s) none
 

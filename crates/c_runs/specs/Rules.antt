@@ -14,7 +14,6 @@ use Rattle.c_type_terms.specs.declared.tables.Prototype.TheVariants as prototype
 use Rattle.c_type_terms.specs.declared.tables.Signature.{Signature}
 use Rattle.c_type_terms.specs.declared.tables.Tables.{Tables}
 use Rattle.c_type_terms.specs.Types.{returned_of}
-use Rattle.c_says.specs.declared.scope.Entry.{Entry}
 use Rattle.c_says.specs.declared.scope.Means.{Means}
 use Rattle.c_says.specs.declared.scope.Means.TheVariants as means
 use Rattle.c_says.specs.Scopes.{Name, last_where}
@@ -159,7 +158,7 @@ free' = 102 ∷ 114 ∷ 101 ∷ 101 ∷ []
 abbrev pub library_named : Name → Option Library
 library_named name =
     cond (bytes_eq name exit') (Some Exit) (cond (bytes_eq name abort') (Some Abort) (cond (bytes_eq name malloc') (Some Malloc)
-      (cond (bytes_eq name calloc') (Some Calloc) (cond (bytes_eq name free') (Some Free) None))))
+    (cond (bytes_eq name calloc') (Some Calloc) (cond (bytes_eq name free') (Some Free) None))))
 
 abbrev pub size_plain : Option Plain
 size_plain = Some (PlainInteger int_.UnsignedLong)

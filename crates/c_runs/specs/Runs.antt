@@ -1,24 +1,15 @@
 -- The run of a program (C99 5.1.2.2, 6.5.2.2, 6.9.1): calls by body, by the depth that is left; the places of what lives throughout the run;
 -- the objects that are made before `main` is called; `run_of`, `room_of` and `unrolled_size`.
-use Rattle.std.specs.Prelude.{ℕ, zero, suc, ◌+◌, ◌-◌, ◌*◌, ◌%◌, ◌^◌, ℤ, pos, negsuc, min, Bool, true, false, cond, not, ◌&&◌, ◌||◌, nat_eq, nat_lt, List, [], ◌∷◌, ◌++◌, length, Option, Some, None, is_some, Result, Ok, Err, unwrap_or}
-use Rattle.std.specs.Str.{bytes_eq}
+use Rattle.std.specs.Prelude.{ℕ, zero, suc, ◌+◌, ◌-◌, ◌*◌, ◌%◌, ℤ, pos, Bool, true, false, cond, nat_eq, nat_lt, List, [], ◌∷◌, ◌++◌, length, Option, Some, None}
 use Rattle.bit_words.specs.declared.run.Finish.{Finish}
 use Rattle.bit_words.specs.declared.run.Finish.TheVariants as finish
 use Rattle.bit_words.specs.declared.run.Run.{Run}
-use Rattle.c_tree.specs.declared.unit.External.{External}
-use Rattle.c_type_terms.specs.declared.ctype.Base.TheVariants as base_
 use Rattle.c_type_terms.specs.declared.ctype.CType.{CType}
-use Rattle.c_type_terms.specs.declared.ctype.Derivation.{Derivation}
-use Rattle.c_type_terms.specs.declared.ctype.Derivation.TheVariants as d
-use Rattle.c_type_terms.specs.declared.ctype.IntegerKind.TheVariants as int_
 use Rattle.c_type_terms.specs.declared.tables.Tables.{Tables}
-use Rattle.c_type_terms.specs.Types.{class_of}
 use Rattle.c_store.specs.declared.object.ObjectKind.{ObjectKind}
 use Rattle.c_store.specs.declared.object.ObjectKind.TheVariants as object
 use Rattle.c_store.specs.Store.{Store, initial, start, make, zero_range, lay, write}
-use Rattle.c_says.specs.declared.scope.Duration.TheVariants as duration
 use Rattle.c_says.specs.declared.scope.Entry.{Entry}
-use Rattle.c_says.specs.declared.scope.Linkage.TheVariants as linkage
 use Rattle.c_says.specs.declared.scope.Linked.{Linked}
 use Rattle.c_says.specs.declared.scope.Means.{Means}
 use Rattle.c_says.specs.declared.scope.Means.TheVariants as means
@@ -26,16 +17,16 @@ use Rattle.c_says.specs.Scopes.{Name, Scope, entry_in, linked_as}
 use Rattle.c_says.specs.Declarations.{tentative_type, object_type}
 use Rattle.c_means.specs.declared.kind.Kind.{Kind}
 use Rattle.c_means.specs.declared.kind.Kind.TheVariants as k
-use Rattle.c_means.specs.Parts.{State, Env, World, Limits, Level, Site, Calls, entered, meet}
+use Rattle.c_means.specs.Parts.{State, World, Limits, Level, Site, Calls, entered, meet}
 use Rattle.c_means.specs.Values.{bytes_of}
 use Rattle.c_runs.specs.declared.profile.Profile.{Profile}
-use Rattle.c_runs.specs.Items.{Arrow, Made, Lasting, Item, born, dead, known, running, lived}
+use Rattle.c_runs.specs.Items.{Arrow, Made, Lasting, born, dead, known, running, lived}
 use Rattle.c_runs.specs.Initials.{stores, text_byte}
 use Rattle.c_runs.specs.Statements.{no_env}
-use Rattle.c_runs.specs.Names.{Names, Literal}
+use Rattle.c_runs.specs.Names.{Literal}
 use Rattle.c_runs.specs.Rules.{Taking, Rules, LogCall, IdentityCall, BodyCall, LibraryCall, PreludeCall, OutsideCall, rule_by, log_of, identity_index, fill_of, library_of, callee_taking, declared_taking, same_taking, is_among}
 use Rattle.c_runs.specs.Calls.{asked, finished, meets, log_call, log_pieces, pointers_in, identity_call, library_call, outside_call}
-use Rattle.c_runs.specs.Programs.{Function, Outer, Program, program_of, functions_of, function_named, main', reached, Needs, Text, needs_of, watched_lasting}
+use Rattle.c_runs.specs.Programs.{Function, Outer, Program, functions_of, function_named, main', Needs, Text, needs_of, watched_lasting}
 
 -- ---- what a run is of
 
@@ -127,7 +118,7 @@ abbrev pub by_body : Level → Function → List ℤ → ℕ → Store → ℕ �
 by_body l f vs base s count =
     let ms = frame f.inside base f.parameters in
     back (dead ms (lived f.body l (known ms no_env) (base + length f.parameters)
-      (passes f.inside.tables base f.parameters vs (born ms (entered s count)))))
+    (passes f.inside.tables base f.parameters vs (born ms (entered s count)))))
 
 abbrev pub body_room : Function → Level → ℕ
 body_room f l = length f.parameters + f.body.room l
@@ -149,7 +140,7 @@ abbrev pub rule_of : Machine → Site → Rules Function
 rule_of m g =
     let name = g.callee.name in
     rule_by (log_of m.profile name) (identity_index m.profile name) (function_named (functions_of m.program) name) (library_of g)
-      (prelude_of m (callee_taking g) name)
+    (prelude_of m (callee_taking g) name)
 
 -- ---- levels
 
@@ -350,7 +341,7 @@ abbrev pub makes_arguments : Machine → ℕ → Arrow
 makes_arguments m p d =
     let n = 8 * suc m.limits.arguments in
     points_to (start (suc p)) (suc (suc p)) (argument_count m p)
-      (zeroed_if true (suc p) n (object_at object.Outside (suc p) n (makes_strings m (suc (suc p)) m.limits.arguments d)))
+    (zeroed_if true (suc p) n (object_at object.Outside (suc p) n (makes_strings m (suc (suc p)) m.limits.arguments d)))
 
 abbrev pub main_state : Machine → List Entry → ℕ → Arrow
 main_state m (e ∷ f ∷ []) p d = makes_arguments m p (meets p (2 + m.limits.arguments) d)

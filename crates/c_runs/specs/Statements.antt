@@ -1,5 +1,5 @@
 -- What statements and declarations do (C99 6.7, 6.8): one function a form, over what stands in it. `stmt` is the fold.
-use Rattle.std.specs.Prelude.{ℕ, zero, suc, ◌+◌, ◌*◌, ℤ, Bool, true, false, cond, not, ◌&&◌, ◌||◌, nat_lt, nat_eq, List, [], ◌∷◌, ◌++◌, map, option_map, Option, Some, None, Result, Ok, Err, is_some}
+use Rattle.std.specs.Prelude.{ℕ, zero, suc, ◌+◌, ◌*◌, ℤ, Bool, true, false, cond, not, ◌&&◌, ◌||◌, nat_lt, List, [], ◌∷◌, ◌++◌, map, option_map, Option, Some, None, is_some}
 use Rattle.std.specs.Str.{bytes_eq}
 use Rattle.bit_words.specs.declared.run.Finish.TheVariants as finish
 use Rattle.bit_words.specs.declared.run.Happening.TheVariants as happening
@@ -11,7 +11,6 @@ use Rattle.c_tree.specs.declared.unit.ForStart.TheVariants as start_
 use Rattle.c_tree.specs.declared.unit.InitDeclarator.{InitDeclarator}
 use Rattle.c_tree.specs.declared.unit.Stmt.{Stmt, fold-Stmt}
 use Rattle.c_tree.specs.declared.unit.Stmt.TheOpen as open_
-use Rattle.c_type_terms.specs.declared.class.Class.{Class}
 use Rattle.c_type_terms.specs.declared.ctype.CType.{CType}
 use Rattle.c_type_terms.specs.declared.ctype.IntegerKind.{IntegerKind}
 use Rattle.c_type_terms.specs.declared.ctype.IntegerKind.TheVariants as int_
@@ -25,21 +24,20 @@ use Rattle.c_says.specs.declared.scope.Linkage.TheVariants as linkage
 use Rattle.c_says.specs.declared.scope.Means.{Means}
 use Rattle.c_says.specs.declared.scope.Means.TheVariants as means
 use Rattle.c_says.specs.declared.scope.Rule.TheVariants as rule
-use Rattle.c_says.specs.declared.shown.Shown.{Shown}
-use Rattle.c_says.specs.Scopes.{Name, Scope, enter, leave, in_file}
-use Rattle.c_says.specs.Typing.{Typed, type_of, constant_of, used, not_constant, condition_faults, is_assignable, fault_at}
+use Rattle.c_says.specs.Scopes.{Name, Scope, enter, leave}
+use Rattle.c_says.specs.Typing.{constant_of, used, not_constant, condition_faults, is_assignable}
 use Rattle.c_says.specs.Declares.{Said, Saying, Formed, DeclaratorSays, said_by}
 use Rattle.c_says.specs.Declarations.{Declared, declares, object_type, is_extern}
 use Rattle.c_means.specs.declared.kind.Kind.{Kind}
 use Rattle.c_means.specs.declared.kind.Kind.TheVariants as k
-use Rattle.c_means.specs.Parts.{State, Env, Outcome, Level, Site, note}
+use Rattle.c_means.specs.Parts.{Env, Level, note}
 use Rattle.c_means.specs.Values.{class_in, bytes_of, converted_to}
 use Rattle.c_means.specs.Operators.{value_type, kind_in}
 use Rattle.c_means.specs.Expressions.{on_branch}
 use Rattle.c_runs.specs.declared.breach.Breach.{Breach}
 use Rattle.c_runs.specs.declared.breach.BrokenRule.TheVariants as broken
 use Rattle.c_runs.specs.Notes.{Noted, ExprNoted, noted, declarator_noted, specifier_noted}
-use Rattle.c_runs.specs.Items.{Arrow, Acts, Made, Case, Lasting, Item, Label, Context, Code, breach, breach_if, typing, running, become, arrive, passes, with_value, nothing, followed, with_breaches, node, guarded, closed, without_cases, in_scope, opened, block_of, unchosen, sub, in_turn, labels_of, every_of, past_break, past_continue, past_switch, at_label, at_case, at_default, same}
+use Rattle.c_runs.specs.Items.{Arrow, Acts, Case, Lasting, Item, Label, Context, Code, breach, breach_if, typing, running, become, arrive, passes, with_value, nothing, followed, with_breaches, node, guarded, closed, without_cases, in_scope, opened, block_of, unchosen, sub, in_turn, labels_of, every_of, past_break, past_continue, past_switch, at_label, at_case, at_default, same}
 use Rattle.c_runs.specs.Initials.{Initial, Initially, initially, initialising_if, said_if}
 
 -- ---- a step that an expression takes
@@ -136,7 +134,7 @@ type_in_entry (Some e) = object_type e.means
 abbrev pub declared_item : ℕ → Bool → Option Initially → Declared → Declared → Item
 declared_item at defined i plain whole =
     with_breaches (typing whole.faults)
-      (declared_entry at whole.entry defined (initialising_if i (type_in_entry plain.entry) plain.after) whole.after)
+    (declared_entry at whole.entry defined (initialising_if i (type_in_entry plain.entry) plain.after) whole.after)
 
 -- without `extern`, or with an initializer, an object is defined (C99 6.9.2p1, p2)
 abbrev pub defines : Said → Option Initially → Bool
@@ -213,6 +211,7 @@ labeled at name body = record {
   where
     label : Label
     label = record { at = at; name = name }
+
     here : Context → Item
     here c = node (with_breaches (breach_if (stood_before at name c.every) at broken.BadGoto) (arrived (at_label name) (body.here c)))
 
@@ -275,8 +274,8 @@ tested x = record (plain x x.part.typed.after [] passes) { breaches = [] }
 abbrev pub if_runs : ℕ → Noted → Item → Item → Acts
 if_runs at x first second l env base d =
     with_value (x.part.run l env base d) (λ v. on_branch at v (λ b. one_of b
-      (first.run l env (base + x.part.room l))
-      (second.run l env (base + (x.part.room l + first.room l)))))
+    (first.run l env (base + x.part.room l))
+    (second.run l env (base + (x.part.room l + first.room l)))))
 
 -- C99 6.8.4.1p2; the whole statement is a block (C99 6.8.4p3)
 abbrev pub if_item : ℕ → Noted → Item → Item → Item
@@ -344,8 +343,8 @@ choose at kind v d = become kind (note (happening.Branch at (chosen_side kind v)
 abbrev pub switch_runs : ℕ → Noted → Item → Acts
 switch_runs at x body l env base d =
     with_value (x.part.run l env base d) (λ v d.
-      let z = converted (switch_kind x) v in
-      arrive past_switch (body.run l env (base + x.part.room l) (choose at (chosen body.cases z) z d)))
+    let z = converted (switch_kind x) v in
+    arrive past_switch (body.run l env (base + x.part.room l) (choose at (chosen body.cases z) z d)))
 
 -- C99 6.8.4.2
 abbrev pub switch_item : ℕ → Noted → Item → Item
@@ -395,10 +394,10 @@ turns_from at test body step l env zero base d =
     test.run l env base (λ b. one_of b (left_at at) (λ d. d)) d
 turns_from at test body step l env (suc n) base d =
     test.run l env base (λ b. one_of b
-      (λ d. running (λ d. running (turns_from at test body step l env n (base + turn_room test body step l))
-          (step.run l env (base + (test.item.room l + body.room l)) d))
-        (arrive past_continue (body.run l env (base + test.item.room l) d)))
-      (λ d. d)) d
+    (λ d. running (λ d. running (turns_from at test body step l env n (base + turn_room test body step l))
+    (step.run l env (base + (test.item.room l + body.room l)) d))
+    (arrive past_continue (body.run l env (base + test.item.room l) d)))
+    (λ d. d)) d
 
 -- what each turn takes, once more than there are turns
 abbrev pub each_turn : Item → Item
@@ -411,20 +410,20 @@ each_turn x = record x {
 abbrev pub looped : ℕ → Test → Item → Item → Item
 looped at test body step =
     acting (λ l env base d. arrive past_break (turns_from at test body step l env l.turns base d))
-      (each_turn (followed test.item (followed body step)))
+    (each_turn (followed test.item (followed body step)))
 
 -- C99 6.8.5.2: the test stands behind each turn
 abbrev pub rounds_from : ℕ → Item → Test → Level → Env → ℕ → ℕ → Arrow
 rounds_from at body test l env zero base d = left_at at d
 rounds_from at body test l env (suc n) base d =
     running (test.run l env (base + body.room l)
-        (λ b. one_of b (rounds_from at body test l env n (base + (body.room l + test.item.room l))) (λ d. d)))
-      (arrive past_continue (body.run l env base d))
+    (λ b. one_of b (rounds_from at body test l env n (base + (body.room l + test.item.room l))) (λ d. d)))
+    (arrive past_continue (body.run l env base d))
 
 abbrev pub repeated : ℕ → Item → Test → Item
 repeated at body test =
     acting (λ l env base d. arrive past_break (rounds_from at body test l env l.turns base d))
-      (each_turn (followed body test.item))
+    (each_turn (followed body test.item))
 
 -- `break` and `continue` in a loop are its own (C99 6.8.6.2, 6.8.6.3)
 abbrev pub in_loop : Scope → Context → Context
@@ -493,7 +492,7 @@ bare_return at c = jump (breach_if (not (returns_void c.result)) at (broken.Typi
 abbrev pub return_rule : ℕ → CType → CType → List Breach
 return_rule at t u =
     cond (is_floating t) (breach at (broken.Typing rule.FloatUsed))
-      (breach_if (is_void t || not (is_assignable t u)) at (broken.Typing rule.TypeMismatch))
+    (breach_if (is_void t || not (is_assignable t u)) at (broken.Typing rule.TypeMismatch))
 
 abbrev pub return_breaches : ℕ → Option CType → Option CType → List Breach
 return_breaches at None u = []

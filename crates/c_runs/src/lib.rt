@@ -6,6 +6,4 @@ mod breach;
 mod profile;
 
 pub use breach::{Breach, BrokenRule};
-pub use profile::{
-    FillAnswer, FillFunction, IdentityFunction, LogFunction, LogText, Profile,
-};
+pub use profile::{FillAnswer, FillFunction, IdentityFunction, LogFunction, LogText, Profile};
