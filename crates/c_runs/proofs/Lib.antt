@@ -1,0 +1,5 @@
+pub mod Equations
+pub mod NoteEquations
+pub mod Fusion
+pub mod Scene
+pub mod Rows

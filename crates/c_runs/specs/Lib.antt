@@ -1,0 +1,11 @@
+pub mod Notes
+pub mod Items
+pub mod Initials
+pub mod Statements
+pub mod Rules
+pub mod Calls
+pub mod Names
+pub mod Programs
+pub mod Runs
+pub mod Checks
+pub mod Prelude
