@@ -3,3 +3,4 @@ pub mod NoteEquations
 pub mod Fusion
 pub mod Scene
 pub mod Rows
+pub mod MoreRows

@@ -40,13 +40,13 @@ use Rattle.c_runs.proofs.Scene.{value, declare, braced, item_at, plain_item, sta
 
 -- ---- programs
 
-abbrev x' : Name
+abbrev pub x' : Name
 x' = 120 ∷ []
 
-abbrev f' : Name
+abbrev pub f' : Name
 f' = 102 ∷ []
 
-abbrev printf' : Name
+abbrev pub printf' : Name
 printf' = 112 ∷ 114 ∷ 105 ∷ 110 ∷ 116 ∷ 102 ∷ []
 
 abbrev words : List Name → List Word
@@ -57,22 +57,22 @@ abbrev declaring : ℕ → Name → Names
 declaring at n = record none { declares = record { at = at; word = ordinary n } ∷ [] }
 
 -- a function of type `int`, with what its body uses
-abbrev int_function : ℕ → Name → List OfParameter → List Name → List Literal → List OfStmt → Scope → Outer
+abbrev pub int_function : ℕ → Name → List OfParameter → List Name → List Literal → List OfStmt → Scope → Outer
 int_function at n ps uses literals xs s =
     with_function (function_by (all_say (fold_specifier {c = Says ExprNoted} noting) (word w.Int ∷ []))
     (taking (name at n) ps).says s) None
     (Some (block xs).says) (declaring at n) (record (declaring at n) { uses = words uses; literals = literals }) s
 
--- int printf(const char *, ...);
-abbrev printf_declared : Scope → Outer
+-- int printf();
+abbrev pub printf_declared : Scope → Outer
 printf_declared s =
     declared_outer (declares_by (all_say (fold_specifier {c = Says ExprNoted} noting) (word w.Int ∷ []))
     (record { declarator = (taking (name 1 printf') []).says; initial = None } ∷ []) s) (declaring 1 printf')
 
-abbrev void_parameter : OfParameter
+abbrev pub void_parameter : OfParameter
 void_parameter = parameter (word w.Void ∷ []) omitted
 
-abbrev main_with : List Name → List Literal → List OfStmt → Scope → Outer
+abbrev pub main_with : List Name → List Literal → List OfStmt → Scope → Outer
 main_with uses literals xs s = int_function 10 main' (void_parameter ∷ []) uses literals xs s
 
 abbrev logging : Profile
@@ -83,13 +83,13 @@ logging = record {
   never_null = [];
 }
 
-abbrev silent : World
+abbrev pub silent : World
 silent = record { word = λ p. 0; byte = λ a. 0 }
 
 abbrev bounds : Limits
 bounds = record { turns = 8; heap = 256; outside = 64; texts = 32; arguments = 2 }
 
-abbrev machine : World → List (Scope → Outer) → Machine
+abbrev pub machine : World → List (Scope → Outer) → Machine
 machine world xs = record {
   program = in_order xs empty;
   prelude = [];
@@ -99,7 +99,7 @@ machine world xs = record {
   depth = 8;
 }
 
-abbrev x : OfExpr
+abbrev pub x : OfExpr
 x = the x'
 
 -- ---- int main(void) { int x = 2147483647; return x + 1; }
@@ -131,10 +131,10 @@ row_shift = refl
 
 -- ---- int printf(); int main(void) { int x; for (x = 0; x < n; x++) printf("%d\n", x); return 0; }
 
-abbrev line : OfExpr
+abbrev pub line : OfExpr
 line = text 40 (37 ∷ 100 ∷ 10 ∷ [])
 
-abbrev line_literal : List Literal
+abbrev pub line_literal : List Literal
 line_literal = record { at = 40; text = Some (37 ∷ 100 ∷ 10 ∷ []) } ∷ []
 
 abbrev prints : OfExpr → OfStmt
@@ -222,7 +222,7 @@ abbrev nested : Machine
 nested = machine silent (printf_declared ∷ main_with (printf' ∷ []) line_literal (
     does (call 70 printf' (line ∷ call 75 printf' (line ∷ int 7 ∷ []) ∷ [])) ∷ returns 80 (int 0) ∷ []) ∷ [])
 
-abbrev happenings : List Event → List Happening
+abbrev pub happenings : List Event → List Happening
 happenings [] = []
 happenings (e ∷ es) = e.what ∷ happenings es
 
@@ -287,10 +287,10 @@ row_designators = refl
 abbrev malloc' : Name
 malloc' = 109 ∷ 97 ∷ 108 ∷ 108 ∷ 111 ∷ 99 ∷ []
 
-abbrev free' : Name
+abbrev pub free' : Name
 free' = 102 ∷ 114 ∷ 101 ∷ 101 ∷ []
 
-abbrev declared_function : ℕ → Name → List OfSpecifier → OfDeclarator → Scope → Outer
+abbrev pub declared_function : ℕ → Name → List OfSpecifier → OfDeclarator → Scope → Outer
 declared_function at n ss d s =
     declared_outer (declares_by (all_say (fold_specifier {c = Says ExprNoted} noting) ss)
     (record { declarator = d.says; initial = None } ∷ []) s) (declaring at n)
@@ -300,12 +300,12 @@ malloc_declared =
     declared_function 2 malloc' (word w.Void ∷ [])
     (pointer (taking (name 2 malloc') (parameter (word w.Unsigned ∷ word w.Long ∷ []) omitted ∷ [])))
 
-abbrev free_declared : Scope → Outer
+abbrev pub free_declared : Scope → Outer
 free_declared =
     declared_function 3 free' (word w.Void ∷ [])
     (taking (name 3 free') (parameter (word w.Void ∷ []) (pointer omitted) ∷ []))
 
-abbrev giving : ℕ → ℕ → World
+abbrev pub giving : ℕ → ℕ → World
 giving place answer = record { word = λ p. cond (nat_eq p place) answer 0; byte = λ a. 0 }
 
 abbrev pointed : ℕ → ℕ → OfExpr
