@@ -4,3 +4,4 @@ pub mod Fusion
 pub mod Scene
 pub mod Rows
 pub mod MoreRows
+pub mod LogRows
