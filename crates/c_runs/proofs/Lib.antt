@@ -5,3 +5,4 @@ pub mod Scene
 pub mod Rows
 pub mod MoreRows
 pub mod LogRows
+pub mod PreludeRows
