@@ -1,5 +1,6 @@
--- Worked runs of small programs that log: `P(..)` is `int printf(const char *, ...); int ext(void); int main(void) { .. }`.
-use Rattle.std.proofs.Common.{◌≡◌, ℕ, ◌+◌, pos, negsuc, List, [], ◌∷◌, ◌++◌, true, false, cond, Some, None, refl}
+-- Worked runs of small programs that log: `P(..)` is `int printf(const char *, ...); int ext(void); int main(void) {
+-- .. }`.
+use Rattle.std.proofs.Common.{◌≡◌, ℕ, pos, List, [], ◌∷◌, ◌++◌, true, false, cond, Some, None, refl}
 use Rattle.std.specs.Prelude.{nat_eq}
 use Rattle.bit_words.specs.declared.run.Finish.TheVariants as finish
 use Rattle.bit_words.specs.declared.run.Undefined.TheVariants as undefined
@@ -28,7 +29,7 @@ ext' = 101 ∷ 120 ∷ 116 ∷ []
 abbrev log_declared : Scope → Outer
 log_declared =
     declared_function 1 printf' (word w.Int ∷ [])
-      (built.function noting 0 (name 1 printf') (parameter (word w.Char ∷ []) (pointer omitted) ∷ []) true)
+    (built.function noting 0 (name 1 printf') (parameter (word w.Char ∷ []) (pointer omitted) ∷ []) true)
 
 -- int ext(void);
 abbrev ext_declared : Scope → Outer
@@ -78,7 +79,8 @@ between first second = P silent (printf' ∷ []) two_literals (
 
 abbrev shifting : Machine
 shifting =
-    between (declare (word w.Int ∷ []) (name 20 x') (Some (value (int 1)))) (does (set x (op 31 o.ShiftLeft x (int 31))))
+    between (declare (word w.Int ∷ []) (name 20 x') (Some (value (int 1))))
+        (does (set x (op 31 o.ShiftLeft x (int 31))))
 
 pub row_shift_stops : (run_of shifting).finish ≡ finish.Stopped undefined.Shift 31
 unfolding converted exact level_of pieces_from
@@ -93,8 +95,8 @@ row_shift_printed = refl
 abbrev dividing : Machine
 dividing =
     between
-      (declare (word w.Int ∷ []) (name 20 x') (Some (value (op 0 o.Subtract (un 0 u.Minus (int 2147483647)) (int 1)))))
-      (does (set x (op 31 o.Divide x (un 0 u.Minus (int 1)))))
+    (declare (word w.Int ∷ []) (name 20 x') (Some (value (op 0 o.Subtract (un 0 u.Minus (int 2147483647)) (int 1)))))
+    (does (set x (op 31 o.Divide x (un 0 u.Minus (int 1)))))
 
 pub row_quotient_stops : (run_of dividing).finish ≡ finish.Stopped undefined.Overflow 31
 unfolding converted exact level_of pieces_from

@@ -1,29 +1,27 @@
 -- Worked rows: what functions of the C library and outside do, `main` with parameters, and which names trees use.
-use Rattle.std.proofs.Common.{◌≡◌, ℕ, ◌+◌, pos, negsuc, List, [], ◌∷◌, true, false, cond, Some, None, refl}
+use Rattle.std.proofs.Common.{◌≡◌, ℕ, pos, List, [], ◌∷◌, true, false, cond, Some, refl}
 use Rattle.std.specs.Prelude.{nat_eq}
 use Rattle.bit_words.specs.declared.run.Finish.TheVariants as finish
 use Rattle.bit_words.specs.declared.run.Undefined.TheVariants as undefined
 use Rattle.c_lexer.specs.declared.token.IntegerType.TheVariants as integer_type
-use Rattle.c_tree.specs.declared.expr.BinaryOperator.TheVariants as o
 use Rattle.c_tree.specs.declared.expr.TypeWord.TheVariants as w
 use Rattle.c_tree.specs.declared.expr.UnaryOperator.TheVariants as u
 use Rattle.c_type_terms.specs.Integers.{converted}
 use Rattle.c_type_terms.specs.Operators.{exact}
-use Rattle.c_says.specs.Scopes.{Name, Scope, empty}
+use Rattle.c_says.specs.Scopes.{Name, Scope}
 use Rattle.c_says.proofs.Built as built
 use Rattle.c_means.specs.Parts.{World}
 use Rattle.printf_text.specs.Pieces.{pieces_from}
-use Rattle.c_runs.specs.declared.profile.FillAnswer.{FillAnswer}
-use Rattle.c_runs.specs.declared.profile.FillAnswer.TheVariants as answer
-use Rattle.c_runs.specs.Names.{Names, Word, ordinary, naming, with_name, with_body, none, ◌then◌}
+use Rattle.c_runs.specs.Names.{Names, ordinary, naming, with_name, with_body, ◌then◌}
 use Rattle.c_runs.specs.Programs.{Outer, main'}
 use Rattle.c_runs.specs.Runs.{Machine, run_of, met_of, level_of, room_of}
-use Rattle.c_runs.specs.Checks.{breaches_of, has_main}
+use Rattle.c_runs.specs.Checks.{has_main}
 use Rattle.c_runs.proofs.Scene.{OfExpr, OfSpecifier, OfDeclarator, OfStmt, int, text, op, un, set, element, call, word}
-use Rattle.c_runs.proofs.Scene.{name, pointer, array, omitted, taking, parameter, does, returns, value, declare, braced}
+use Rattle.c_runs.proofs.Scene.{name, pointer, array, omitted, taking, parameter, does, returns, value, declare}
+use Rattle.c_runs.proofs.Scene.{braced}
 use Rattle.c_runs.proofs.Scene.{plain_item}
 use Rattle.c_runs.proofs.Rows.{x, x', f', printf', int_function, main_with, machine, silent, giving, declared_function}
-use Rattle.c_runs.proofs.Rows.{printf_declared, void_parameter, happenings, line, line_literal, free_declared, free'}
+use Rattle.c_runs.proofs.Rows.{printf_declared}
 
 -- ---- void exit(int); int main(void) { exit(3); return 0; }
 
@@ -36,7 +34,7 @@ exit_declared =
 
 pub row_exit :
     (run_of (machine silent (exit_declared
-        ∷ main_with (exit' ∷ []) [] (does (call 60 exit' (int 3 ∷ [])) ∷ returns 80 (int 0) ∷ []) ∷ []))).finish
+    ∷ main_with (exit' ∷ []) [] (does (call 60 exit' (int 3 ∷ [])) ∷ returns 80 (int 0) ∷ []) ∷ []))).finish
     ≡ finish.Exit (pos 3)
 unfolding converted exact level_of
 row_exit = refl
@@ -45,8 +43,8 @@ row_exit = refl
 
 pub row_other_exit :
     (run_of (machine silent (
-        declared_function 2 exit' (word w.Int ∷ []) (taking (name 2 exit') (parameter (word w.Int ∷ []) omitted ∷ []))
-        ∷ main_with (exit' ∷ []) [] (does (call 60 exit' (int 3 ∷ [])) ∷ returns 80 (int 0) ∷ []) ∷ []))).finish
+    declared_function 2 exit' (word w.Int ∷ []) (taking (name 2 exit') (parameter (word w.Int ∷ []) omitted ∷ []))
+    ∷ main_with (exit' ∷ []) [] (does (call 60 exit' (int 3 ∷ [])) ∷ returns 80 (int 0) ∷ []) ∷ []))).finish
     ≡ finish.Return (pos 0)
 unfolding converted exact level_of
 row_other_exit = refl
@@ -62,7 +60,7 @@ unsigned_long = word w.Unsigned ∷ word w.Long ∷ []
 abbrev calloc_declared : Scope → Outer
 calloc_declared =
     declared_function 2 calloc' (word w.Void ∷ [])
-      (pointer (taking (name 2 calloc') (parameter unsigned_long omitted ∷ parameter unsigned_long omitted ∷ [])))
+    (pointer (taking (name 2 calloc') (parameter unsigned_long omitted ∷ parameter unsigned_long omitted ∷ [])))
 
 -- the call's answer is behind `calloc`, `main` and the object; every byte of the world is 7
 abbrev sevens : World
@@ -94,8 +92,8 @@ pointer_line = text 40 (37 ∷ 112 ∷ 10 ∷ [])
 abbrev showing : ℕ → OfExpr → Machine
 showing n e = machine (giving 9 n) (printf_declared
     ∷ main_with (printf' ∷ []) (record { at = 40; text = Some (37 ∷ 112 ∷ 10 ∷ []) } ∷ []) (
-      declare (word w.Int ∷ []) (name 20 x') (Some (value (int 1))) ∷ does (call 70 printf' (pointer_line ∷ e ∷ []))
-      ∷ returns 80 (int 0) ∷ []) ∷ [])
+    declare (word w.Int ∷ []) (name 20 x') (Some (value (int 1))) ∷ does (call 70 printf' (pointer_line ∷ e ∷ []))
+    ∷ returns 80 (int 0) ∷ []) ∷ [])
 
 pub row_pointer_shown : (run_of (showing 26 (un 0 u.Address x))).printed ≡ 48 ∷ 120 ∷ 49 ∷ 97 ∷ 10 ∷ []
 unfolding converted exact level_of pieces_from
@@ -115,7 +113,7 @@ row_pointer_room = refl
 abbrev taking_arguments : OfExpr → Machine
 taking_arguments e = machine (giving 2 5) (
     int_function 10 main' (parameter (word w.Int ∷ []) (name 12 x')
-      ∷ parameter (word w.Char ∷ []) (pointer (pointer (name 14 f'))) ∷ []) [] [] (returns 80 e ∷ []) ∷ [])
+    ∷ parameter (word w.Char ∷ []) (pointer (pointer (name 14 f'))) ∷ []) [] [] (returns 80 e ∷ []) ∷ [])
 
 -- `main` has the first place; 1 and the word 5 modulo 2
 pub row_argument_count : (run_of (taking_arguments x)).finish ≡ finish.Return (pos 2)
@@ -150,7 +148,8 @@ row_argument_main = refl
 abbrev using_two : Names
 using_two =
     (built.call naming 0 (built.identifier naming 0 x')
-      (built.identifier naming 0 f' ∷ built.integer naming 0 (record { value = 1; integer_type = integer_type.Int }) ∷ [])).says
+    (built.identifier naming 0 f' ∷ built.integer naming 0 (record { value = 1; integer_type = integer_type.Int })
+        ∷ [])).says
 
 pub row_names_used : using_two.uses ≡ ordinary x' ∷ ordinary f' ∷ []
 row_names_used = refl
@@ -164,6 +163,7 @@ row_names_bound_at = refl
 -- a parameter's name is in force in the body: f(x) { .. x(f, 1) .. }
 pub row_names_of_body :
     (with_body (built.function naming 0 (built.named naming 20 f')
-      (built.parameter naming (built.word naming 0 w.Int ∷ []) (built.named naming 22 x') ∷ []) false).says using_two).uses
+    (built.parameter naming (built.word naming 0 w.Int ∷ []) (built.named naming 22 x')
+        ∷ []) false).says using_two).uses
     ≡ []
 row_names_of_body = refl

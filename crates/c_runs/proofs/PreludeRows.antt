@@ -1,5 +1,5 @@
 -- A function of the prelude in a run: `strlen` beside what it is worth, called by a program that declares it.
-use Rattle.std.proofs.Common.{◌≡◌, ℕ, ◌+◌, pos, List, [], ◌∷◌, Some, None, refl}
+use Rattle.std.proofs.Common.{◌≡◌, ℕ, pos, List, [], ◌∷◌, Some, None, refl}
 use Rattle.bit_words.specs.declared.run.Finish.TheVariants as finish
 use Rattle.c_tree.specs.declared.expr.TypeWord.TheVariants as w
 use Rattle.c_tree.specs.Folds.{fold_specifier}
@@ -10,10 +10,10 @@ use Rattle.c_says.specs.Declares.{Says}
 use Rattle.c_says.specs.Declarations.{function_by}
 use Rattle.c_says.proofs.Built.{all_say}
 use Rattle.c_runs.specs.Notes.{ExprNoted, noting}
-use Rattle.c_runs.specs.Names.{Literal, none}
+use Rattle.c_runs.specs.Names.{none}
 use Rattle.c_runs.specs.Programs.{Outer, in_order, functions_of, with_function}
-use Rattle.c_runs.specs.Runs.{Machine, run_of, level_of, unrolled_size}
-use Rattle.c_runs.proofs.Scene.{OfExpr, OfSpecifier, OfParameter, int, text, the, element, increment, call, word, name}
+use Rattle.c_runs.specs.Runs.{Machine, run_of, level_of}
+use Rattle.c_runs.proofs.Scene.{OfSpecifier, OfParameter, int, text, the, element, increment, call, word, name}
 use Rattle.c_runs.proofs.Scene.{pointer, omitted, taking, parameter, does, block, returns, while, value, declare}
 use Rattle.c_runs.proofs.Rows.{main_with, machine, silent, declared_function}
 
@@ -36,21 +36,21 @@ text_parameter = parameter (word w.Char ∷ []) (pointer (name 1033 s'))
 abbrev strlen : Scope → Outer
 strlen s =
     with_function
-      (function_by (all_say (fold_specifier {c = Says ExprNoted} noting) unsigned_long)
-        (taking (name 1014 strlen') (text_parameter ∷ [])).says s)
-      None
-      (Some (block (
-        declare unsigned_long (name 1052 n') (Some (value (int 0)))
-        ∷ while 1059 (element 1067 (the s') (the n')) (does (increment 1073 (the n')))
-        ∷ returns 1077 (the n') ∷ [])).says) none none s
+    (function_by (all_say (fold_specifier {c = Says ExprNoted} noting) unsigned_long)
+    (taking (name 1014 strlen') (text_parameter ∷ [])).says s)
+    None
+    (Some (block (
+    declare unsigned_long (name 1052 n') (Some (value (int 0)))
+    ∷ while 1059 (element 1067 (the s') (the n')) (does (increment 1073 (the n')))
+    ∷ returns 1077 (the n') ∷ [])).says) none none s
 
 abbrev measuring : List OfSpecifier → List ℕ → Machine
 measuring result bytes = record (machine silent (
     declared_function 2 strlen' result (taking (name 2 strlen') (parameter (word w.Char ∷ []) (pointer omitted) ∷ []))
     ∷ main_with (strlen' ∷ []) (record { at = 40; text = Some bytes } ∷ [])
-      (returns 80 (call 70 strlen' (text 40 bytes ∷ [])) ∷ []) ∷ [])) {
-  prelude = functions_of (in_order (strlen ∷ []) empty);
-}
+    (returns 80 (call 70 strlen' (text 40 bytes ∷ [])) ∷ []) ∷ [])) {
+      prelude = functions_of (in_order (strlen ∷ []) empty);
+    }
 
 -- ten turns: in a function of the prelude the limit of texts counts
 pub row_prelude :

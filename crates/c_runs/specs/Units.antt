@@ -1,5 +1,6 @@
--- A source with its profile, a world and bounds: the machine whose run, rooms, nodes and rules are those of the source.
-use Rattle.std.specs.Prelude.{ℕ, min, List}
+-- A source with its profile, a world and bounds: the machine whose run, rooms, nodes and rules are those of the
+-- source.
+use Rattle.std.specs.Prelude.{ℕ, List}
 use Rattle.bit_words.specs.declared.bounds.Bounds.{Bounds}
 use Rattle.bit_words.specs.declared.run.Run.{Run}
 use Rattle.bit_words.specs.Worlds.{WorldTables, value_at}
