@@ -80,7 +80,7 @@ between first second = P silent (printf' ∷ []) two_literals (
 abbrev shifting : Machine
 shifting =
     between (declare (word w.Int ∷ []) (name 20 x') (Some (value (int 1))))
-        (does (set x (op 31 o.ShiftLeft x (int 31))))
+    (does (set x (op 31 o.ShiftLeft x (int 31))))
 
 pub row_shift_stops : (run_of shifting).finish ≡ finish.Stopped undefined.Shift 31
 unfolding converted exact level_of pieces_from

@@ -1,5 +1,5 @@
 -- Worked rows: what functions of the C library and outside do, `main` with parameters, and which names trees use.
-use Rattle.std.proofs.Common.{◌≡◌, ℕ, pos, List, [], ◌∷◌, true, false, cond, Some, refl}
+use Rattle.std.proofs.Common.{◌≡◌, ℕ, pos, negsuc, List, [], ◌∷◌, true, false, cond, Some, None, refl}
 use Rattle.std.specs.Prelude.{nat_eq}
 use Rattle.bit_words.specs.declared.run.Finish.TheVariants as finish
 use Rattle.bit_words.specs.declared.run.Undefined.TheVariants as undefined
@@ -12,6 +12,8 @@ use Rattle.c_says.specs.Scopes.{Name, Scope}
 use Rattle.c_says.proofs.Built as built
 use Rattle.c_means.specs.Parts.{World}
 use Rattle.printf_text.specs.Pieces.{pieces_from}
+use Rattle.c_runs.specs.declared.profile.FillAnswer.TheVariants as answer
+use Rattle.c_runs.specs.declared.profile.FillFunction.{FillFunction}
 use Rattle.c_runs.specs.Names.{Names, ordinary, naming, with_name, with_body, ◌then◌}
 use Rattle.c_runs.specs.Programs.{Outer, main'}
 use Rattle.c_runs.specs.Runs.{Machine, run_of, met_of, level_of, room_of}
@@ -143,13 +145,58 @@ pub row_argument_main : has_main (taking_arguments x) ≡ true
 unfolding converted exact level_of
 row_argument_main = refl
 
+-- ---- int f(char *, int), which fills its first argument: char x[4]; f(x, 4); return x[1]; and return f(x, 4);
+
+-- behind `f`, `main` and the object the call has the places 4 to 7: how much, what, and whether it fails come behind
+-- its answer
+abbrev filling_world : ℕ → World
+filling_world fails = record {
+  word = λ p. cond (nat_eq p 5) 3 (cond (nat_eq p 7) fails 0);
+  byte = λ a. cond (nat_eq a 25769803777) 65 (cond (nat_eq a 25769803779) 66 0);
+}
+
+abbrev filled : OfExpr
+filled = call 70 f' (x ∷ int 4 ∷ [])
+
+abbrev filling : ℕ → List OfStmt → Machine
+filling fails xs = record (machine (filling_world fails) (
+    declared_function 5 f' (word w.Int ∷ [])
+    (taking (name 5 f') (parameter (word w.Char ∷ []) (pointer omitted) ∷ parameter (word w.Int ∷ []) omitted ∷ []))
+    ∷ main_with (f' ∷ []) [] (declare (word w.Char ∷ []) (array 4 (name 20 x')) None ∷ xs) ∷ [])) {
+      profile = record { log = []; identity = []; fills = filler ∷ []; never_null = [] };
+    }
+  where
+    filler : FillFunction
+    filler = record { name = f'; buffer = 0; length = 1; answer = answer.Count }
+
+pub row_filled_byte : (run_of (filling 0 (does filled ∷ returns 80 (element 81 x (int 1)) ∷ []))).finish
+    ≡ finish.Return (pos 65)
+unfolding converted exact level_of
+row_filled_byte = refl
+
+-- a byte past the count stays as it was
+pub row_byte_past_filled :
+    (run_of (filling 0 (does (set (element 60 x (int 3)) (int 9)) ∷ does filled ∷ returns 80 (element 81 x (int 3))
+        ∷ []))).finish
+    ≡ finish.Return (pos 9)
+unfolding converted exact level_of
+row_byte_past_filled = refl
+
+pub row_fill_count : (run_of (filling 0 (returns 80 filled ∷ []))).finish ≡ finish.Return (pos 3)
+unfolding converted exact level_of
+row_fill_count = refl
+
+pub row_fill_fails : (run_of (filling 1 (returns 80 filled ∷ []))).finish ≡ finish.Return (negsuc 0)
+unfolding converted exact level_of
+row_fill_fails = refl
+
 -- ---- which names are used: of x(f, 1) both, and a name behind its own declaration not
 
 abbrev using_two : Names
 using_two =
     (built.call naming 0 (built.identifier naming 0 x')
     (built.identifier naming 0 f' ∷ built.integer naming 0 (record { value = 1; integer_type = integer_type.Int })
-        ∷ [])).says
+    ∷ [])).says
 
 pub row_names_used : using_two.uses ≡ ordinary x' ∷ ordinary f' ∷ []
 row_names_used = refl
@@ -164,6 +211,6 @@ row_names_bound_at = refl
 pub row_names_of_body :
     (with_body (built.function naming 0 (built.named naming 20 f')
     (built.parameter naming (built.word naming 0 w.Int ∷ []) (built.named naming 22 x')
-        ∷ []) false).says using_two).uses
+    ∷ []) false).says using_two).uses
     ≡ []
 row_names_of_body = refl
