@@ -13,9 +13,11 @@ use Rattle.c_tree.specs.declared.unit.InitializerItem.{InitializerItem, fold-rol
 use Rattle.c_tree.specs.declared.unit.Stmt.{Stmt, fold-roll-Stmt}
 use Rattle.c_tree.specs.declared.unit.Stmt.TheOpen as open_
 use Rattle.c_tree.specs.declared.unit.Stmt.TheVariants as tree
-use Rattle.c_tree.specs.declared.unit.Stmt.TheVariants.{rolls-Block, rolls-Declared, rolls-Value, rolls-Label, rolls-Case}
+use Rattle.c_tree.specs.declared.unit.Stmt.TheVariants.{rolls-Block, rolls-Declared, rolls-Value, rolls-Label}
+use Rattle.c_tree.specs.declared.unit.Stmt.TheVariants.{rolls-Case}
 use Rattle.c_tree.specs.declared.unit.Stmt.TheVariants.{rolls-Default, rolls-If, rolls-Switch, rolls-While, rolls-Do}
-use Rattle.c_tree.specs.declared.unit.Stmt.TheVariants.{rolls-For, rolls-Goto, rolls-Continue, rolls-Break, rolls-Return}
+use Rattle.c_tree.specs.declared.unit.Stmt.TheVariants.{rolls-For, rolls-Goto, rolls-Continue, rolls-Break}
+use Rattle.c_tree.specs.declared.unit.Stmt.TheVariants.{rolls-Return}
 use Rattle.c_says.specs.Scopes.{Name}
 use Rattle.c_runs.specs.Items.{Code}
 use Rattle.c_runs.specs.Statements.{stmt, stmt_step}
@@ -56,7 +58,8 @@ unfolding stmt
 does-Default at body = ap stmt (sym (rolls-Default at body)) ∙ fold-roll-Stmt Code stmt_step (open_.Default at body)
 
 pub does-If : (at : ℕ) (condition : Expr) (positive : Stmt) (negative : Option Stmt)
-    → stmt (tree.If at condition positive negative) ≡ stmt_step (open_.If at condition (stmt positive) (option_map stmt negative))
+    → stmt (tree.If at condition positive negative) ≡ stmt_step
+    (open_.If at condition (stmt positive) (option_map stmt negative))
 unfolding stmt
 does-If at condition positive None =
     ap stmt (sym (rolls-If at condition positive None))
@@ -128,4 +131,5 @@ pub listed-Item : (x : InitializerItem) →
     listed_item x ≡ listed_step (record { designators = x.designators; value = initially x.value })
 unfolding initially listed_item
 listed-Item x =
-    fold-roll-InitializerItem Initially Listed initially_step listed_step (record { designators = x.designators; value = x.value })
+    fold-roll-InitializerItem Initially Listed initially_step listed_step
+    (record { designators = x.designators; value = x.value })

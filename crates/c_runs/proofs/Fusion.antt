@@ -233,7 +233,8 @@ steps = record {
       (λ s. ap (size_of_expression at) (hx s));
   on_sizeof_type = λ at t ht. across _ _ _ (notes.notes-SizeofType at t) (meaning.means-SizeofType at t)
       (λ s. ap (λ f. let x = f s in size_of_type at x.type x.faults x.after) ht);
-  on_cast = λ at t x ht hx. across _ _ _ (notes.notes-Cast at t x) (meaning.means-Cast at t x) (cast_same at t x ht hx);
+  on_cast = λ at t x ht hx. across _ _ _ (notes.notes-Cast at t x) (meaning.means-Cast at t x)
+      (cast_same at t x ht hx);
   on_binary = λ at op x y hx hy. across _ _ _ (notes.notes-Binary at op x y) (meaning.means-Binary at op x y)
       (λ s. binary_part at op _ _ ∙ over x y (binary at op) hx hy s);
   on_conditional =

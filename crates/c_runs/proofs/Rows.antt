@@ -32,20 +32,21 @@ use Rattle.c_runs.specs.Programs.{Outer, in_order, with_function, declared_outer
 use Rattle.c_runs.specs.Runs.{Machine, run_of, met_of, level_of, room_of, unrolled_size}
 use Rattle.c_runs.specs.Checks.{breaches_of, has_main}
 use Rattle.c_runs.proofs.Scene.{OfExpr, OfDeclarator, OfSpecifier, OfParameter, OfStmt}
-use Rattle.c_runs.proofs.Scene.{int, text, the, op, un, set, element, increment, call, word, name, pointer, array, open_array, omitted, taking, parameter}
+use Rattle.c_runs.proofs.Scene.{int, text, the, op, un, set, element, increment, call, word, name, pointer, array}
+use Rattle.c_runs.proofs.Scene.{open_array, omitted, taking, parameter}
 use Rattle.c_runs.proofs.Scene.{does, block, returns, when, for, switch, case, otherwise, label, goto, break, continue}
 use Rattle.c_runs.proofs.Scene.{loop, returns_nothing}
 use Rattle.c_runs.proofs.Scene.{value, declare, braced, item_at, plain_item, static}
 
 -- ---- programs
 
-abbrev x' : Name
+abbrev pub x' : Name
 x' = 120 ∷ []
 
-abbrev f' : Name
+abbrev pub f' : Name
 f' = 102 ∷ []
 
-abbrev printf' : Name
+abbrev pub printf' : Name
 printf' = 112 ∷ 114 ∷ 105 ∷ 110 ∷ 116 ∷ 102 ∷ []
 
 abbrev words : List Name → List Word
@@ -56,21 +57,22 @@ abbrev declaring : ℕ → Name → Names
 declaring at n = record none { declares = record { at = at; word = ordinary n } ∷ [] }
 
 -- a function of type `int`, with what its body uses
-abbrev int_function : ℕ → Name → List OfParameter → List Name → List Literal → List OfStmt → Scope → Outer
+abbrev pub int_function : ℕ → Name → List OfParameter → List Name → List Literal → List OfStmt → Scope → Outer
 int_function at n ps uses literals xs s =
-    with_function (function_by (all_say (fold_specifier {c = Says ExprNoted} noting) (word w.Int ∷ [])) (taking (name at n) ps).says s) None
+    with_function (function_by (all_say (fold_specifier {c = Says ExprNoted} noting) (word w.Int ∷ []))
+    (taking (name at n) ps).says s) None
     (Some (block xs).says) (declaring at n) (record (declaring at n) { uses = words uses; literals = literals }) s
 
--- int printf(const char *, ...);
-abbrev printf_declared : Scope → Outer
+-- int printf();
+abbrev pub printf_declared : Scope → Outer
 printf_declared s =
     declared_outer (declares_by (all_say (fold_specifier {c = Says ExprNoted} noting) (word w.Int ∷ []))
     (record { declarator = (taking (name 1 printf') []).says; initial = None } ∷ []) s) (declaring 1 printf')
 
-abbrev void_parameter : OfParameter
+abbrev pub void_parameter : OfParameter
 void_parameter = parameter (word w.Void ∷ []) omitted
 
-abbrev main_with : List Name → List Literal → List OfStmt → Scope → Outer
+abbrev pub main_with : List Name → List Literal → List OfStmt → Scope → Outer
 main_with uses literals xs s = int_function 10 main' (void_parameter ∷ []) uses literals xs s
 
 abbrev logging : Profile
@@ -81,13 +83,13 @@ logging = record {
   never_null = [];
 }
 
-abbrev silent : World
+abbrev pub silent : World
 silent = record { word = λ p. 0; byte = λ a. 0 }
 
 abbrev bounds : Limits
 bounds = record { turns = 8; heap = 256; outside = 64; texts = 32; arguments = 2 }
 
-abbrev machine : World → List (Scope → Outer) → Machine
+abbrev pub machine : World → List (Scope → Outer) → Machine
 machine world xs = record {
   program = in_order xs empty;
   prelude = [];
@@ -97,14 +99,15 @@ machine world xs = record {
   depth = 8;
 }
 
-abbrev x : OfExpr
+abbrev pub x : OfExpr
 x = the x'
 
 -- ---- int main(void) { int x = 2147483647; return x + 1; }
 
 abbrev overflowing : Machine
 overflowing = machine silent (main_with [] [] (
-    declare (word w.Int ∷ []) (name 20 x') (Some (value (int 2147483647))) ∷ returns 30 (op 31 o.Add x (int 1)) ∷ []) ∷ [])
+    declare (word w.Int ∷ []) (name 20 x') (Some (value (int 2147483647))) ∷ returns 30 (op 31 o.Add x (int 1)) ∷ [])
+    ∷ [])
 
 pub row_overflow : (run_of overflowing).finish ≡ finish.Stopped undefined.Overflow 31
 unfolding converted exact level_of
@@ -120,17 +123,18 @@ row_overflow_main = refl
 
 -- ---- int main(void) { return 1 << 40; }
 
-pub row_shift : (run_of (machine silent (main_with [] [] (returns 30 (op 31 o.ShiftLeft (int 1) (int 40)) ∷ []) ∷ []))).finish
+pub row_shift : (run_of (machine silent (main_with [] [] (returns 30 (op 31 o.ShiftLeft (int 1) (int 40)) ∷ [])
+    ∷ []))).finish
     ≡ finish.Stopped undefined.Shift 31
 unfolding converted exact level_of
 row_shift = refl
 
 -- ---- int printf(); int main(void) { int x; for (x = 0; x < n; x++) printf("%d\n", x); return 0; }
 
-abbrev line : OfExpr
+abbrev pub line : OfExpr
 line = text 40 (37 ∷ 100 ∷ 10 ∷ [])
 
-abbrev line_literal : List Literal
+abbrev pub line_literal : List Literal
 line_literal = record { at = 40; text = Some (37 ∷ 100 ∷ 10 ∷ []) } ∷ []
 
 abbrev prints : OfExpr → OfStmt
@@ -218,7 +222,7 @@ abbrev nested : Machine
 nested = machine silent (printf_declared ∷ main_with (printf' ∷ []) line_literal (
     does (call 70 printf' (line ∷ call 75 printf' (line ∷ int 7 ∷ []) ∷ [])) ∷ returns 80 (int 0) ∷ []) ∷ [])
 
-abbrev happenings : List Event → List Happening
+abbrev pub happenings : List Event → List Happening
 happenings [] = []
 happenings (e ∷ es) = e.what ∷ happenings es
 
@@ -235,7 +239,8 @@ adds n = does (set x (op 0 o.Add x (int n)))
 abbrev choosing : ℕ → Machine
 choosing n = machine silent (main_with [] [] (
     declare (word w.Int ∷ []) (name 20 x') (Some (value (int 0)))
-    ∷ switch 30 (int n) (block (case 31 (int 1) (adds 1) ∷ case 32 (int 2) (adds 10) ∷ break 33 ∷ otherwise 34 (adds 100) ∷ []))
+    ∷ switch 30 (int n) (block (case 31 (int 1) (adds 1) ∷ case 32 (int 2) (adds 10) ∷ break 33 ∷ otherwise 34
+    (adds 100) ∷ []))
     ∷ returns 80 x ∷ []) ∷ [])
 
 pub row_case_falls_through : (run_of (choosing 1)).finish ≡ finish.Return (pos 11)
@@ -257,7 +262,8 @@ row_case_event = refl
 -- ---- int x = 1; goto f; x = x + 1; f: x = x + 10; return x;
 
 pub row_goto : (run_of (machine silent (main_with [] [] (
-    declare (word w.Int ∷ []) (name 20 x') (Some (value (int 1))) ∷ goto 30 f' ∷ adds 1 ∷ label 40 f' (adds 10) ∷ returns 80 x ∷ []) ∷ []))).finish
+    declare (word w.Int ∷ []) (name 20 x') (Some (value (int 1))) ∷ goto 30 f' ∷ adds 1 ∷ label 40 f' (adds 10)
+    ∷ returns 80 x ∷ []) ∷ []))).finish
     ≡ finish.Return (pos 11)
 unfolding converted exact level_of
 row_goto = refl
@@ -268,21 +274,23 @@ abbrev digit : ℕ → ℕ → OfExpr
 digit n i = op 0 o.Multiply (int n) (element 0 x (int i))
 
 pub row_designators : (run_of (machine silent (main_with [] [] (
-    declare (word w.Int ∷ []) (array 3 (name 20 x')) (Some (braced (item_at (int 1) (value (int 5)) ∷ plain_item (value (int 7)) ∷ [])))
+    declare (word w.Int ∷ []) (array 3 (name 20 x'))
+    (Some (braced (item_at (int 1) (value (int 5)) ∷ plain_item (value (int 7)) ∷ [])))
     ∷ returns 80 (op 0 o.Add (digit 100 0) (op 0 o.Add (digit 10 1) (digit 1 2))) ∷ []) ∷ []))).finish
     ≡ finish.Return (pos 57)
 unfolding converted exact level_of
 row_designators = refl
 
--- ---- void *malloc(unsigned long); void free(void *); int main(void) { char *x = malloc(4); *x = 65; free(x); *x = 66; return 0; }
+-- ---- void *malloc(unsigned long); void free(void *); int main(void) { char *x = malloc(4); *x = 65; free(x); *x =
+-- 66; return 0; }
 
 abbrev malloc' : Name
 malloc' = 109 ∷ 97 ∷ 108 ∷ 108 ∷ 111 ∷ 99 ∷ []
 
-abbrev free' : Name
+abbrev pub free' : Name
 free' = 102 ∷ 114 ∷ 101 ∷ 101 ∷ []
 
-abbrev declared_function : ℕ → Name → List OfSpecifier → OfDeclarator → Scope → Outer
+abbrev pub declared_function : ℕ → Name → List OfSpecifier → OfDeclarator → Scope → Outer
 declared_function at n ss d s =
     declared_outer (declares_by (all_say (fold_specifier {c = Says ExprNoted} noting) ss)
     (record { declarator = d.says; initial = None } ∷ []) s) (declaring at n)
@@ -292,11 +300,12 @@ malloc_declared =
     declared_function 2 malloc' (word w.Void ∷ [])
     (pointer (taking (name 2 malloc') (parameter (word w.Unsigned ∷ word w.Long ∷ []) omitted ∷ [])))
 
-abbrev free_declared : Scope → Outer
+abbrev pub free_declared : Scope → Outer
 free_declared =
-    declared_function 3 free' (word w.Void ∷ []) (taking (name 3 free') (parameter (word w.Void ∷ []) (pointer omitted) ∷ []))
+    declared_function 3 free' (word w.Void ∷ [])
+    (taking (name 3 free') (parameter (word w.Void ∷ []) (pointer omitted) ∷ []))
 
-abbrev giving : ℕ → ℕ → World
+abbrev pub giving : ℕ → ℕ → World
 giving place answer = record { word = λ p. cond (nat_eq p place) answer 0; byte = λ a. 0 }
 
 abbrev pointed : ℕ → ℕ → OfExpr
@@ -323,7 +332,8 @@ row_heap_places = refl
 -- ---- free(&x) of an automatic object
 
 pub row_free_of_local : (run_of (machine silent (free_declared ∷ main_with (free' ∷ []) [] (
-    declare (word w.Int ∷ []) (name 20 x') None ∷ does (call 35 free' (un 0 u.Address x ∷ [])) ∷ returns 80 (int 0) ∷ []) ∷ []))).finish
+    declare (word w.Int ∷ []) (name 20 x') None ∷ does (call 35 free' (un 0 u.Address x ∷ [])) ∷ returns 80 (int 0)
+    ∷ []) ∷ []))).finish
     ≡ finish.Stopped undefined.Free 35
 unfolding converted exact level_of
 row_free_of_local = refl
@@ -364,7 +374,8 @@ pub row_static_accepted : breaches_of keeping ≡ []
 unfolding converted exact level_of
 row_static_accepted = refl
 
--- ---- an outside function: int f(void); int main(void) { return f(); } where the word of the call's first place is 2^32 - 5
+-- ---- an outside function: int f(void); int main(void) { return f(); } where the word of the call's first place is
+-- 2^32 - 5
 
 abbrev asking : Machine
 asking = machine (giving 3 4294967291) (
@@ -380,7 +391,8 @@ row_outside_answer = refl
 abbrev rounds : ℕ → Machine
 rounds n = machine silent (main_with [] [] (
     declare (word w.Int ∷ []) (name 20 x') (Some (value (int 0)))
-    ∷ loop 30 (block (adds 1 ∷ when 31 (op 0 o.Equal x (int 2)) (continue 32) ∷ [])) (op 0 o.Less x (int n)) ∷ returns 80 x ∷ []) ∷ [])
+    ∷ loop 30 (block (adds 1 ∷ when 31 (op 0 o.Equal x (int 2)) (continue 32) ∷ [])) (op 0 o.Less x (int n))
+    ∷ returns 80 x ∷ []) ∷ [])
 
 pub row_do : (run_of (rounds 3)).finish ≡ finish.Return (pos 3)
 unfolding converted exact level_of
@@ -400,7 +412,8 @@ pub row_missing_unused : (run_of (missing (does (call 60 f' [])))).finish ≡ fi
 unfolding converted exact level_of
 row_missing_unused = refl
 
-pub row_missing_used : (run_of (missing (returns 61 (call 60 f' [])))).finish ≡ finish.Stopped undefined.MissingValue 60
+pub row_missing_used : (run_of (missing (returns 61 (call 60 f' [])))).finish
+    ≡ finish.Stopped undefined.MissingValue 60
 unfolding converted exact level_of
 row_missing_used = refl
 
@@ -418,23 +431,27 @@ unfolding converted exact level_of pieces_from
 row_break_refused = refl
 
 -- a `goto` back
-pub row_goto_refused : breaches_of (faulty (label 50 f' (does (int 0)) ∷ goto 60 f' ∷ [])) ≡ broken_at 60 broken.BadGoto
+pub row_goto_refused : breaches_of (faulty (label 50 f' (does (int 0)) ∷ goto 60 f' ∷ []))
+    ≡ broken_at 60 broken.BadGoto
 unfolding converted exact level_of pieces_from
 row_goto_refused = refl
 
 -- two cases of one value
 pub row_case_refused :
-    breaches_of (faulty (switch 50 (int 1) (block (case 51 (int 1) (break 52) ∷ case 53 (int 1) (break 54) ∷ [])) ∷ []))
+    breaches_of (faulty (switch 50 (int 1) (block (case 51 (int 1) (break 52) ∷ case 53 (int 1) (break 54) ∷ []))
+    ∷ []))
     ≡ broken_at 53 broken.BadGoto
 unfolding converted exact level_of pieces_from
 row_case_refused = refl
 
 -- an argument too few
-pub row_format_refused : breaches_of (faulty (does (call 70 printf' (line ∷ [])) ∷ [])) ≡ broken_at 70 broken.FormatArgument
+pub row_format_refused : breaches_of (faulty (does (call 70 printf' (line ∷ [])) ∷ []))
+    ≡ broken_at 70 broken.FormatArgument
 unfolding converted exact level_of pieces_from
 row_format_refused = refl
 
 -- `return` without a value
-pub row_return_refused : breaches_of (faulty (returns_nothing 55 ∷ [])) ≡ broken_at 55 (broken.Typing rule.TypeMismatch)
+pub row_return_refused : breaches_of (faulty (returns_nothing 55 ∷ [])) ≡ broken_at 55
+    (broken.Typing rule.TypeMismatch)
 unfolding converted exact level_of pieces_from
 row_return_refused = refl

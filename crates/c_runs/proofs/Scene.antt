@@ -20,8 +20,10 @@ use Rattle.c_says.proofs.Built as built
 use Rattle.c_runs.specs.Notes.{ExprNoted, noted, noting, declarator_noted, specifier_noted}
 use Rattle.c_says.specs.Initials.{ToElement}
 use Rattle.c_runs.specs.Initials.{initially, listed_item, listed, value_initially, list_initially}
-use Rattle.c_runs.specs.Statements.{stmt, code, compound, labeled, case_labeled, default_labeled, if_of, switch_of, while_of, do_of}
-use Rattle.c_runs.specs.Statements.{for_of, goto_of, continue_of, break_of, return_of, maybe_value, declares_by, declaring}
+use Rattle.c_runs.specs.Statements.{stmt, code, compound, labeled, case_labeled, default_labeled, if_of, switch_of}
+use Rattle.c_runs.specs.Statements.{while_of, do_of}
+use Rattle.c_runs.specs.Statements.{for_of, goto_of, continue_of, break_of, return_of, maybe_value, declares_by}
+use Rattle.c_runs.specs.Statements.{declaring}
 use Rattle.c_runs.specs.Items.{node}
 use Rattle.c_runs.proofs.Equations as eqs
 
@@ -109,7 +111,8 @@ unfolding declarator_noted
 declarator_is x = x.is
 
 pub specifiers_are : (xs : List OfSpecifier) →
-    map specifier_noted (trees (fold_specifier {c = Says ExprNoted} noting) xs) ≡ all_say (fold_specifier {c = Says ExprNoted} noting) xs
+    map specifier_noted (trees (fold_specifier {c = Says ExprNoted} noting) xs) ≡ all_say
+    (fold_specifier {c = Says ExprNoted} noting) xs
 unfolding specifier_noted
 specifiers_are xs = all_are (fold_specifier {c = Says ExprNoted} noting) xs
 
@@ -155,7 +158,8 @@ for at x y z b = record {
   tree = tree.For at (start_.Value (Some x.tree)) (Some y.tree) (Some z.tree) b.tree;
   says = for_of at (maybe_value (Some x.says)) (Some y.says) (Some z.says) b.says;
   is = eqs.does-For at (start_.Value (Some x.tree)) (Some y.tree) (Some z.tree) b.tree
-      ∙ ap (λ e. for_of at (maybe_value (Some e)) (Some (noted y.tree)) (Some (noted z.tree)) (stmt b.tree)) (noted_is x)
+      ∙ ap (λ e. for_of at (maybe_value (Some e)) (Some (noted y.tree)) (Some (noted z.tree)) (stmt b.tree))
+      (noted_is x)
       ∙ ap (λ e. for_of at (maybe_value (Some x.says)) (Some e) (Some (noted z.tree)) (stmt b.tree)) (noted_is y)
       ∙ ap (λ e. for_of at (maybe_value (Some x.says)) (Some y.says) (Some e) (stmt b.tree)) (noted_is z)
       ∙ ap (λ e. for_of at (maybe_value (Some x.says)) (Some y.says) (Some z.says) e) b.is;
@@ -209,7 +213,11 @@ loop at b x = record {
 }
 
 abbrev pub returns_nothing : ℕ → OfStmt
-returns_nothing at = record { tree = tree.Return at None; says = code (return_of at None) []; is = eqs.does-Return at None }
+returns_nothing at = record {
+  tree = tree.Return at None;
+  says = code (return_of at None) [];
+  is = eqs.does-Return at None;
+}
 
 -- ---- a declaration of one name
 
@@ -255,13 +263,20 @@ one d x = record { declarator = d.tree; assembler_name = []; initializer = built
 
 abbrev pub declare : List OfSpecifier → OfDeclarator → Option OfInitial → OfStmt
 declare ss d x = record {
-  tree = tree.Declared (record { specifiers = trees (fold_specifier {c = Says ExprNoted} noting) ss; declarators = one d x ∷ [] });
+  tree = tree.Declared (record {
+    specifiers = trees (fold_specifier {c = Says ExprNoted} noting) ss;
+    declarators = one d x ∷ [];
+  });
   says = code (λ c. declares_by (all_say (fold_specifier {c = Says ExprNoted} noting) ss)
       (record { declarator = d.says; initial = built.says_if initially x } ∷ []) c.scope) [];
-  is = eqs.does-Declared (record { specifiers = trees (fold_specifier {c = Says ExprNoted} noting) ss; declarators = one d x ∷ [] })
+  is = eqs.does-Declared (record {
+    specifiers = trees (fold_specifier {c = Says ExprNoted} noting) ss;
+    declarators = one d x ∷ [];
+  })
       ∙ ap (λ fs. code (λ c. declares_by fs (declaring (one d x) ∷ []) c.scope) []) (specifiers_are ss)
       ∙ ap (λ f. code (λ c. declares_by (all_say (fold_specifier {c = Says ExprNoted} noting) ss)
-      (record { declarator = f; initial = option_map initially (built.tree_if initially x) } ∷ []) c.scope) []) (declarator_is d)
+      (record { declarator = f; initial = option_map initially (built.tree_if initially x) } ∷ []) c.scope) [])
+      (declarator_is d)
       ∙ ap (λ i. code (λ c. declares_by (all_say (fold_specifier {c = Says ExprNoted} noting) ss)
       (record { declarator = d.says; initial = i } ∷ []) c.scope) []) (built.is_if initially x);
 }

@@ -1,7 +1,9 @@
--- What calls do that aren't by body: log calls, identity calls, `exit`, `abort`, `malloc`, `calloc`, `free`, and functions outside. A call
--- has four places behind those of its arguments: of the answer, of how much is filled, of what is filled, and of whether filling fails;
--- then one for each `%p` of a log call's format.
-use Rattle.std.specs.Prelude.{ℕ, zero, suc, ◌+◌, ◌-◌, ◌*◌, ◌%◌, ◌^◌, ℤ, pos, negsuc, min, Bool, true, false, cond, not, ◌&&◌, nat_eq, nat_lt, List, [], ◌∷◌, ◌++◌, length, drop, Option, Some, None, Result, Ok, Err, slice_get, unwrap_or}
+-- What calls do that aren't by body: log calls, identity calls, `exit`, `abort`, `malloc`, `calloc`, `free`, and
+-- functions outside. A call has four places behind those of its arguments: of the answer, of how much is filled, of
+-- what is filled, and of whether filling fails; then one for each `%p` of a log call's format.
+use Rattle.std.specs.Prelude.{ℕ, zero, suc, ◌+◌, ◌-◌, ◌*◌, ◌%◌, ◌^◌, ℤ, pos, negsuc, min, Bool, true, false, cond}
+use Rattle.std.specs.Prelude.{not, ◌&&◌, nat_eq, nat_lt, List, [], ◌∷◌, ◌++◌, length, drop, Option, Some, None}
+use Rattle.std.specs.Prelude.{Result, Ok, Err, slice_get, unwrap_or}
 use Rattle.bit_words.specs.declared.run.Finish.{Finish}
 use Rattle.bit_words.specs.declared.run.Finish.TheVariants as finish
 use Rattle.bit_words.specs.declared.run.Happening.TheVariants as happening
@@ -111,7 +113,8 @@ behind_star size.Star [] = []
 behind_star (size.Written n) xs = xs
 behind_star size.Omitted xs = xs
 
--- ---- `%s`: the bytes up to the first 0, or as many as the precision says; none where one that is reached is of no live object
+-- ---- `%s`: the bytes up to the first 0, or as many as the precision says; none where one that is reached is of no
+-- live object
 
 abbrev pub with_byte : ℕ → Option (List ℕ) → Option (List ℕ)
 with_byte b None = None
@@ -222,7 +225,8 @@ pointers_in [] = 0
 pointers_in (piece.Literal bytes ∷ ps) = pointers_in ps
 pointers_in (piece.Converted c ∷ ps) = pointer_places c.form + pointers_in ps
 
--- ---- watched variables: what a print shows of the objects of integer type that are in scope, or live throughout the run
+-- ---- watched variables: what a print shows of the objects of integer type that are in scope, or live throughout
+-- the run
 
 abbrev pub is_integer_object : Means → Bool
 is_integer_object (means.Object t d l) = is_integer t
@@ -254,7 +258,8 @@ automatic_in [] = []
 automatic_in (b ∷ bs) = automatic_of b.entries (automatic_in bs)
 
 abbrev pub seen_as : Level → Env → Store → ℕ → Means → ℤ
-seen_as l env s at (means.Object t d linkage) = value_at (class_in (Some t)) (integer_bytes (kind_of t)) s (start (object_number d at l env))
+seen_as l env s at (means.Object t d linkage) =
+    value_at (class_in (Some t)) (integer_bytes (kind_of t)) s (start (object_number d at l env))
   where
     integer_bytes : Option IntegerKind → ℕ
     integer_bytes None = 0
@@ -289,7 +294,8 @@ prints_if l named g env (Some text) d = prints l named g env text d
 abbrev pub log_call : Level → List Entry → LogText → Site → Env → List ℤ → ℕ → State → State
 log_call l named f g env vs base d =
     let ps = log_pieces f g in
-    prints_if l named g env (text_with ps (arguments_of l ps (drop (before_format f) (spoken g.types vs)) (base + 4) d.store))
+    prints_if l named g env (text_with ps
+    (arguments_of l ps (drop (before_format f) (spoken g.types vs)) (base + 4) d.store))
     (meets (base + 4) (pointers_in ps) d)
 
 -- ---- identity calls
@@ -302,12 +308,16 @@ identity_call i g vs d = answers g (value_or_zero vs i) d
 abbrev pub as_number : ℤ → ℕ
 as_number z = word width.W64 z
 
--- an object of so many bytes at this place, or null where the place says so; more than the bound leaves the bounds (C99 7.20.3)
+-- an object of so many bytes at this place, or null where the place says so; more than the bound leaves the bounds
+-- (C99 7.20.3)
 abbrev pub heap_object : Level → Site → ℕ → ℕ → Bool → State → State
 heap_object l g n q zeroes d =
     cond (nat_lt l.limits.heap n) (finished (finish.Left g.at) d)
     (cond (nat_eq (asked l q) 0) (answers g (pos 0) (meet q d))
-    (answers g (pos (start q)) (meet q (with_store (zeroed_if zeroes (make q (record { kind = object.Heap; size = n }) d.store)) d))))
+    (answers g (pos (start q)) (meet q (with_store (zeroed_if zeroes (make q (record {
+      kind = object.Heap;
+      size = n;
+    }) d.store)) d))))
   where
     zeroed_if : Bool → Store → Store
     zeroed_if true s = zero_range (start q) n s
@@ -316,7 +326,8 @@ heap_object l g n q zeroes d =
 -- null has no effect (C99 7.20.3.2p2)
 abbrev pub freed : Site → ℕ → State → State
 freed g a d =
-    cond (can_free d.store a) (cond (nat_eq a 0) d (with_store (end (object_of a) d.store) d)) (stopped g.at undefined.Free d)
+    cond (can_free d.store a) (cond (nat_eq a 0) d (with_store (end (object_of a) d.store) d))
+    (stopped g.at undefined.Free d)
 
 abbrev pub library_call : Level → Library → Site → List ℤ → ℕ → State → State
 library_call l Exit g vs q d = finished (finish.Exit (value_or_zero vs 0)) d
@@ -337,7 +348,8 @@ is_character_class _ = false
 -- what a pointer from outside points to: a string for characters, else one object; of a type without size nothing
 abbrev pub outside_size : Level → Tables → Option CType → ℕ
 outside_size l tables None = 0
-outside_size l tables (Some t) = cond (is_character_class (class_in (Some t))) (suc l.limits.outside) (bytes_of tables (Some t))
+outside_size l tables (Some t) =
+    cond (is_character_class (class_in (Some t))) (suc l.limits.outside) (bytes_of tables (Some t))
 
 abbrev pub is_string : Option CType → Bool
 is_string None = false
@@ -380,7 +392,8 @@ fills_at l q a n s = lay a n (λ i. l.world.byte (start (q + 2) + i)) s
 abbrev pub filled : Level → Site → ℕ → ℕ → ℕ → (State → State) → State → State
 filled l g q a n f d =
     cond (can_access d.store a n)
-    (cond (can_write d.store a n) (f (with_store (fills_at l q a n d.store) d)) (stopped g.at undefined.LiteralWrite d))
+    (cond (can_write d.store a n) (f (with_store (fills_at l q a n d.store) d))
+    (stopped g.at undefined.LiteralWrite d))
     (stopped g.at undefined.Dereference d)
 
 abbrev pub is_odd : ℕ → Bool
@@ -390,7 +403,8 @@ abbrev pub fill_by : FillAnswer → Level → Bool → Site → ℕ → ℕ → 
 fill_by answer.Free l never_null g q a n d =
     filled l g q a n (outside_answer (class_in g.ctype) l never_null g q) (meets (q + 1) 2 d)
 fill_by answer.Count l never_null g q a n d =
-    cond (is_odd (asked l (q + 3))) (answers g (negsuc 0) (meet (q + 3) d)) (filled l g q a n (answers g (pos n)) (meets (q + 1) 3 d))
+    cond (is_odd (asked l (q + 3))) (answers g (negsuc 0) (meet (q + 3) d))
+    (filled l g q a n (answers g (pos n)) (meets (q + 1) 3 d))
 
 abbrev pub outside_call : Level → Option FillFunction → Bool → Site → List ℤ → ℕ → State → State
 outside_call l None never_null g vs q d = outside_answer (class_in g.ctype) l never_null g q d

@@ -1,7 +1,8 @@
--- The rules that an accepted program keeps: those of needed declarations and of the functions that are reached, and those that a log,
--- identity or filling function has by the profile. `breaches_of` lists what is broken; a program is accepted where `main` is one and the
--- list is empty.
-use Rattle.std.specs.Prelude.{◌≡◌, ℕ, suc, Bool, true, false, not, ◌&&◌, nat_eq, List, [], ◌∷◌, ◌++◌, length, drop, Option, Some, None, Result, Ok, Err, slice_get, unwrap_or}
+-- The rules that an accepted program keeps: those of needed declarations and of the functions that are reached, and
+-- those that a log, identity or filling function has by the profile. `breaches_of` lists what is broken; a program
+-- is accepted where `main` is one and the list is empty.
+use Rattle.std.specs.Prelude.{◌≡◌, ℕ, suc, Bool, true, false, not, ◌&&◌, nat_eq, List, [], ◌∷◌, ◌++◌, length, drop}
+use Rattle.std.specs.Prelude.{Option, Some, None, Result, Ok, Err, slice_get, unwrap_or}
 use Rattle.printf_text.specs.declared.kind.Kind.{Kind}
 use Rattle.printf_text.specs.declared.kind.Kind.TheVariants as kind
 use Rattle.printf_text.specs.declared.parse.FormatFault.{FormatFault}
@@ -33,7 +34,8 @@ use Rattle.c_runs.specs.declared.profile.FillFunction.{FillFunction}
 use Rattle.c_runs.specs.declared.profile.LogText.{LogText}
 use Rattle.c_runs.specs.declared.profile.LogText.TheVariants as log_
 use Rattle.c_runs.specs.Items.{Lasting, Item, breach, breach_if}
-use Rattle.c_runs.specs.Rules.{Plain, PlainInteger, plain_type, plain_result, same_plain, Rules, LogCall, IdentityCall, BodyCall, LibraryCall, PreludeCall, OutsideCall, fill_of}
+use Rattle.c_runs.specs.Rules.{Plain, PlainInteger, plain_type, plain_result, same_plain, Rules, LogCall}
+use Rattle.c_runs.specs.Rules.{IdentityCall, BodyCall, LibraryCall, PreludeCall, OutsideCall, fill_of}
 use Rattle.c_runs.specs.Programs.{Function, Outer, reached, needed}
 use Rattle.c_runs.specs.Runs.{Machine, rule_of, bare, main_of}
 
@@ -69,7 +71,8 @@ literal_breaches at None ts = breach at broken.FormatNotLiteral
 literal_breaches at (Some bytes) ts = pieces_breaches at (pieces_of bytes) ts
 
 abbrev pub log_breaches : LogText → Site → List Breach
-log_breaches (log_.Format i newline) g = literal_breaches g.at (unwrap_or (slice_get g.texts i) None) (drop (suc i) g.types)
+log_breaches (log_.Format i newline) g =
+    literal_breaches g.at (unwrap_or (slice_get g.texts i) None) (drop (suc i) g.types)
 log_breaches (log_.Text format) g = pieces_breaches g.at (pieces_of format) g.types
 
 -- what is handed on is a scalar
@@ -83,7 +86,8 @@ body_breaches f g = breach_if (not (nat_eq (length f.parameters) (length g.types
 abbrev pub fill_breaches : Option FillFunction → Site → List Breach
 fill_breaches None g = []
 fill_breaches (Some f) g =
-    breach_if (not (meets is_pointer (type_at g.types f.buffer) && meets is_integer (type_at g.types f.length))) g.at mismatch
+    breach_if (not (meets is_pointer (type_at g.types f.buffer) && meets is_integer
+    (type_at g.types f.length))) g.at mismatch
 
 abbrev pub rule_breaches : Machine → Site → Rules Function → List Breach
 rule_breaches m g (LogCall text) = log_breaches text g
@@ -123,7 +127,8 @@ is_known tables means.Faulty = true
 abbrev pub final_breaches : Scope → Lasting → Option Entry → List Breach
 final_breaches s x None = []
 final_breaches s x (Some e) =
-    breach_if (x.is_defined && nat_eq e.at x.entry.at && not (is_known s.tables e.means)) x.at (broken.Typing incomplete)
+    breach_if (x.is_defined && nat_eq e.at x.entry.at && not (is_known s.tables e.means)) x.at
+    (broken.Typing incomplete)
 
 abbrev pub lasting_breaches : Scope → List Lasting → List Breach
 lasting_breaches s [] = []

@@ -1,5 +1,6 @@
 -- Initializers (C99 6.7.8): what they do to the object that is declared. What is said of them stands in `c_says`.
-use Rattle.std.specs.Prelude.{ℕ, zero, suc, ◌+◌, ℤ, Bool, true, false, cond, List, [], ◌∷◌, ◌++◌, map, Option, Some, None, length, unwrap_or, is_some, not, ◌&&◌}
+use Rattle.std.specs.Prelude.{ℕ, zero, suc, ◌+◌, ℤ, Bool, true, false, cond, List, [], ◌∷◌, ◌++◌, map, Option, Some}
+use Rattle.std.specs.Prelude.{None, length, unwrap_or, is_some, not, ◌&&◌}
 use Rattle.c_tree.specs.declared.unit.Designator.{Designator}
 use Rattle.c_tree.specs.declared.unit.Designator.TheVariants as designator
 use Rattle.c_tree.specs.declared.unit.Initializer.{Initializer, fold-Initializer}
@@ -12,7 +13,8 @@ use Rattle.c_type_terms.specs.Layouts.{size_of}
 use Rattle.c_store.specs.Store.{lay, write}
 use Rattle.c_says.specs.Scopes.{Name, Scope}
 use Rattle.c_says.specs.Typing.{no_constant}
-use Rattle.c_says.specs.Initials.{Part, Filling, Fills, InitialSaid, Designates, ToMember, ToElement, value_says, list_says, item_says, filling_of, is_text_of}
+use Rattle.c_says.specs.Initials.{Part, Filling, Fills, InitialSaid, Designates, ToMember, ToElement, value_says}
+use Rattle.c_says.specs.Initials.{list_says, item_says, filling_of, is_text_of}
 use Rattle.c_says.specs.Declarations.{InitialSays}
 use Rattle.c_says.specs.Units.{initialises}
 use Rattle.c_means.specs.Parts.{Level, Site}
@@ -49,7 +51,12 @@ all_elements [] = []
 all_elements (x ∷ xs) = x.elements ++ all_elements xs
 
 abbrev pub value_initially : ExprNoted → Initially
-value_initially e = record { says = value_says {E = ExprNoted} typed_as e; is_braced = false; elements = Evaluates e ∷ [] }
+value_initially e = record {
+  says = value_says {E = ExprNoted} typed_as e;
+  is_braced = false;
+  elements = Evaluates e
+      ∷ [];
+}
 
 abbrev pub list_initially : ℕ → List Listed → Initially
 list_initially at xs = record { says = list_says at (all_fills xs); is_braced = true; elements = all_elements xs }
@@ -125,8 +132,9 @@ sets_all (p ∷ ps) (x ∷ xs) a l env base d =
 
 -- ---- an initializer, as the object's declaration has it
 
--- `run` acts on the object at an address. What a braced initializer doesn't name is 0 (C99 6.7.8p21): where `is_zeroed`, the object is set
--- to 0 before the first expression is evaluated. `constant` are the expressions that a static object may not be initialised with.
+-- `run` acts on the object at an address. What a braced initializer doesn't name is 0 (C99 6.7.8p21): where
+-- `is_zeroed`, the object is set to 0 before the first expression is evaluated. `constant` are the expressions that
+-- a static object may not be initialised with.
 pub record Initial : Type 0 where
   pub is_zeroed : Bool
   pub calls : List (Level → Site)
@@ -154,7 +162,8 @@ all_rooms (x ∷ xs) l = x.part.room l + all_rooms xs l
 
 -- what has no type breaks a rule already
 abbrev pub not_static : Noted → List Breach
-not_static x = breach_if (is_some x.part.typed.shown && not (is_static_value x)) x.part.typed.at (broken.Typing no_constant)
+not_static x =
+    breach_if (is_some x.part.typed.shown && not (is_static_value x)) x.part.typed.at (broken.Typing no_constant)
 
 abbrev pub all_not_static : List Noted → List Breach
 all_not_static [] = []
@@ -177,7 +186,15 @@ initialising x t s = initial_of x.is_braced (filling_of x.says t s) (evaluated x
 
 -- no initializer: nothing is done
 abbrev pub uninitialised : Initial
-uninitialised = record { is_zeroed = false; calls = []; called = []; size = λ l. 0; room = λ l. 0; constant = []; run = λ a l env base d. d }
+uninitialised = record {
+  is_zeroed = false;
+  calls = [];
+  called = [];
+  size = λ l. 0;
+  room = λ l. 0;
+  constant = [];
+  run = λ a l env base d. d;
+}
 
 abbrev pub initialising_if : Option Initially → Option CType → Scope → Initial
 initialising_if None t s = uninitialised

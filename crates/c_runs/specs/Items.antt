@@ -1,5 +1,6 @@
--- What statements and declarations are worth, and how they follow one another: `Item`. All control is composition of arrows of states: a
--- step acts where the run is running, a label and a case also where the run looks for them, and every other state passes.
+-- What statements and declarations are worth, and how they follow one another: `Item`. All control is composition of
+-- arrows of states: a step acts where the run is running, a label and a case also where the run looks for them, and
+-- every other state passes.
 use Rattle.std.specs.Prelude.{ℕ, ◌+◌, ℤ, ◌-ℤ◌, Bool, cond, List, [], ◌∷◌, ◌++◌, Option, Some, None, Ok, Err}
 use Rattle.std.specs.Str.{bytes_eq}
 use Rattle.c_type_terms.specs.declared.ctype.CType.{CType}
@@ -72,7 +73,8 @@ pub record Made : Type 0 where
 
 abbrev pub born : List Made → Arrow
 born [] d = d
-born (m ∷ ms) d = born ms (meet m.place (with_store (make m.place (record { kind = Automatic; size = m.size }) d.store) d))
+born (m ∷ ms) d =
+    born ms (meet m.place (with_store (make m.place (record { kind = Automatic; size = m.size }) d.store) d))
 
 abbrev pub dead : List Made → Arrow
 dead [] d = d
@@ -89,8 +91,9 @@ pub record Case : Type 0 where
   pub at : ℕ
   pub value : Option ℤ
 
--- An object that lives throughout the run, as a declaration in a block or the file declares it: the declaration's own offset, how many bytes
--- it has, whether it is defined there, so that its bytes are 0 (C99 6.7.8p10), and what its initializer does.
+-- An object that lives throughout the run, as a declaration in a block or the file declares it: the declaration's
+-- own offset, how many bytes it has, whether it is defined there, so that its bytes are 0 (C99 6.7.8p10), and what
+-- its initializer does.
 pub record Lasting : Type 0 where
   pub at : ℕ
   pub entry : Entry
@@ -98,10 +101,11 @@ pub record Lasting : Type 0 where
   pub is_defined : Bool
   pub set : Level → Arrow
 
--- What a statement or declaration is worth as an item of a block: the rules that it breaks; the scope behind it; the cases that it gives to
--- the `switch` whose block it is in; the calls in it, the functions that it calls; the objects that live throughout the run; how many nodes
--- it is in the measure, and how many places it takes; the objects that it gives to its block; and what it does. `links` are the names of the
--- objects and functions with linkage that it declares.
+-- What a statement or declaration is worth as an item of a block: the rules that it breaks; the scope behind it; the
+-- cases that it gives to the `switch` whose block it is in; the calls in it, the functions that it calls; the
+-- objects that live throughout the run; how many nodes it is in the measure, and how many places it takes; the
+-- objects that it gives to its block; and what it does. `links` are the names of the objects and functions with
+-- linkage that it declares.
 pub record Item : Type 0 where
   pub breaches : List Breach
   pub after : Scope
@@ -177,8 +181,9 @@ pub record Label : Type 0 where
   pub at : ℕ
   pub name : Name
 
--- What a statement stands in: the names and labels in force, all labels of the function, whether `break` and `continue` may stand here, the
--- type in which the `switch` compares whose block this is, and the type that the function returns.
+-- What a statement stands in: the names and labels in force, all labels of the function, whether `break` and
+-- `continue` may stand here, the type in which the `switch` compares whose block this is, and the type that the
+-- function returns.
 pub record Context : Type 0 where
   pub scope : Scope
   pub labels : List Label
@@ -188,8 +193,8 @@ pub record Context : Type 0 where
   pub chooses : Option IntegerKind
   pub result : Option CType
 
--- A statement: the labels that it gives to the block that it is in, those of the block that it is where it stands as one, and all in it;
--- what it is worth as an item of a block; and what stands in the block that it is.
+-- A statement: the labels that it gives to the block that it is in, those of the block that it is where it stands as
+-- one, and all in it; what it is worth as an item of a block; and what stands in the block that it is.
 pub record Code : Type 0 where
   pub labels : List Label
   pub own : List Label

@@ -9,3 +9,4 @@ pub mod Programs
 pub mod Runs
 pub mod Checks
 pub mod Prelude
+pub mod Units

@@ -1,5 +1,6 @@
--- Which names a tree uses, and which it declares (C99 6.2.1, 6.2.3): one fold over the whole syntax, with the string literals in it. A name
--- that is used behind its declaration in the same tree is bound there; what stays is used of what stands around the tree.
+-- Which names a tree uses, and which it declares (C99 6.2.1, 6.2.3): one fold over the whole syntax, with the string
+-- literals in it. A name that is used behind its declaration in the same tree is bound there; what stays is used of
+-- what stands around the tree.
 use Rattle.std.specs.Prelude.{ℕ, Bool, true, false, cond, not, ◌&&◌, ◌||◌, List, [], ◌∷◌, ◌++◌, Option, Some, None}
 use Rattle.std.specs.Str.{bytes_eq}
 use Rattle.c_tree.specs.declared.expr.Declarator.{Declarator}
@@ -21,7 +22,9 @@ use Rattle.c_tree.specs.declared.unit.Initializer.{Initializer, fold-Initializer
 use Rattle.c_tree.specs.declared.unit.Initializer.TheOpen as initial_
 use Rattle.c_tree.specs.declared.unit.Stmt.{Stmt, fold-Stmt}
 use Rattle.c_tree.specs.declared.unit.Stmt.TheOpen as stmt_
-use Rattle.c_tree.specs.Folds.{Carrier, Algebra, DeclaratorLayer, ExprLayer, FieldLayer, SpecifierLayer, EnumeratorLayer, MemberDeclarationLayer, ParameterLayer, TypeNameLayer, fold_expr, fold_declarator, fold_specifier}
+use Rattle.c_tree.specs.Folds.{Carrier, Algebra, DeclaratorLayer, ExprLayer, FieldLayer, SpecifierLayer}
+use Rattle.c_tree.specs.Folds.{EnumeratorLayer, MemberDeclarationLayer, ParameterLayer, TypeNameLayer, fold_expr}
+use Rattle.c_tree.specs.Folds.{fold_declarator, fold_specifier}
 use Rattle.c_says.specs.Scopes.{Name}
 use Rattle.c_means.specs.Expressions.{joined}
 
@@ -53,8 +56,8 @@ pub record Literal : Type 0 where
   pub at : ℕ
   pub text : Option (List ℕ)
 
--- `refers` are tags without a list, which declare themselves where nothing else is declared (C99 6.7.2.3p7); `named` is the name of a
--- declarator, and `parameters` what the function declarator next to it declares.
+-- `refers` are tags without a list, which declare themselves where nothing else is declared (C99 6.7.2.3p7); `named`
+-- is the name of a declarator, and `parameters` what the function declarator next to it declares.
 pub record Names : Type 0 where
   pub uses : List Word
   pub declares : List Binding
@@ -66,7 +69,16 @@ pub record Names : Type 0 where
   pub parameters : List Binding
 
 abbrev pub none : Names
-none = record { uses = []; declares = []; bound = []; literals = []; refers = []; named = None; is_derived = false; parameters = [] }
+none = record {
+  uses = [];
+  declares = [];
+  bound = [];
+  literals = [];
+  refers = [];
+  named = None;
+  is_derived = false;
+  parameters = [];
+}
 
 abbrev pub using : Word → Names
 using w = record none { uses = w ∷ [] }
@@ -310,7 +322,8 @@ stmt_step (stmt_.Value at value) = of_some names_of value
 stmt_step (stmt_.Label at name body) = body
 stmt_step (stmt_.Case at value body) = names_of value then body
 stmt_step (stmt_.Default at body) = body
-stmt_step (stmt_.If at condition positive negative) = scoped (names_of condition then scoped positive then scoped (if_some negative))
+stmt_step (stmt_.If at condition positive negative) =
+    scoped (names_of condition then scoped positive then scoped (if_some negative))
 stmt_step (stmt_.Switch at value body) = scoped (names_of value then scoped body)
 stmt_step (stmt_.While at condition body) = scoped (names_of condition then scoped body)
 stmt_step (stmt_.Do at body condition) = scoped (scoped body then names_of condition)

@@ -1,5 +1,5 @@
--- What is told of an expression besides what it does: the calls in it, the functions that it calls, and whether it is an address
--- constant (C99 6.6p9). `noted` is the fold; its `part` is what the expression is worth.
+-- What is told of an expression besides what it does: the calls in it, the functions that it calls, and whether it
+-- is an address constant (C99 6.6p9). `noted` is the fold; its `part` is what the expression is worth.
 use Rattle.std.specs.Prelude.{ℕ, Bool, true, false, ◌&&◌, ◌||◌, List, [], ◌∷◌, ◌++◌, Option, Some, None, is_some}
 use Rattle.c_tree.specs.declared.expr.BinaryOperator.{BinaryOperator}
 use Rattle.c_tree.specs.declared.expr.BinaryOperator.TheVariants as o
@@ -27,14 +27,17 @@ use Rattle.c_says.specs.Typing.{Typed, type_of, constant_of}
 use Rattle.c_says.specs.Declares.{Says, DeclaratorSays, NamedSays, TypeSays, Laying, FieldSays, Saying, Counting}
 use Rattle.c_says.specs.Trees.{saying}
 use Rattle.c_means.specs.Parts.{Part, Level, Site}
-use Rattle.c_means.specs.Expressions.{integer_constant, floating_constant, character_constant, string_literal, function_name}
-use Rattle.c_means.specs.Expressions.{identifier, subscript, call, member, arrow, postfix, unary, size_of_expression, size_of_type}
+use Rattle.c_means.specs.Expressions.{integer_constant, floating_constant, character_constant, string_literal}
+use Rattle.c_means.specs.Expressions.{function_name}
+use Rattle.c_means.specs.Expressions.{identifier, subscript, call, member, arrow, postfix, unary, size_of_expression}
+use Rattle.c_means.specs.Expressions.{size_of_type}
 use Rattle.c_means.specs.Expressions.{cast, binary, choice, assignment, comma, site, passed, parameters_of, designated}
 
 -- ---- what is told
 
--- `calls` are all calls, `called` the functions that are called where the call is evaluated. `is_place` tells that the expression is an
--- lvalue or function whose address is constant, `is_address` that its value is an address constant.
+-- `calls` are all calls, `called` the functions that are called where the call is evaluated. `is_place` tells that
+-- the expression is an lvalue or function whose address is constant, `is_address` that its value is an address
+-- constant.
 pub record Notes : Type 0 where
   pub calls : List (Level → Site)
   pub called : List Name
@@ -136,7 +139,8 @@ unary_noted at op x = valued_over false (unary at op x.part) (over x.notes)
 abbrev pub binary_noted : ℕ → BinaryOperator → Noted → Noted → Noted
 binary_noted at o.Add x y = valued_over (is_moved x y) (binary at o.Add x.part y.part) (over_two x.notes y.notes)
 binary_noted at o.Subtract x y =
-    valued_over (x.notes.is_address && is_constant y.part) (binary at o.Subtract x.part y.part) (over_two x.notes y.notes)
+    valued_over (x.notes.is_address && is_constant y.part) (binary at o.Subtract x.part y.part)
+    (over_two x.notes y.notes)
 binary_noted at op x y = valued_over false (binary at op x.part y.part) (over_two x.notes y.notes)
 
 abbrev pub cast_noted : Part → Noted → Noted
@@ -200,7 +204,8 @@ noted_step (open_.Floating at) s = leaf (floating_constant at s)
 noted_step (open_.Character at value) s = leaf (character_constant at value s)
 noted_step (open_.StringLiteral at pieces) s = placed_leaf true (string_literal at pieces s)
 noted_step (open_.FunctionName at) s = placed_leaf true (function_name at s.function s)
-noted_step (open_.Identifier at name) s = placed_leaf (is_fixed_name (look_up s name)) (identifier at s (look_up s name))
+noted_step (open_.Identifier at name) s =
+    placed_leaf (is_fixed_name (look_up s name)) (identifier at s (look_up s name))
 noted_step (open_.Parenthesized at inner) s = inner s
 noted_step (open_.Subscript at array index) s =
     let x = array s in

@@ -1,5 +1,7 @@
--- Programs: their external declarations in order, the functions that are reached, and the declarations that are needed (C99 6.9).
-use Rattle.std.specs.Prelude.{ℕ, zero, suc, ◌+◌, ◌*◌, Bool, false, cond, ◌||◌, nat_eq, List, [], ◌∷◌, ◌++◌, length, map, Option, Some, None, is_some, unwrap_or}
+-- Programs: their external declarations in order, the functions that are reached, and the declarations that are
+-- needed (C99 6.9).
+use Rattle.std.specs.Prelude.{ℕ, zero, suc, ◌+◌, ◌*◌, Bool, false, cond, ◌||◌, nat_eq, List, [], ◌∷◌, ◌++◌, length}
+use Rattle.std.specs.Prelude.{map, Option, Some, None, is_some, unwrap_or}
 use Rattle.std.specs.Str.{bytes_eq}
 use Rattle.c_tree.specs.declared.unit.Body.{Body}
 use Rattle.c_tree.specs.declared.unit.Body.TheVariants as body
@@ -18,14 +20,16 @@ use Rattle.c_runs.specs.declared.profile.Profile.{Profile}
 use Rattle.c_runs.specs.Notes.{declarator_noted, specifier_noted}
 use Rattle.c_runs.specs.Items.{Item, Code, Context, Lasting, typing, nothing}
 use Rattle.c_runs.specs.Statements.{stmt, declaration}
-use Rattle.c_runs.specs.Names.{Names, Word, Binding, Literal, same_word, ordinary, none, with_name, settled, ◌then◌, external_names, specifier_of, declarator_names, all_of}
+use Rattle.c_runs.specs.Names.{Names, Word, Binding, Literal, same_word, ordinary, none, with_name, settled, ◌then◌}
+use Rattle.c_runs.specs.Names.{external_names, specifier_of, declarator_names, all_of}
 use Rattle.c_runs.specs.Rules.{log_of, identity_index}
 use Rattle.c_runs.specs.Calls.{inserted, is_integer_object}
 
 -- ---- functions
 
--- A function definition: the entry of its name, the type of its value, its parameters in order, the scope of its body, what its body is
--- worth, the `{` of a body that couldn't be read, and the names that it uses, those of its head among them.
+-- A function definition: the entry of its name, the type of its value, its parameters in order, the scope of its
+-- body, what its body is worth, the `{` of a body that couldn't be read, and the names that it uses, those of its
+-- head among them.
 pub record Function : Type 0 where
   pub at : ℕ
   pub name : Name
@@ -55,8 +59,8 @@ body_item f (Some x) = x.content (body_context f x)
 
 -- ---- external declarations
 
--- What an external declaration is worth: what it declares and initialises, with the rules that it breaks; the names of that part; the
--- function that it defines; and the scope behind it.
+-- What an external declaration is worth: what it declares and initialises, with the rules that it breaks; the names
+-- of that part; the function that it defines; and the scope behind it.
 pub record Outer : Type 0 where
   pub item : Item
   pub names : Names
@@ -106,14 +110,16 @@ unread_in (body.Unread at) = Some at
 
 -- the names of its head alone
 abbrev pub head_names : List Specifier → Declarator → Names
-head_names specifiers declarator = settled (all_of specifier_of specifiers then with_name (declarator_names declarator))
+head_names specifiers declarator =
+    settled (all_of specifier_of specifiers then with_name (declarator_names declarator))
 
 abbrev pub declared_outer : Item → Names → Outer
 declared_outer x names = record { item = x; names = names; function = None; after = x.after }
 
 abbrev pub outer : External → Scope → Outer
 outer (external.Function specifiers declarator b) s =
-    with_function (function_by (map specifier_noted specifiers) (declarator_noted declarator) s) (unread_in b) (code_in b)
+    with_function (function_by (map specifier_noted specifiers) (declarator_noted declarator) s) (unread_in b)
+    (code_in b)
     (head_names specifiers declarator) (external_names (external.Function specifiers declarator b)) s
 outer (external.Declared d) s = declared_outer (declaration d s) (external_names (external.Declared d))
 outer (external.Empty at) s = declared_outer (nothing s) none
@@ -150,7 +156,8 @@ abbrev pub function_named : List Function → Name → Option Function
 function_named [] name = None
 function_named (f ∷ fs) name = cond (bytes_eq f.name name) (Some f) (function_named fs name)
 
--- ---- what is reached: `main`, and what the body of a function that is reached calls; the bodies of log and identity functions don't run
+-- ---- what is reached: `main`, and what the body of a function that is reached calls; the bodies of log and
+-- identity functions don't run
 
 abbrev pub run_body : Profile → List Function → Name → Option Function
 run_body profile fs name =
@@ -267,7 +274,11 @@ texts_of name [] = []
 texts_of name (x ∷ xs) = record { at = x.at; bytes = unwrap_or x.text name } ∷ texts_of name xs
 
 abbrev pub item_needs : List Name → Item → Name → Names → Needs
-item_needs links x name names = record { links = links ++ x.links; lasting = x.lasting; texts = texts_of name names.literals }
+item_needs links x name names = record {
+  links = links ++ x.links;
+  lasting = x.lasting;
+  texts = texts_of name names.literals;
+}
 
 abbrev pub declared_needs : List Word → Outer → Needs
 declared_needs ws x = cond (is_needed ws x) (item_needs [] x.item [] x.names) no_needs
@@ -278,12 +289,14 @@ function_needs found (Some f) = cond (has_function f found) (item_needs (f.name 
 
 abbrev pub all_needs : List Word → List Function → List Outer → Needs
 all_needs ws found [] = no_needs
-all_needs ws found (x ∷ xs) = and_needs (declared_needs ws x) (and_needs (function_needs found x.function) (all_needs ws found xs))
+all_needs ws found (x ∷ xs) =
+    and_needs (declared_needs ws x) (and_needs (function_needs found x.function) (all_needs ws found xs))
 
 abbrev pub needs_of : Profile → Program → Needs
 needs_of profile p = all_needs (needed_words profile p) (reached profile p) p.outers
 
--- ---- watched variables that live throughout the run: those of the file, and those of the function's blocks, that it names
+-- ---- watched variables that live throughout the run: those of the file, and those of the function's blocks, that
+-- it names
 
 abbrev pub is_lasting_integer : Means → Bool
 is_lasting_integer (means.Object t duration.Static l) = is_integer_object (means.Object t duration.Static l)
@@ -307,7 +320,8 @@ is_bound at (b ∷ bs) = nat_eq b at || is_bound at bs
 
 abbrev pub in_blocks : List Lasting → List ℕ → List Entry → List Entry
 in_blocks [] ats es = es
-in_blocks (x ∷ xs) ats es = cond (is_bound x.at ats) (watches (Some x.entry) (in_blocks xs ats es)) (in_blocks xs ats es)
+in_blocks (x ∷ xs) ats es =
+    cond (is_bound x.at ats) (watches (Some x.entry) (in_blocks xs ats es)) (in_blocks xs ats es)
 
 abbrev pub watched_lasting : Scope → Function → List Entry
 watched_lasting s f = in_blocks f.body.lasting f.names.bound (in_file s f.names.uses)

@@ -1,5 +1,6 @@
--- Which rule a call follows (C99 6.5.2.2, and the profile): `rule_of`. The first that applies counts: log function, identity function, body in
--- the source, a function of the C library that has a meaning of its own, a function of the prelude, else a function outside.
+-- Which rule a call follows (C99 6.5.2.2, and the profile): `rule_of`. The first that applies counts: log function,
+-- identity function, body in the source, a function of the C library that has a meaning of its own, a function of
+-- the prelude, else a function outside.
 use Rattle.std.specs.Prelude.{ℕ, Bool, true, false, cond, ◌&&◌, List, [], ◌∷◌, Option, Some, None, slice_get}
 use Rattle.std.specs.Str.{bytes_eq}
 use Rattle.c_type_terms.specs.declared.ctype.Base.{Base}
@@ -157,13 +158,15 @@ free' = 102 ∷ 114 ∷ 101 ∷ 101 ∷ []
 
 abbrev pub library_named : Name → Option Library
 library_named name =
-    cond (bytes_eq name exit') (Some Exit) (cond (bytes_eq name abort') (Some Abort) (cond (bytes_eq name malloc') (Some Malloc)
+    cond (bytes_eq name exit') (Some Exit)
+    (cond (bytes_eq name abort') (Some Abort) (cond (bytes_eq name malloc') (Some Malloc)
     (cond (bytes_eq name calloc') (Some Calloc) (cond (bytes_eq name free') (Some Free) None))))
 
 abbrev pub size_plain : Option Plain
 size_plain = Some (PlainInteger int_.UnsignedLong)
 
--- void exit(int); void abort(void); void *malloc(unsigned long); void *calloc(unsigned long, unsigned long); void free(void *);
+-- void exit(int); void abort(void); void *malloc(unsigned long); void *calloc(unsigned long, unsigned long); void
+-- free(void *);
 abbrev pub library_type : Library → Taking
 library_type Exit = record { result = Some PlainVoid; parameters = Some (PlainInteger int_.Int) ∷ [] }
 library_type Abort = record { result = Some PlainVoid; parameters = [] }

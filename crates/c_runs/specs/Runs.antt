@@ -1,6 +1,8 @@
--- The run of a program (C99 5.1.2.2, 6.5.2.2, 6.9.1): calls by body, by the depth that is left; the places of what lives throughout the run;
--- the objects that are made before `main` is called; `run_of`, `room_of` and `unrolled_size`.
-use Rattle.std.specs.Prelude.{ℕ, zero, suc, ◌+◌, ◌-◌, ◌*◌, ◌%◌, ℤ, pos, Bool, true, false, cond, nat_eq, nat_lt, List, [], ◌∷◌, ◌++◌, length, Option, Some, None}
+-- The run of a program (C99 5.1.2.2, 6.5.2.2, 6.9.1): calls by body, by the depth that is left; the places of what
+-- lives throughout the run; the objects that are made before `main` is called; `run_of`, `room_of` and
+-- `unrolled_size`.
+use Rattle.std.specs.Prelude.{ℕ, zero, suc, ◌+◌, ◌-◌, ◌*◌, ◌%◌, ℤ, pos, Bool, true, false, cond, nat_eq, nat_lt}
+use Rattle.std.specs.Prelude.{List, [], ◌∷◌, ◌++◌, length, Option, Some, None}
 use Rattle.bit_words.specs.declared.run.Finish.{Finish}
 use Rattle.bit_words.specs.declared.run.Finish.TheVariants as finish
 use Rattle.bit_words.specs.declared.run.Run.{Run}
@@ -24,14 +26,18 @@ use Rattle.c_runs.specs.Items.{Arrow, Made, Lasting, born, dead, known, running,
 use Rattle.c_runs.specs.Initials.{stores, text_byte}
 use Rattle.c_runs.specs.Statements.{no_env}
 use Rattle.c_runs.specs.Names.{Literal}
-use Rattle.c_runs.specs.Rules.{Taking, Rules, LogCall, IdentityCall, BodyCall, LibraryCall, PreludeCall, OutsideCall, rule_by, log_of, identity_index, fill_of, library_of, callee_taking, declared_taking, same_taking, is_among}
-use Rattle.c_runs.specs.Calls.{asked, finished, meets, log_call, log_pieces, pointers_in, identity_call, library_call, outside_call}
-use Rattle.c_runs.specs.Programs.{Function, Outer, Program, functions_of, function_named, main', Needs, Text, needs_of, watched_lasting}
+use Rattle.c_runs.specs.Rules.{Taking, Rules, LogCall, IdentityCall, BodyCall, LibraryCall, PreludeCall, OutsideCall}
+use Rattle.c_runs.specs.Rules.{rule_by, log_of, identity_index, fill_of, library_of, callee_taking, declared_taking}
+use Rattle.c_runs.specs.Rules.{same_taking, is_among}
+use Rattle.c_runs.specs.Calls.{asked, finished, meets, log_call, log_pieces, pointers_in, identity_call}
+use Rattle.c_runs.specs.Calls.{library_call, outside_call}
+use Rattle.c_runs.specs.Programs.{Function, Outer, Program, functions_of, function_named, main', Needs, Text}
+use Rattle.c_runs.specs.Programs.{needs_of, watched_lasting}
 
 -- ---- what a run is of
 
--- A program, with the functions of the prelude, what is known of functions besides, what the outside gives, and the bounds: `depth` is how
--- many levels of calls there may be, of which `main` is the first.
+-- A program, with the functions of the prelude, what is known of functions besides, what the outside gives, and the
+-- bounds: `depth` is how many levels of calls there may be, of which `main` is the first.
 pub record Machine : Type 0 where
   pub program : Program
   pub prelude : List Function
@@ -40,7 +46,8 @@ pub record Machine : Type 0 where
   pub limits : Limits
   pub depth : ℕ
 
--- ---- the places of what lives throughout the run: by offset, from 1, each function and object with linkage at its first declaration, each
+-- ---- the places of what lives throughout the run: by offset, from 1, each function and object with linkage at its
+-- first declaration, each
 -- static object of a block, each string literal and `__func__`, needed or not
 
 abbrev pub with_offset : ℕ → List ℕ → List ℕ
@@ -66,7 +73,8 @@ function_offsets (Some f) ats = lasting_offsets f.body.lasting (literal_offsets 
 abbrev pub outer_offsets : List Outer → List ℕ → List ℕ
 outer_offsets [] ats = ats
 outer_offsets (x ∷ xs) ats =
-    lasting_offsets x.item.lasting (literal_offsets x.names.literals (function_offsets x.function (outer_offsets xs ats)))
+    lasting_offsets x.item.lasting (literal_offsets x.names.literals
+    (function_offsets x.function (outer_offsets xs ats)))
 
 abbrev pub offsets_of : Program → List ℕ
 offsets_of p = outer_offsets p.outers (linked_offsets p.scope.linked [])
@@ -139,7 +147,8 @@ prelude_of m t name = prelude_if t (function_named m.prelude name)
 abbrev pub rule_of : Machine → Site → Rules Function
 rule_of m g =
     let name = g.callee.name in
-    rule_by (log_of m.profile name) (identity_index m.profile name) (function_named (functions_of m.program) name) (library_of g)
+    rule_by (log_of m.profile name) (identity_index m.profile name) (function_named (functions_of m.program) name)
+    (library_of g)
     (prelude_of m (callee_taking g) name)
 
 -- ---- levels
@@ -202,7 +211,8 @@ call_by m caller turns below (IdentityCall i) g env vs base s count = identity_c
 call_by m caller turns below (BodyCall f) g env vs base s count = call_below below f m.limits.turns g vs base s count
 call_by m caller turns below (LibraryCall f) g env vs base s count =
     library_call (bare m turns) f g vs base (entered s count)
-call_by m caller turns below (PreludeCall f) g env vs base s count = call_below below f m.limits.texts g vs base s count
+call_by m caller turns below (PreludeCall f) g env vs base s count =
+    call_below below f m.limits.texts g vs base s count
 call_by m caller turns below OutsideCall g env vs base s count =
     outside_call (bare m turns) (fill_of m.profile g.callee.name) (is_never_null m g) g vs base (entered s count)
 
@@ -236,7 +246,8 @@ size_of_means defined tables means.Faulty n = n
 -- the type of an object of the file is the one that is in force at the file's end
 abbrev pub final_size : Program → Lasting → Option Entry → ℕ
 final_size p x None = x.size
-final_size p x (Some e) = cond (nat_eq e.at x.entry.at) (size_of_means x.is_defined p.scope.tables e.means x.size) x.size
+final_size p x (Some e) =
+    cond (nat_eq e.at x.entry.at) (size_of_means x.is_defined p.scope.tables e.means x.size) x.size
 
 abbrev pub object_at : ObjectKind → ℕ → ℕ → Arrow
 object_at kind place n d = record d { store = make place (record { kind = kind; size = n }) d.store }
@@ -341,7 +352,8 @@ abbrev pub makes_arguments : Machine → ℕ → Arrow
 makes_arguments m p d =
     let n = 8 * suc m.limits.arguments in
     points_to (start (suc p)) (suc (suc p)) (argument_count m p)
-    (zeroed_if true (suc p) n (object_at object.Outside (suc p) n (makes_strings m (suc (suc p)) m.limits.arguments d)))
+    (zeroed_if true (suc p) n (object_at object.Outside (suc p) n
+    (makes_strings m (suc (suc p)) m.limits.arguments d)))
 
 abbrev pub main_state : Machine → List Entry → ℕ → Arrow
 main_state m (e ∷ f ∷ []) p d = makes_arguments m p (meets p (2 + m.limits.arguments) d)
@@ -368,7 +380,8 @@ abbrev pub called_main : Machine → Function → Arrow
 called_main m f d =
     let p = entry_place m.program in
     let e = main_state m f.parameters p d in
-    behind e (by_body (level_of m (m.depth - 1) f m.limits.turns) f (main_arguments m f.parameters p) (p + entry_room m f.parameters) e.store e.count)
+    behind e (by_body (level_of m (m.depth - 1) f m.limits.turns) f (main_arguments m f.parameters p)
+    (p + entry_room m f.parameters) e.store e.count)
 
 abbrev pub main_run : Machine → Option Function → State → State
 main_run m None d = d

@@ -1,5 +1,6 @@
 -- What statements and declarations do (C99 6.7, 6.8): one function a form, over what stands in it. `stmt` is the fold.
-use Rattle.std.specs.Prelude.{ℕ, zero, suc, ◌+◌, ◌*◌, ℤ, Bool, true, false, cond, not, ◌&&◌, ◌||◌, nat_lt, List, [], ◌∷◌, ◌++◌, map, option_map, Option, Some, None, is_some}
+use Rattle.std.specs.Prelude.{ℕ, zero, suc, ◌+◌, ◌*◌, ℤ, Bool, true, false, cond, not, ◌&&◌, ◌||◌, nat_lt, List, []}
+use Rattle.std.specs.Prelude.{◌∷◌, ◌++◌, map, option_map, Option, Some, None, is_some}
 use Rattle.std.specs.Str.{bytes_eq}
 use Rattle.bit_words.specs.declared.run.Finish.TheVariants as finish
 use Rattle.bit_words.specs.declared.run.Happening.TheVariants as happening
@@ -37,7 +38,11 @@ use Rattle.c_means.specs.Expressions.{on_branch}
 use Rattle.c_runs.specs.declared.breach.Breach.{Breach}
 use Rattle.c_runs.specs.declared.breach.BrokenRule.TheVariants as broken
 use Rattle.c_runs.specs.Notes.{Noted, ExprNoted, noted, declarator_noted, specifier_noted}
-use Rattle.c_runs.specs.Items.{Arrow, Acts, Case, Lasting, Item, Label, Context, Code, breach, breach_if, typing, running, become, arrive, passes, with_value, nothing, followed, with_breaches, node, guarded, closed, without_cases, in_scope, opened, block_of, unchosen, sub, in_turn, labels_of, every_of, past_break, past_continue, past_switch, at_label, at_case, at_default, same}
+use Rattle.c_runs.specs.Items.{Arrow, Acts, Case, Lasting, Item, Label, Context, Code, breach, breach_if, typing}
+use Rattle.c_runs.specs.Items.{running, become, arrive, passes, with_value, nothing, followed, with_breaches, node}
+use Rattle.c_runs.specs.Items.{guarded, closed, without_cases, in_scope, opened, block_of, unchosen, sub, in_turn}
+use Rattle.c_runs.specs.Items.{labels_of, every_of, past_break, past_continue, past_switch, at_label, at_case}
+use Rattle.c_runs.specs.Items.{at_default, same}
 use Rattle.c_runs.specs.Initials.{Initial, Initially, initially, initialising_if, said_if}
 
 -- ---- a step that an expression takes
@@ -72,7 +77,8 @@ abbrev pub zeroed_if : Bool → ℕ → ℕ → Arrow
 zeroed_if true a n d = record d { store = zero_range a n d.store }
 zeroed_if false a n d = d
 
--- an automatic object is there from the block's entry, and is initialised where its declaration is reached (C99 6.2.4p5, p6)
+-- an automatic object is there from the block's entry, and is initialised where its declaration is reached (C99
+-- 6.2.4p5, p6)
 abbrev pub automatic : Entry → ℕ → Initial → Scope → Item
 automatic e n x s = record (nothing s) {
   calls = x.calls;
@@ -80,7 +86,8 @@ automatic e n x s = record (nothing s) {
   size = λ l. 1 + x.size l;
   room = λ l. 1 + x.room l;
   objects = λ l base. record { at = e.at; place = base; size = n } ∷ [];
-  run = λ l env base. running (λ d. x.run (start (env e.at)) l env (base + 1) (zeroed_if x.is_zeroed (start (env e.at)) n d));
+  run = λ l env base. running (λ d. x.run (start (env e.at)) l env (base + 1)
+      (zeroed_if x.is_zeroed (start (env e.at)) n d));
 }
 
 abbrev pub no_env : Env
@@ -115,7 +122,8 @@ lasting at e n l defined x s = record (nothing s) {
 -- by what the name means: only objects act
 abbrev pub declared_means : ℕ → Entry → Means → Bool → Initial → Scope → Item
 declared_means at e (means.Object t duration.Automatic l) defined x s = automatic e (bytes_of s.tables (Some t)) x s
-declared_means at e (means.Object t duration.Static l) defined x s = lasting at e (bytes_of s.tables (Some t)) l defined x s
+declared_means at e (means.Object t duration.Static l) defined x s =
+    lasting at e (bytes_of s.tables (Some t)) l defined x s
 declared_means at e (means.Function t l) defined x s = record (nothing s) { links = e.name ∷ [] }
 declared_means at e (means.Typedef t) defined x s = nothing s
 declared_means at e (means.Constant z) defined x s = nothing s
@@ -129,8 +137,8 @@ abbrev pub type_in_entry : Option Entry → Option CType
 type_in_entry None = None
 type_in_entry (Some e) = object_type e.means
 
--- The name is in force in its own initializer (C99 6.2.1p7), with the type that the declarator gives it: `plain` is the declaration without
--- its initializer, `whole` with it.
+-- The name is in force in its own initializer (C99 6.2.1p7), with the type that the declarator gives it: `plain` is
+-- the declaration without its initializer, `whole` with it.
 abbrev pub declared_item : ℕ → Bool → Option Initially → Declared → Declared → Item
 declared_item at defined i plain whole =
     with_breaches (typing whole.faults)
@@ -145,7 +153,8 @@ name_offset None = 0
 name_offset (Some n) = n.0
 
 abbrev pub declares_formed : Said → Formed → Option Initially → Item
-declares_formed said f i = declared_item (name_offset f.name) (defines said i) i (declares said f None) (declares said f (said_if i))
+declares_formed said f i =
+    declared_item (name_offset f.name) (defines said i) i (declares said f None) (declares said f (said_if i))
 
 abbrev pub declares_all : Said → List Declaring → Scope → Item
 declares_all said [] s = nothing s
@@ -213,7 +222,8 @@ labeled at name body = record {
     label = record { at = at; name = name }
 
     here : Context → Item
-    here c = node (with_breaches (breach_if (stood_before at name c.every) at broken.BadGoto) (arrived (at_label name) (body.here c)))
+    here c = node (with_breaches (breach_if (stood_before at name c.every) at broken.BadGoto)
+        (arrived (at_label name) (body.here c)))
 
 -- a case belongs to the `switch` whose block it stands in (C99 6.8.1p2)
 abbrev pub is_chosen : Option IntegerKind → Bool
@@ -228,7 +238,8 @@ case_value (Some kind) (Some z) = Some (converted kind z)
 
 abbrev pub case_breaches : ℕ → Noted → Context → List Breach
 case_breaches at x c =
-    typing (x.part.typed.faults ++ not_constant x.part.typed) ++ breach_if (not (is_chosen c.chooses)) at broken.BadGoto
+    typing (x.part.typed.faults ++ not_constant x.part.typed) ++ breach_if
+    (not (is_chosen c.chooses)) at broken.BadGoto
 
 abbrev pub chosen_by : ℕ → Option ℤ → Item → Item
 chosen_by at value x = record x { cases = record { at = at; value = value } ∷ x.cases }
@@ -240,17 +251,25 @@ case_of at (Some z) x = chosen_by at (Some z) (arrived (at_case (Some z)) x)
 
 abbrev pub case_item : ℕ → Noted → Code → Context → Item
 case_item at x body c =
-    let i = with_breaches (case_breaches at x c) (case_of at (case_value c.chooses (constant_of x.part.typed)) (body.here (in_scope x.part.typed.after c))) in
+    let i = with_breaches (case_breaches at x c)
+    (case_of at (case_value c.chooses (constant_of x.part.typed)) (body.here (in_scope x.part.typed.after c))) in
     record i { calls = x.notes.calls ++ i.calls; size = λ l. 1 + (x.part.size l + i.size l) }
 
 abbrev pub with_here : Code → (Context → Item) → Code
-with_here body here = record { labels = body.labels; own = body.labels; every = body.every; here = here; content = here }
+with_here body here = record {
+  labels = body.labels;
+  own = body.labels;
+  every = body.every;
+  here = here;
+  content = here;
+}
 
 abbrev pub case_labeled : ℕ → ExprNoted → Code → Code
 case_labeled at value body = with_here body (λ c. case_item at (value c.scope) body c)
 
 abbrev pub default_labeled : ℕ → Code → Code
-default_labeled at body = with_here body (λ c. node (with_breaches (breach_if (not (is_chosen c.chooses)) at broken.BadGoto)
+default_labeled at body =
+    with_here body (λ c. node (with_breaches (breach_if (not (is_chosen c.chooses)) at broken.BadGoto)
     (chosen_by at None (arrived at_default (body.here c)))))
 
 -- ---- selection (C99 6.8.4)
@@ -280,7 +299,9 @@ if_runs at x first second l env base d =
 -- C99 6.8.4.1p2; the whole statement is a block (C99 6.8.4p3)
 abbrev pub if_item : ℕ → Noted → Item → Item → Item
 if_item at x first second =
-    node (record (acting (if_runs at x first second) (with_breaches (condition_breaches at x) (followed (tested x) (followed first second)))) { after = leave second.after })
+    node (record (acting (if_runs at x first second)
+    (with_breaches (condition_breaches at x)
+    (followed (tested x) (followed first second)))) { after = leave second.after })
 
 abbrev pub maybe_sub : Option Code → Context → Item
 maybe_sub None c = nothing c.scope
@@ -327,7 +348,8 @@ is_among z (x ∷ xs) = same_case z x.value || is_among z xs
 -- each value once, and one `default` (C99 6.8.4.2p3); `before` are the cases before
 abbrev pub repeated_cases : List Case → List Case → List Breach
 repeated_cases before [] = []
-repeated_cases before (x ∷ xs) = breach_if (is_among x.value before) x.at broken.BadGoto ++ repeated_cases (x ∷ before) xs
+repeated_cases before (x ∷ xs) =
+    breach_if (is_among x.value before) x.at broken.BadGoto ++ repeated_cases (x ∷ before) xs
 
 -- to the case of the value, else to `default`, else behind the statement (C99 6.8.4.2p4, p5)
 abbrev pub chosen : List Case → ℤ → Kind
@@ -349,7 +371,9 @@ switch_runs at x body l env base d =
 -- C99 6.8.4.2
 abbrev pub switch_item : ℕ → Noted → Item → Item
 switch_item at x body =
-    node (record (acting (switch_runs at x body) (with_breaches (switch_breaches at x ++ repeated_cases [] body.cases) (followed (tested x) body))) { after = leave body.after })
+    node (record (acting (switch_runs at x body)
+    (with_breaches (switch_breaches at x ++ repeated_cases [] body.cases)
+    (followed (tested x) body))) { after = leave body.after })
 
 abbrev pub switch_context : Noted → Context → Context
 switch_context x c = record (in_scope x.part.typed.after c) { breaks = true; chooses = Some (switch_kind x) }
@@ -459,7 +483,8 @@ for_from at first condition step body c =
     guarded (closed (followed first (for_turns at test (maybe_value step test.item.after) body c)))
 
 abbrev pub for_of : ℕ → (Scope → Item) → Option ExprNoted → Option ExprNoted → Code → Code
-for_of at begins condition step body = code (λ c. for_from at (begins (enter c.scope)) condition step body c) body.every
+for_of at begins condition step body =
+    code (λ c. for_from at (begins (enter c.scope)) condition step body c) body.every
 
 -- ---- jumps (C99 6.8.6)
 
@@ -502,7 +527,11 @@ return_breaches at (Some t) (Some u) = return_rule at t u
 -- the value is converted as by an assignment (C99 6.8.6.4p3)
 abbrev pub returns : Noted → Option CType → Acts
 returns x t l env base d =
-    with_value (x.part.run l env base d) (λ v d. record d { kind = k.Returning; value = Some (converted_to (class_in t) v) })
+    with_value (x.part.run l env base d) (λ v d. record d {
+      kind = k.Returning;
+      value = Some (converted_to
+          (class_in t) v);
+    })
 
 abbrev pub value_return : ℕ → Noted → Context → Item
 value_return at x c =

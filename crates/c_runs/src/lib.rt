@@ -1,5 +1,5 @@
-//! What whole programs of C mean: statements, calls, the functions of the C library that have a body here, and the run.
-//! The definitions stand in `specs/`; here are the kinds of data that they speak of.
+//! What whole programs of C mean: statements, calls, the functions of the C library that have a body here, and
+//! the run. The definitions stand in `specs/`; here are the kinds of data that they speak of.
 #![tactic(auto)]
 
 mod breach;
