@@ -177,7 +177,7 @@ row_filled_byte = refl
 -- a byte past the count stays as it was
 pub row_byte_past_filled :
     (run_of (filling 0 (does (set (element 60 x (int 3)) (int 9)) ∷ does filled ∷ returns 80 (element 81 x (int 3))
-        ∷ []))).finish
+    ∷ []))).finish
     ≡ finish.Return (pos 9)
 unfolding converted exact level_of
 row_byte_past_filled = refl
