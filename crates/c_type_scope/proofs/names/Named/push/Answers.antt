@@ -1,6 +1,6 @@
 use Rattle.std.proofs.Common.{◌∙◌, ap}
-use Rattle.c_types.proofs.ByBytes.{last_by_name}
-use Rattle.c_types.proofs.names.Named.push.Goals as goal
+use Rattle.c_type_scope.proofs.ByBytes.{last_by_name}
+use Rattle.c_type_scope.proofs.names.Named.push.Goals as goal
 
 pub invariant_of-self-in-Ok : goal.invariant_of-self-in-Ok
 invariant_of-self-in-Ok g c =

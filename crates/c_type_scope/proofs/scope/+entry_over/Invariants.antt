@@ -1,5 +1,5 @@
 use Rattle.std.proofs.Common.{length}
-use Rattle.c_types.proofs.scope.+entry_over.Given as goal
+use Rattle.c_type_scope.proofs.scope.+entry_over.Given as goal
 
 abbrev pub decreases-entry_over : goal.decreases-entry_over
 decreases-entry_over l = length l.blocks.now
