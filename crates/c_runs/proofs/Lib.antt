@@ -6,3 +6,4 @@ pub mod Rows
 pub mod MoreRows
 pub mod LogRows
 pub mod PreludeRows
+pub mod ControlRows

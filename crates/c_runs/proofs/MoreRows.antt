@@ -91,7 +91,7 @@ abbrev pointer_line : OfExpr
 pointer_line = text 40 (37 ∷ 112 ∷ 10 ∷ [])
 
 -- behind the places of `printf`, `main`, the literal and the object, and the four of the call
-abbrev showing : ℕ → OfExpr → Machine
+abbrev pub showing : ℕ → OfExpr → Machine
 showing n e = machine (giving 9 n) (printf_declared
     ∷ main_with (printf' ∷ []) (record { at = 40; text = Some (37 ∷ 112 ∷ 10 ∷ []) } ∷ []) (
     declare (word w.Int ∷ []) (name 20 x') (Some (value (int 1))) ∷ does (call 70 printf' (pointer_line ∷ e ∷ []))
