@@ -7,3 +7,6 @@ pub mod MoreRows
 pub mod LogRows
 pub mod PreludeRows
 pub mod ControlRows
+pub mod QuickTexts
+pub mod QuickRuns
+pub mod NumberRows

@@ -36,14 +36,14 @@ abbrev ext_declared : Scope → Outer
 ext_declared =
     declared_function 2 ext' (word w.Int ∷ []) (built.function noting 0 (name 2 ext') (void_parameter ∷ []) false)
 
-abbrev P : World → List Name → List Literal → List OfStmt → Machine
+abbrev pub P : World → List Name → List Literal → List OfStmt → Machine
 P world uses literals xs =
     machine world (log_declared ∷ ext_declared ∷ main_with uses literals (xs ++ returns 90 (int 0) ∷ []) ∷ [])
 
-abbrev a_literal : ℕ → List ℕ → List Literal
+abbrev pub a_literal : ℕ → List ℕ → List Literal
 a_literal at bytes = record { at = at; text = Some bytes } ∷ []
 
-abbrev logs : List ℕ → List OfExpr → OfStmt
+abbrev pub logs : List ℕ → List OfExpr → OfStmt
 logs format xs = does (call 70 printf' (text 40 format ∷ xs))
 
 -- ---- printf("%hhu\n", -1);
