@@ -35,9 +35,12 @@ use Rattle.c_means.specs.Expressions.{size_of_type, cast, cast_as, cast_operand,
 use Rattle.c_means.specs.Expressions.{logical, both_evaluated, binary, chosen, choice_as, choice, simple, compound}
 use Rattle.c_means.specs.Expressions.{assignment, comma, Passed, passed, all_rooms, arguments, calling, needed, direct_call}
 use Rattle.c_means.specs.Expressions.{call_of, call, constant, unmeant, made_for, string_literal, function_name}
-use Rattle.c_means.specs.Expressions.{identifier, named_as, object_of}
+use Rattle.c_means.specs.Expressions.{identifier, named_as, object_of, site, designated, parameters_of}
+use Rattle.c_means.specs.declared.kind.Kind.{Kind}
+use Rattle.c_means.specs.declared.kind.Kind.TheVariants as kind
+use Rattle.c_type_terms.specs.declared.ctype.CType.{CType}
 use Rattle.c_places.specs.Places.{times}
-use Rattle.c_places.proofs.Counts.{Rises, met, AddsTo, Quiet, bind, weaken, quiet}
+use Rattle.c_places.proofs.Counts.{Rises, met, AddsTo, Quiet, bind, weaken, quiet, times-append}
 use Rattle.c_places.proofs.Values.{either, loads, puts, operates, operates_on, turns}
 
 -- calls keep to their rooms
@@ -376,6 +379,66 @@ module _ (w : ℕ → ℕ) (p : ℕ) (l : Level) (c : Calling w p l) where
 
   -- ---- calls
 
-  pub EachKeeps : List Part → Type 0
+  abbrev pub EachKeeps : List Part → Type 0
   EachKeeps [] = Unit {0}
   EachKeeps (x ∷ xs) = K x × EachKeeps xs
+
+  abbrev EachPassed : List Passed → Type 0
+  EachPassed [] = Unit {0}
+  EachPassed (q ∷ qs) = K q.part × EachPassed qs
+
+  passed_keep : (xs : List Part) (ts : List CType) → EachKeeps xs → EachPassed (passed xs ts)
+  passed_keep [] ts h = tt
+  passed_keep (x ∷ xs) [] h = (h.0, passed_keep xs [] h.1)
+  passed_keep (x ∷ xs) (t ∷ ts) h = (h.0, passed_keep xs ts h.1)
+
+  arguments_within : (qs : List Passed) → EachPassed qs → Within w p (all_rooms qs l) (arguments qs l)
+  arguments_within [] h = still {A = List ℤ} 0 _ (λ env base d i. quiet p i [] d)
+  arguments_within (q ∷ qs) h =
+      in_order (q.part.room l) (all_rooms qs l) (q.part.run l)
+      (λ v env base d. arguments qs l env base d >>= (λ vs. Ok (converted_to (class_in q.ctype) v ∷ vs.0, vs.1)))
+      h.0.run
+      (λ v. behind (all_rooms qs l) (arguments qs l)
+      (λ env base vs. Ok (converted_to (class_in q.ctype) v ∷ vs.0, vs.1)) (arguments_within qs h.1)
+      (λ env base vs i. quiet p i (converted_to (class_in q.ctype) v ∷ vs.0) vs.1))
+
+  -- the caller goes on with what was met behind what it met
+  returns : (i j : ℕ) (d r : State) (k : Kind) → met p r + i ≤ j → AddsTo p i j (met p d) (returned_in d r k)
+  returns i j d r (kind.Ended f) h = record { holds = omega (arith, h, times-append p d.met r.met) }
+  returns i j d r k h = record { holds = omega (arith, h, times-append p d.met r.met) }
+
+  calling_within : (g : Level → Site) (qs : List Passed) → EachPassed qs →
+      Within w p (all_rooms qs l + l.room (g l)) (calling g qs l)
+  calling_within g qs h =
+      in_order (all_rooms qs l) (l.room (g l)) (arguments qs l)
+      (λ vs env base d. let d : State = note (happening.Call (g l).at) d in
+      returned d (l.call (g l) env vs base d.store d.count)) (arguments_within qs h)
+      (λ vs env base d. let r = l.call (g l) env vs base d.store d.count in
+      returns (w base) (w (base + l.room (g l))) (note (happening.Call (g l).at) d) r r.kind
+      (c.call (g l) env vs base d.store d.count))
+
+  needs_value : (at : ℕ) (cl : Class) (v : Option ℤ) (d : State) → Quiet p d (needed at cl v d)
+  needs_value at cl (Some z) d i = record { holds = le_refl _ }
+  needs_value at class.Void None d i = record { holds = le_refl _ }
+  needs_value at cl None d i = record { holds = le_refl _ }
+
+  direct_call_keeps : (at : ℕ) (t : Typed) (g : Level → Site) (qs : List Passed) → EachPassed qs →
+      K (direct_call at t g qs)
+  direct_call_keeps at t g qs h =
+      let room = all_rooms qs l + l.room (g l) in
+      record {
+        reach = still {A = ℕ} room (λ env base d. Ok (0, d)) (λ env base d i. quiet p i 0 d);
+        run = behind room (calling g qs l) (λ env base v. needed at (class_in (type_of t)) v.0 v.1)
+            (calling_within g qs h) (λ env base v. needs_value at (class_in (type_of t)) v.0 v.1);
+        effect = behind room (calling g qs l) (λ env base v. Ok (unwrap_or v.0 (pos 0), v.1))
+            (calling_within g qs h) (λ env base v i. quiet p i (unwrap_or v.0 (pos 0)) v.1);
+      }
+
+  call_of_keeps : (e : Option Entry) (f t : Typed) (qs : List Passed) → EachPassed qs → K (call_of e f t qs)
+  call_of_keeps None f t qs h = unmeant_keeps t
+  call_of_keeps (Some e) f t qs h = direct_call_keeps f.at t (site f.at e t qs) qs h
+
+  call_keeps : (at : ℕ) (f : Part) (xs : List Part) (s : Scope) → EachKeeps xs → K (call at f xs s)
+  call_keeps at f xs s h =
+      call_of_keeps (designated f.typed.shown) f.typed _ (passed xs (parameters_of s.tables (type_of f.typed)))
+      (passed_keep xs (parameters_of s.tables (type_of f.typed)) h)
