@@ -96,39 +96,39 @@ module _ (w : ℕ → ℕ) (p : ℕ) (l : Level) (c : Calling w p l) where
 
   -- ---- kinds of parts
 
-  value_keeps : (t : Typed) (n : Needs) (r : Level → Run ℤ) → Within w p (n.room l) (r l) → K (valued t n r)
+  pub value_keeps : (t : Typed) (n : Needs) (r : Level → Run ℤ) → Within w p (n.room l) (r l) → K (valued t n r)
   value_keeps t n r h = record {
     reach = still {A = ℕ} (n.room l) (λ env base d. Ok (0, d)) (λ env base d i. record { holds = le_refl _ });
     run = h;
     effect = h;
   }
 
-  place_keeps : (t : Typed) (rooted : Bool) (n : Needs) (r : Level → Run ℕ) → Within w p (n.room l) (r l) →
+  pub place_keeps : (t : Typed) (rooted : Bool) (n : Needs) (r : Level → Run ℕ) → Within w p (n.room l) (r l) →
       K (placed t rooted n r)
   place_keeps t rooted n r h =
       let loading = behind (n.room l) (r l) (λ env base a. Rattle.c_means.specs.Objects.load t rooted a.0 a.1) h
           (λ env base a. loads p t rooted a.0 a.1) in
       record { reach = h; run = loading; effect = loading }
 
-  constant_keeps : (t : Typed) (z : ℤ) → K (constant t z)
+  pub constant_keeps : (t : Typed) (z : ℤ) → K (constant t z)
   constant_keeps t z = value_keeps t alone _ (still {A = ℤ} 0 _ (λ env base d i. record { holds = le_refl _ }))
 
-  unmeant_keeps : (t : Typed) → K (unmeant t)
+  pub unmeant_keeps : (t : Typed) → K (unmeant t)
   unmeant_keeps t = value_keeps t alone _ (still {A = ℤ} 0 _ (λ env base d i. record { holds = le_refl _ }))
 
-  made_keeps : (at : ℕ) (t : Typed) → K (made_for at t)
+  pub made_keeps : (at : ℕ) (t : Typed) → K (made_for at t)
   made_keeps at t = place_keeps t false alone _ (still {A = ℕ} 0 _ (λ env base d i. record { holds = le_refl _ }))
 
-  text_keeps : (at : ℕ) (pieces : List (List ℕ)) (s : Scope) → K (string_literal at pieces s)
+  pub text_keeps : (at : ℕ) (pieces : List (List ℕ)) (s : Scope) → K (string_literal at pieces s)
   text_keeps at pieces s =
       let made = made_keeps at (says.string_literal at pieces s) in
       record { reach = made.reach; run = made.run; effect = made.effect }
 
-  object_keeps : (t : Typed) (dur : Duration) (at : ℕ) → K (object_of t dur at)
+  pub object_keeps : (t : Typed) (dur : Duration) (at : ℕ) → K (object_of t dur at)
   object_keeps t dur at =
       place_keeps t true alone _ (still {A = ℕ} 0 _ (λ env base d i. record { holds = le_refl _ }))
 
-  named_keeps : (t : Typed) (at : ℕ) (m : Means) → K (named_as t at m)
+  pub named_keeps : (t : Typed) (at : ℕ) (m : Means) → K (named_as t at m)
   named_keeps t at (means.Object u dur linkage) = object_keeps t dur at
   named_keeps t at (means.Function u linkage) = object_keeps t duration.Static at
   named_keeps t at (means.Constant z) = constant_keeps t z
@@ -168,7 +168,7 @@ module _ (w : ℕ → ℕ) (p : ℕ) (l : Level) (c : Calling w p l) where
       (λ v. behind (y.room l) (y.run l) (λ env base u. Ok ((v, u.0), u.1)) hy.run
       (λ env base u i. quiet p i (v, u.0) u.1))
 
-  subscript_keeps : (at : ℕ) (x y : Part) → K x → K y → K (subscript at x y)
+  pub subscript_keeps : (at : ℕ) (x y : Part) → K x → K y → K (subscript at x y)
   subscript_keeps at x y hx hy =
       place_keeps (says.subscript at x.typed y.typed) false (over_both x y) _
       (behind (x.room l + y.room l) (both_run x y l)
@@ -178,7 +178,7 @@ module _ (w : ℕ → ℕ) (p : ℕ) (l : Level) (c : Calling w p l) where
       (operates_on p at o.Add x.typed y.typed v.0.0 v.0.1 v.1)
       (λ a i. quiet p i (address a.0) a.1)))
 
-  member_keeps : (b : Bool) (offset : ℕ) (t : Typed) (x : Part) → K x → K (member_by b offset t x)
+  pub member_keeps : (b : Bool) (offset : ℕ) (t : Typed) (x : Part) → K x → K (member_by b offset t x)
   member_keeps true offset t x hx =
       place_keeps t x.rooted (over_one x) _
       (behind (x.room l) (x.reach l) (λ env base a. Ok (Rattle.c_means.specs.Expressions.behind offset a.0, a.1)) hx.reach
@@ -188,7 +188,7 @@ module _ (w : ℕ → ℕ) (p : ℕ) (l : Level) (c : Calling w p l) where
       (behind (x.room l) (x.run l) (λ env base v. Ok (part_of_value offset t v.0, v.1)) hx.run
       (λ env base v i. quiet p i (part_of_value offset t v.0) v.1))
 
-  arrow_keeps : (at : ℕ) (name : Name) (x : Part) → K x → K (arrow at name x)
+  pub arrow_keeps : (at : ℕ) (name : Name) (x : Part) → K x → K (arrow at name x)
   arrow_keeps at name x hx =
       place_keeps (says.arrow at name x.typed) false (over_one x) _
       (behind (x.room l) (x.run l) (λ env base v. Ok (target v.0, v.1)) hx.run
@@ -220,30 +220,30 @@ module _ (w : ℕ → ℕ) (p : ℕ) (l : Level) (c : Calling w p l) where
       stores : ℕ → State → Outcome (ℤ × ℤ)
       stores a d = load x.typed x.rooted a d >>= (λ v. reckons a v.0 v.1)
 
-  postfix_by_keeps : (at : ℕ) (op : BinaryOperator) (x : Part) → K x → K (postfix_by at op x)
+  pub postfix_by_keeps : (at : ℕ) (op : BinaryOperator) (x : Part) → K x → K (postfix_by at op x)
   postfix_by_keeps at op x hx =
       value_keeps (says.postfix at x.typed) (over_one x) _
       (behind (x.room l) (stepped at op x l) (λ env base v. Ok (v.0.0, v.1)) (steps at op x hx)
       (λ env base v i. quiet p i v.0.0 v.1))
 
-  postfix_keeps : (at : ℕ) (op : PostfixOperator) (x : Part) → K x → K (postfix at op x)
+  pub postfix_keeps : (at : ℕ) (op : PostfixOperator) (x : Part) → K x → K (postfix at op x)
   postfix_keeps at postfix_.Increment x hx = postfix_by_keeps at o.Add x hx
   postfix_keeps at postfix_.Decrement x hx = postfix_by_keeps at o.Subtract x hx
 
-  prefix_keeps : (at : ℕ) (u : UnaryOperator) (op : BinaryOperator) (x : Part) → K x → K (prefix at u op x)
+  pub prefix_keeps : (at : ℕ) (u : UnaryOperator) (op : BinaryOperator) (x : Part) → K x → K (prefix at u op x)
   prefix_keeps at u op x hx =
       value_keeps (says.unary at u x.typed) (over_one x) _
       (behind (x.room l) (stepped at op x l) (λ env base v. Ok (v.0.1, v.1)) (steps at op x hx)
       (λ env base v i. quiet p i v.0.1 v.1))
 
-  on_value_keeps : (at : ℕ) (u : UnaryOperator) (f : Operand → State → Outcome ℤ) (x : Part) →
+  pub on_value_keeps : (at : ℕ) (u : UnaryOperator) (f : Operand → State → Outcome ℤ) (x : Part) →
       ((y : Operand) (d : State) → Quiet p d (f y d)) → K x → K (on_value at u f x)
   on_value_keeps at u f x q hx =
       value_keeps (says.unary at u x.typed) (over_one x) _
       (behind (x.room l) (x.run l) (λ env base v. f (operand x.typed.after.tables x.typed v.0) v.1) hx.run
       (λ env base v. q (operand x.typed.after.tables x.typed v.0) v.1))
 
-  unary_keeps : (at : ℕ) (op : UnaryOperator) (x : Part) → K x → K (unary at op x)
+  pub unary_keeps : (at : ℕ) (op : UnaryOperator) (x : Part) → K x → K (unary at op x)
   unary_keeps at u.Address x hx =
       value_keeps (says.unary at u.Address x.typed) (over_one x) _
       (behind (x.room l) (x.reach l) (λ env base a. Ok (pos a.0, a.1)) hx.reach
@@ -271,7 +271,7 @@ module _ (w : ℕ → ℕ) (p : ℕ) (l : Level) (c : Calling w p l) where
   cast_within class.Array x hx = hx.run
   cast_within class.Function x hx = hx.run
 
-  cast_as_keeps : (cl : Class) (t : Typed) (x : Part) → K x → K (cast_as cl t x)
+  pub cast_as_keeps : (cl : Class) (t : Typed) (x : Part) → K x → K (cast_as cl t x)
   cast_as_keeps cl t x hx =
       value_keeps t (over_one x) _
       (behind (x.room l) (cast_operand cl x l) (λ env base v. Ok (converted_to cl v.0, v.1)) (cast_within cl x hx)
@@ -279,7 +279,7 @@ module _ (w : ℕ → ℕ) (p : ℕ) (l : Level) (c : Calling w p l) where
 
   -- ---- two and three operands
 
-  both_evaluated_keeps : (at : ℕ) (op : BinaryOperator) (x y : Part) → K x → K y → K (both_evaluated at op x y)
+  pub both_evaluated_keeps : (at : ℕ) (op : BinaryOperator) (x y : Part) → K x → K y → K (both_evaluated at op x y)
   both_evaluated_keeps at op x y hx hy =
       value_keeps (says.binary at op x.typed y.typed) (over_both x y) _
       (behind (x.room l + y.room l) (both_run x y l)
@@ -308,14 +308,14 @@ module _ (w : ℕ → ℕ) (p : ℕ) (l : Level) (c : Calling w p l) where
   or_else_within y hy true = still {A = ℤ} (y.room l) _ (λ env base d i. quiet p i (pos 1) d)
   or_else_within y hy false = truth y hy
 
-  logical_keeps : (at : ℕ) (op : BinaryOperator) (f : Part → Level → Env → ℕ → Bool → State → Outcome ℤ) (x y : Part) →
+  pub logical_keeps : (at : ℕ) (op : BinaryOperator) (f : Part → Level → Env → ℕ → Bool → State → Outcome ℤ) (x y : Part) →
       K x → ((b : Bool) → Within w p (y.room l) (λ env base d. f y l env base b d)) → K (logical at op f x y)
   logical_keeps at op f x y hx hf =
       value_keeps (says.binary at op x.typed y.typed) (over_both x y) _
       (in_order (x.room l) (y.room l) (x.run l) (λ z env base d. on_branch at z (f y l env base) d) hx.run
       (branches at (y.room l) (f y l) hf))
 
-  binary_keeps : (at : ℕ) (op : BinaryOperator) (x y : Part) → K x → K y → K (binary at op x y)
+  pub binary_keeps : (at : ℕ) (op : BinaryOperator) (x y : Part) → K x → K y → K (binary at op x y)
   binary_keeps at o.LogicalAnd x y hx hy = logical_keeps at o.LogicalAnd and_then x y hx (and_then_within y hy)
   binary_keeps at o.LogicalOr x y hx hy = logical_keeps at o.LogicalOr or_else x y hx (or_else_within y hy)
   binary_keeps at op x y hx hy = both_evaluated_keeps at op x y hx hy
@@ -332,7 +332,7 @@ module _ (w : ℕ → ℕ) (p : ℕ) (l : Level) (c : Calling w p l) where
       (behind (y.room l) (y.run l) (λ env base v. Ok (converted_to cl v.0, v.1)) hy.run
       (λ env base v i. quiet p i (converted_to cl v.0) v.1))
 
-  choice_keeps : (at : ℕ) (t : Typed) (e x y : Part) → K e → K x → K y → K (choice_as at t e x y)
+  pub choice_keeps : (at : ℕ) (t : Typed) (e x y : Part) → K e → K x → K y → K (choice_as at t e x y)
   choice_keeps at t e x y he hx hy =
       value_keeps t (over_three e x y) _
       (in_order (e.room l) (x.room l + y.room l) (e.run l)
@@ -366,13 +366,13 @@ module _ (w : ℕ → ℕ) (p : ℕ) (l : Level) (c : Calling w p l) where
       reckons : ℕ → ℤ → Run ℤ
       reckons a v env base d = y.run l env base d >>= (λ u. stores a v u.0 u.1)
 
-  assignment_keeps : (at : ℕ) (op : Option BinaryOperator) (x y : Part) → K x → K y → K (assignment at op x y)
+  pub assignment_keeps : (at : ℕ) (op : Option BinaryOperator) (x y : Part) → K x → K y → K (assignment at op x y)
   assignment_keeps at None x y hx hy =
       value_keeps (says.assignment at None x.typed y.typed) (over_both x y) _ (simple_within at x y hx hy)
   assignment_keeps at (Some op) x y hx hy =
       value_keeps (says.assignment at (Some op) x.typed y.typed) (over_both x y) _ (compound_within at op x y hx hy)
 
-  comma_keeps : (at : ℕ) (x y : Part) → K x → K y → K (comma at x y)
+  pub comma_keeps : (at : ℕ) (x y : Part) → K x → K y → K (comma at x y)
   comma_keeps at x y hx hy =
       value_keeps (says.comma at x.typed y.typed) (over_both x y) _
       (in_order (x.room l) (y.room l) (x.effect l) (λ v env base d. y.run l env base d) hx.effect (λ v. hy.run))
@@ -422,7 +422,7 @@ module _ (w : ℕ → ℕ) (p : ℕ) (l : Level) (c : Calling w p l) where
   needs_value at class.Void None d i = record { holds = le_refl _ }
   needs_value at cl None d i = record { holds = le_refl _ }
 
-  direct_call_keeps : (at : ℕ) (t : Typed) (g : Level → Site) (qs : List Passed) → EachPassed qs →
+  pub direct_call_keeps : (at : ℕ) (t : Typed) (g : Level → Site) (qs : List Passed) → EachPassed qs →
       K (direct_call at t g qs)
   direct_call_keeps at t g qs h =
       let room = all_rooms qs l + l.room (g l) in
@@ -434,11 +434,11 @@ module _ (w : ℕ → ℕ) (p : ℕ) (l : Level) (c : Calling w p l) where
             (calling_within g qs h) (λ env base v i. quiet p i (unwrap_or v.0 (pos 0)) v.1);
       }
 
-  call_of_keeps : (e : Option Entry) (f t : Typed) (qs : List Passed) → EachPassed qs → K (call_of e f t qs)
+  pub call_of_keeps : (e : Option Entry) (f t : Typed) (qs : List Passed) → EachPassed qs → K (call_of e f t qs)
   call_of_keeps None f t qs h = unmeant_keeps t
   call_of_keeps (Some e) f t qs h = direct_call_keeps f.at t (site f.at e t qs) qs h
 
-  call_keeps : (at : ℕ) (f : Part) (xs : List Part) (s : Scope) → EachKeeps xs → K (call at f xs s)
+  pub call_keeps : (at : ℕ) (f : Part) (xs : List Part) (s : Scope) → EachKeeps xs → K (call at f xs s)
   call_keeps at f xs s h =
       call_of_keeps (designated f.typed.shown) f.typed _ (passed xs (parameters_of s.tables (type_of f.typed)))
       (passed_keep xs (parameters_of s.tables (type_of f.typed)) h)
