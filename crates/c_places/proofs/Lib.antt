@@ -2,3 +2,4 @@ pub mod Counts
 pub mod Values
 pub mod Parts
 pub mod Expressions
+pub mod Items
