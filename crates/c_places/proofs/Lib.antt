@@ -3,3 +3,4 @@ pub mod Values
 pub mod Parts
 pub mod Expressions
 pub mod Items
+pub mod Initials

@@ -1,0 +1,132 @@
+-- An initializer meets no place but those of its room.
+use Rattle.std.proofs.Common.{◌≡◌, ◌≤◌, ℕ, ◌+◌, ℤ, Bool, true, false, cond, List, [], ◌∷◌, ◌++◌, Option, Some, None}
+use Rattle.std.proofs.Common.{refl, sym, subst, arith, le_refl}
+use Rattle.std.specs.Prelude.{map, unwrap_or, option_map}
+use Rattle.c_tree.specs.declared.unit.Designator.{Designator}
+use Rattle.c_tree.specs.declared.unit.Designator.TheVariants as designator
+use Rattle.c_tree.specs.declared.unit.Initializer.{Initializer}
+use Rattle.c_tree.specs.declared.unit.InitializerItem.{InitializerItem}
+use Rattle.c_type_terms.specs.declared.ctype.CType.{CType}
+use Rattle.c_grammar.proofs.UnitEquations.{EachValue, InitialSteps, of_initializer}
+use Rattle.c_says.specs.Initials.{Part, Designates, ToMember, ToElement, is_text_of}
+use Rattle.c_says.specs.Scopes.{Scope}
+use Rattle.c_means.specs.Parts.{State, Env, Level}
+use Rattle.c_runs.specs.Notes.{Noted, ExprNoted, noted}
+use Rattle.c_runs.specs.Items.{with_value, running}
+use Rattle.c_runs.specs.Initials.{Element, Evaluates, Indexes, Initially, Listed, Initial, initially, listed_item, designated}
+use Rattle.c_runs.specs.Initials.{listed, indices, all_elements, evaluated, sets, sets_all, sets_text, stores, all_rooms}
+use Rattle.c_runs.specs.Initials.{initialising_if, value_initially, list_initially}
+use Rattle.c_runs.proofs.Equations as eqs
+use Rattle.c_places.proofs.Counts.{met}
+use Rattle.c_places.proofs.Parts.{Calling, Keeps}
+use Rattle.c_places.proofs.Expressions.{noted_keeps}
+use Rattle.c_places.proofs.Items.{runs, with_value_adds}
+
+-- ---- expressions
+
+abbrev pub NotedKeeps : Noted → Type 0
+NotedKeeps x = (w : ℕ → ℕ) (p : ℕ) (l : Level) → Calling w p l → Keeps w p l x.part
+
+abbrev pub ExprKeeps : ExprNoted → Type 0
+ExprKeeps f = (s : Scope) → NotedKeeps (f s)
+
+abbrev pub EachNoted : List Noted → Type 0
+EachNoted [] = Unit {0}
+EachNoted (x ∷ xs) = NotedKeeps x × EachNoted xs
+
+abbrev pub ElementKeeps : Element → Type 0
+ElementKeeps (Evaluates e) = ExprKeeps e
+ElementKeeps (Indexes e) = Unit {0}
+
+abbrev pub EachElement : List Element → Type 0
+EachElement [] = Unit {0}
+EachElement (x ∷ xs) = ElementKeeps x × EachElement xs
+
+elements_append : (xs ys : List Element) → EachElement xs → EachElement ys → EachElement (xs ++ ys)
+elements_append [] ys hx hy = hy
+elements_append (x ∷ xs) ys hx hy = (hx.0, elements_append xs ys hx.1 hy)
+
+evaluated_keep : (es : List Element) (s : Scope) → EachElement es → EachNoted (evaluated es s)
+evaluated_keep [] s h = tt
+evaluated_keep (Evaluates e ∷ es) s h = (h.0 s, evaluated_keep es (e s).part.typed.after h.1)
+evaluated_keep (Indexes e ∷ es) s h = evaluated_keep es (e s).part.typed.after h.1
+
+indices_keep : (ds : List (Designates ExprNoted)) → EachElement (indices ds)
+indices_keep [] = tt
+indices_keep (ToMember at name ∷ ds) = indices_keep ds
+indices_keep (ToElement at e ∷ ds) = (tt, indices_keep ds)
+
+-- ---- all initializers
+
+abbrev Keeping : Initializer → Type 0
+Keeping x = EachElement (initially x).elements
+
+each_item : (xs : List InitializerItem) → EachValue Keeping xs → EachElement (all_elements (map listed_item xs))
+each_item [] h = tt
+each_item (x ∷ xs) h =
+    elements_append (listed_item x).elements (all_elements (map listed_item xs))
+    (subst (λ y. EachElement y.elements) (sym (eqs.listed-Item x))
+    (elements_append (indices (map designated x.designators)) (initially x.value).elements
+    (indices_keep (map designated x.designators)) h.0))
+    (each_item xs h.1)
+
+steps : InitialSteps Keeping
+steps = record {
+  on_value = λ e. subst (λ y. EachElement y.elements) (sym (eqs.initially-Value e))
+      ((λ s w p l c. noted_keeps w p l c e s), tt);
+  on_list = λ at xs trailing h. subst (λ y. EachElement y.elements) (sym (eqs.initially-List at xs trailing))
+      (each_item xs h);
+}
+
+pub initially_keeps : (x : Initializer) → EachElement (initially x).elements
+initially_keeps x = of_initializer Keeping steps x
+
+-- ---- what they do
+
+pub record InitialKeeps (x : Initial) : Type 0 where
+  pub acts : (w : ℕ → ℕ) (p : ℕ) (l : Level) → Calling w p l → (a : ℕ) (env : Env) (base : ℕ) (d : State) →
+      met p (x.run a l env base d) + w base ≤ met p d + w (base + x.room l)
+
+sets_keep : (w : ℕ → ℕ) (p : ℕ) (l : Level) → Calling w p l → (q : Part) (x : Noted) → NotedKeeps x →
+    (a : ℕ) (env : Env) (base : ℕ) (d : State) →
+    met p (sets q x a l env base d) + w base ≤ met p d + w (base + x.part.room l)
+sets_keep w p l c q x h a env base d = by_text (is_text_of q.type x.part.typed)
+  where
+    by_text : (b : Bool) → met p (cond b
+        (sets_text x.part.typed.after.tables q a (unwrap_or (x.part.text l) []) d)
+        (with_value (x.part.run l env base d) (stores x.part.typed.after.tables q.type (a + q.offset)))) + w base
+        ≤ met p d + w (base + x.part.room l)
+    by_text true = omega (arith, c.rises.more base (base + x.part.room l) (omega arith))
+    by_text false =
+        with_value_adds p (w base) (w (base + x.part.room l)) (w (base + x.part.room l)) (met p d)
+        (x.part.run l env base d) (stores x.part.typed.after.tables q.type (a + q.offset))
+        ((h w p l c).run env base d) (λ v d'. le_refl _) (le_refl _)
+
+sets_all_keep : (w : ℕ → ℕ) (p : ℕ) (l : Level) → Calling w p l → (qs : List Part) (xs : List Noted) → EachNoted xs →
+    (a : ℕ) (env : Env) (base : ℕ) (d : State) →
+    met p (sets_all qs xs a l env base d) + w base ≤ met p d + w (base + all_rooms xs l)
+sets_all_keep w p l c [] xs h a env base d = omega (arith, c.rises.more base (base + all_rooms xs l) (omega arith))
+sets_all_keep w p l c (q ∷ qs) [] h a env base d = omega (arith, c.rises.more base (base + 0) (omega arith))
+sets_all_keep w p l c (q ∷ qs) (x ∷ xs) h a env base d =
+    let next = base + x.part.room l in
+    let d' = sets q x a l env base d in
+    let up = c.rises.more next (next + all_rooms xs l) (omega arith) in
+    omega (arith, sets_keep w p l c q x h.0 a env base d,
+    runs p (w next) (w (next + all_rooms xs l)) (sets_all qs xs a l env next) d'
+    (sets_all_keep w p l c qs xs h.1 a env next d') up,
+    c.rises.more (next + all_rooms xs l) (base + (x.part.room l + all_rooms xs l)) (omega arith))
+
+abbrev pub MaybeElements : Option Initially → Type 0
+MaybeElements None = Unit {0}
+MaybeElements (Some x) = EachElement x.elements
+
+pub initial_keeps : (x : Option Initially) (t : Option CType) (s : Scope) → MaybeElements x →
+    InitialKeeps (initialising_if x t s)
+initial_keeps None t s h =
+    record { acts = λ w p l c a env base d. omega (arith, c.rises.more base (base + 0) (omega arith)) }
+initial_keeps (Some x) None s h =
+    record { acts = λ w p l c a env base d. omega (arith, c.rises.more base (base + 0) (omega arith)) }
+initial_keeps (Some x) (Some t) s h = record {
+  acts = λ w p l c a env base d.
+      sets_all_keep w p l c _ (evaluated x.elements s) (evaluated_keep x.elements s h) a env base d;
+}
