@@ -4,3 +4,4 @@ pub mod Parts
 pub mod Expressions
 pub mod Items
 pub mod Initials
+pub mod Declarations
