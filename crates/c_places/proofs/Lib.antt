@@ -5,3 +5,4 @@ pub mod Expressions
 pub mod Items
 pub mod Initials
 pub mod Declarations
+pub mod Statements

@@ -1,0 +1,242 @@
+-- Statements meet no place but those of their rooms: one lemma a form, and one induction over all statements.
+use Rattle.std.proofs.Common.{◌≡◌, ◌≤◌, ℕ, zero, suc, ◌+◌, ◌*◌, ℤ, Bool, true, false, List, [], ◌∷◌, Option, Some, None}
+use Rattle.std.proofs.Common.{refl, sym, ap, subst, ◌∙◌, arith, le_refl, suc-mul, one-mul}
+use Rattle.std.specs.Prelude.{map, option_map}
+use Rattle.c_tree.specs.declared.expr.Expr.{Expr}
+use Rattle.c_tree.specs.declared.unit.Declaration.{Declaration}
+use Rattle.c_tree.specs.declared.unit.ForStart.{ForStart}
+use Rattle.c_tree.specs.declared.unit.ForStart.TheVariants as start_
+use Rattle.c_tree.specs.declared.unit.Stmt.{Stmt}
+use Rattle.c_type_terms.specs.declared.ctype.CType.{CType}
+use Rattle.c_type_terms.specs.Integers.{converted}
+use Rattle.c_grammar.proofs.UnitEquations.{EachStmt, MaybeStmt, StmtSteps, of_stmt}
+use Rattle.c_says.specs.Scopes.{Name, Scope, enter}
+use Rattle.c_means.specs.declared.kind.Kind.{Kind}
+use Rattle.c_means.specs.declared.kind.Kind.TheVariants as k
+use Rattle.c_means.specs.Parts.{State, Env, Level}
+use Rattle.c_means.specs.Values.{class_in, converted_to}
+use Rattle.c_means.specs.Expressions.{on_branch}
+use Rattle.c_runs.specs.declared.breach.Breach.{Breach}
+use Rattle.c_runs.specs.Notes.{Noted, ExprNoted, noted}
+use Rattle.c_runs.specs.Items.{Item, Code, Context, Label, Arrow, Acts, Lasting, typing, breach_if, running, become, arrive}
+use Rattle.c_runs.specs.Items.{with_value, nothing, followed, with_breaches, node, guarded, closed, without_cases}
+use Rattle.c_runs.specs.Items.{in_scope, opened, block_of, unchosen, sub, in_turn, labels_of, past_break, past_continue}
+use Rattle.c_runs.specs.Items.{past_switch, at_label, at_case, at_default}
+use Rattle.c_runs.specs.Statements.{plain, value_of, maybe_value, tested, acting, one_of, if_runs, if_item, maybe_sub}
+use Rattle.c_runs.specs.Statements.{switch_runs, switch_item, switch_kind, choose, chosen, Test, test_of, always}
+use Rattle.c_runs.specs.Statements.{maybe_test, turn_room, turns_from, left_at}
+use Rattle.c_runs.proofs.Equations as eqs
+use Rattle.c_places.proofs.Counts.{met}
+use Rattle.c_places.proofs.Parts.{Keeps}
+use Rattle.c_places.proofs.Expressions.{noted_keeps}
+use Rattle.c_places.proofs.Items.{Counting, ItemKeeps, CodeKeeps, EachCode, LastingKeep, ActsWithin, Adds, made, runs}
+use Rattle.c_places.proofs.Items.{with_value_adds, on_branch_adds, nothing_keeps, followed_keeps, closed_keeps}
+use Rattle.c_places.proofs.Items.{guarded_keeps, breaches_keep, node_keeps, without_cases_keep, block_keeps, sub_keeps}
+use Rattle.c_places.proofs.Items.{in_turn_keeps}
+use Rattle.c_places.proofs.Initials.{NotedKeeps, ExprKeeps}
+use Rattle.c_places.proofs.Declarations.{declaration_keeps}
+
+expr_keeps : (e : Expr) → ExprKeeps (noted e)
+expr_keeps e s w p l c = noted_keeps w p l c e s
+
+abbrev MaybeExpr : Option ExprNoted → Type 0
+MaybeExpr None = Unit {0}
+MaybeExpr (Some f) = ExprKeeps f
+
+maybe_expr : (e : Option Expr) → MaybeExpr (option_map noted e)
+maybe_expr None = tt
+maybe_expr (Some e) = expr_keeps e
+
+-- ---- a step of an expression
+
+plain_keeps : (x : Noted) (s : Scope) (bs : List Breach) (run : Acts) → ActsWithin x.part.room run →
+    ItemKeeps (plain x s bs run)
+plain_keeps x s bs run h = record {
+  acts = λ w p l c env base d.
+      let up = c.calls.rises.more base (base + x.part.room l) (omega arith) in
+      omega (arith,
+      runs p (w base) (w (base + x.part.room l)) (run l env base) d (h w p l c env base d) up);
+  lasting = tt;
+}
+
+effect_within : (x : Noted) → NotedKeeps x →
+    ActsWithin x.part.room (λ l env base d. with_value (x.part.effect l env base d) (λ v d. d))
+effect_within x h w p l c env base d =
+    let end = w (base + x.part.room l) in
+    with_value_adds p (w base) end end (met p d) (x.part.effect l env base d) (λ v d. d)
+    ((h w p l c.calls).effect env base d) (λ v d. le_refl _) (le_refl _)
+
+value_keeps : (x : Noted) → NotedKeeps x → ItemKeeps (value_of x)
+value_keeps x h = plain_keeps x x.part.typed.after [] _ (effect_within x h)
+
+maybe_value_keeps : (f : Option ExprNoted) (s : Scope) → MaybeExpr f → ItemKeeps (maybe_value f s)
+maybe_value_keeps None s h = nothing_keeps s
+maybe_value_keeps (Some f) s h = value_keeps (f s) (h s)
+
+nothing_within : (x : Noted) → ActsWithin x.part.room (λ l env base d. d)
+nothing_within x w p l c env base d =
+    omega (arith, c.calls.rises.more base (base + x.part.room l) (omega arith))
+
+tested_keeps : (x : Noted) → ItemKeeps (tested x)
+tested_keeps x =
+    let h = plain_keeps x x.part.typed.after [] (λ l env base d. d) (nothing_within x) in
+    record { acts = h.acts; lasting = tt }
+
+acting_keeps : (run : Acts) (x : Item) → LastingKeep x.lasting → ActsWithin x.room run → ItemKeeps (acting run x)
+acting_keeps run x hl h = record {
+  acts = λ w p l c env base d.
+      let up = c.calls.rises.more base (base + x.room l) (omega arith) in
+      omega (arith, runs p (w base) (w (base + x.room l)) (run l env base) d (h w p l c env base d) up);
+  lasting = hl;
+}
+
+-- what it adds, without the places of its objects
+alone : (x : Item) → ItemKeeps x → ActsWithin x.room x.run
+alone x h w p l c env base d = omega (arith, h.acts w p l c env base d)
+
+-- ---- selection
+
+if_within : (at : ℕ) (x : Noted) (first second : Item) → NotedKeeps x → ItemKeeps first → ItemKeeps second →
+    ActsWithin (λ l. x.part.room l + (first.room l + second.room l)) (if_runs at x first second)
+if_within at x first second hx hf hs w p l c env base d =
+    let middle = base + x.part.room l in
+    let last = base + (x.part.room l + first.room l) in
+    let end = base + (x.part.room l + (first.room l + second.room l)) in
+    let f = first.run l env middle in
+    let g = second.run l env last in
+    let go : Bool → Arrow = λ b. one_of b f g in
+    with_value_adds p (w base) (w middle) (w end) (met p d) (x.part.run l env base d) (λ v. on_branch at v go)
+    ((hx w p l c.calls).run env base d)
+    (λ v. on_branch_adds p (w middle) (w end) at v go (sides middle last end
+    (λ d. alone first hf w p l c env middle d) (λ d. alone second hs w p l c env last d)
+    (c.calls.rises.more (middle + first.room l) end (omega arith)) (c.calls.rises.more middle last (omega arith))
+    (c.calls.rises.more (last + second.room l) end (omega arith))))
+    (c.calls.rises.more middle end (omega arith))
+  where
+    sides : (middle last end : ℕ) →
+        Adds p (w middle) (w (middle + first.room l)) (first.run l env middle) →
+        Adds p (w last) (w (last + second.room l)) (second.run l env last) →
+        w (middle + first.room l) ≤ w end → w middle ≤ w last → w (last + second.room l) ≤ w end →
+        (b : Bool) → Adds p (w middle) (w end) (one_of b (first.run l env middle) (second.run l env last))
+    sides middle last end hf hs a b e true d = omega (arith, hf d, a)
+    sides middle last end hf hs a b e false d = omega (arith, hs d, b, e)
+
+if_keeps : (at : ℕ) (x : Noted) (first second : Item) → NotedKeeps x → ItemKeeps first → ItemKeeps second →
+    ItemKeeps (if_item at x first second)
+if_keeps at x first second hx hf hs =
+    let all = followed_keeps (tested x) (followed first second) (tested_keeps x) (followed_keeps first second hf hs) in
+    let h = acting_keeps (if_runs at x first second) (followed (tested x) (followed first second)) all.lasting
+        (if_within at x first second hx hf hs) in
+    record { acts = h.acts; lasting = h.lasting }
+
+abbrev MaybeCode : Option Code → Type 0
+MaybeCode None = Unit {0}
+MaybeCode (Some x) = CodeKeeps x
+
+maybe_sub_keeps : (x : Option Code) (c : Context) → MaybeCode x → ItemKeeps (maybe_sub x c)
+maybe_sub_keeps None c h = nothing_keeps c.scope
+maybe_sub_keeps (Some x) c h = sub_keeps x c h
+
+switch_within : (at : ℕ) (x : Noted) (body : Item) → NotedKeeps x → ItemKeeps body →
+    ActsWithin (λ l. x.part.room l + body.room l) (switch_runs at x body)
+switch_within at x body hx hb w p l c env base d =
+    let middle = base + x.part.room l in
+    let end = base + (x.part.room l + body.room l) in
+    with_value_adds p (w base) (w middle) (w end) (met p d) (x.part.run l env base d)
+    (λ v d. let z = converted (switch_kind x) v in
+    arrive past_switch (body.run l env middle (choose at (chosen body.cases z) z d)))
+    ((hx w p l c.calls).run env base d)
+    (λ v d. let z = converted (switch_kind x) v in
+    omega (arith, alone body hb w p l c env middle (choose at (chosen body.cases z) z d),
+    c.calls.rises.more (middle + body.room l) end (omega arith)))
+    (c.calls.rises.more middle end (omega arith))
+
+switch_keeps : (at : ℕ) (x : Noted) (body : Item) → NotedKeeps x → ItemKeeps body → ItemKeeps (switch_item at x body)
+switch_keeps at x body hx hb =
+    let all = followed_keeps (tested x) body (tested_keeps x) hb in
+    let h = acting_keeps (switch_runs at x body) (followed (tested x) body) all.lasting
+        (switch_within at x body hx hb) in
+    record { acts = h.acts; lasting = h.lasting }
+
+-- ---- iteration
+
+-- a test keeps to its places, and what follows it to those behind them
+record TestKeeps (t : Test) : Type 0 where
+  item : ItemKeeps t.item
+  leads : (w : ℕ → ℕ) (p : ℕ) (l : Level) → Counting w p l → (env : Env) (base n : ℕ) (go : Bool → Arrow) →
+      w (base + t.item.room l) ≤ n → ((b : Bool) → Adds p (w (base + t.item.room l)) n (go b)) →
+      Adds p (w base) n (t.run l env base go)
+
+test_keeps : (at : ℕ) (x : Noted) → NotedKeeps x → TestKeeps (test_of at x)
+test_keeps at x hx = record {
+  item = breaches_keep _ (tested x) (tested_keeps x);
+  leads = λ w p l c env base n go up h d.
+      let end = w (base + x.part.room l) in
+      with_value_adds p (w base) end n (met p d) (x.part.run l env base d) (λ v. on_branch at v go)
+      ((hx w p l c.calls).run env base d) (λ v. on_branch_adds p end n at v go h) up;
+}
+
+always_keeps : (s : Scope) → TestKeeps (always s)
+always_keeps s = record {
+  item = nothing_keeps s;
+  leads = λ w p l c env base n go up h d.
+      omega (arith, h true d, c.calls.rises.more base (base + 0) (omega arith));
+}
+
+maybe_test_keeps : (at : ℕ) (f : Option ExprNoted) (s : Scope) → MaybeExpr f → TestKeeps (maybe_test at f s)
+maybe_test_keeps at None s h = always_keeps s
+maybe_test_keeps at (Some f) s h = test_keeps at (f s) (h s)
+
+next_turn : (n r : ℕ) → (suc n + 1) * r ≡ r + (n + 1) * r
+next_turn n r =
+    let e : suc n + 1 ≡ suc (n + 1) = omega arith in
+    ap (λ m. m * r) e ∙ suc-mul (n + 1) r ∙ (let sum : (n + 1) * r + r ≡ r + (n + 1) * r = omega arith in sum)
+
+first_turn : (r : ℕ) → (zero + 1) * r ≡ r
+first_turn r = let e : zero + 1 ≡ suc zero = omega arith in ap (λ m. m * r) e ∙ one-mul r
+
+turns_within : (at : ℕ) (test : Test) (body step : Item) → TestKeeps test → ItemKeeps body → ItemKeeps step →
+    (w : ℕ → ℕ) (p : ℕ) (l : Level) → Counting w p l → (env : Env) (n base : ℕ) →
+    Adds p (w base) (w (base + (n + 1) * turn_room test body step l)) (turns_from at test body step l env n base)
+turns_within at test body step ht hb hs w p l c env zero base =
+    let r = turn_room test body step l in
+    let end = w (base + (zero + 1) * r) in
+    let middle = w (base + test.item.room l) in
+    let up = c.calls.rises.more (base + test.item.room l) (base + (zero + 1) * r) (omega (arith, first_turn r)) in
+    ht.leads w p l c env base end (λ b. one_of b (left_at at) (λ d. d)) up (ends middle end up)
+  where
+    ends : (i j : ℕ) → i ≤ j → (b : Bool) → Adds p i j (one_of b (left_at at) (λ d. d))
+    ends i j h true d = omega (arith, h)
+    ends i j h false d = omega (arith, h)
+turns_within at test body step ht hb hs w p l c env (suc n) base =
+    let r = turn_room test body step l in
+    let all = (n + 1) * r in
+    let end = base + (suc n + 1) * r in
+    let b1 = base + test.item.room l in
+    let b2 = base + (test.item.room l + body.room l) in
+    let b3 = base + r in
+    let up = c.calls.rises.more b1 end (omega (arith, next_turn n r)) in
+    let turns = turns_from at test body step l env n b3 in
+    let steps : Arrow = λ d. running turns (step.run l env b2 d) in
+    ht.leads w p l c env base (w end) (λ b. one_of b (λ d. running steps (arrive past_continue (body.run l env b1 d)))
+    (λ d. d)) up
+    (sides (w b1) (w end) steps up (λ d. let d1 = arrive past_continue (body.run l env b1 d) in
+    let d2 = step.run l env b2 d1 in
+    let rest = turns_within at test body step ht hb hs w p l c env n b3 d2 in
+    let u2 = c.calls.rises.more b3 (b3 + all) (omega arith) in
+    let u3 = c.calls.rises.more (b3 + all) end (omega (arith, next_turn n r)) in
+    let u4 = c.calls.rises.more (b2 + step.room l) b3 (omega arith) in
+    let u5 = c.calls.rises.more (b1 + body.room l) b2 (omega arith) in
+    let u6 = c.calls.rises.more b2 (b2 + step.room l) (omega arith) in
+    let one = runs p (w b3) (w (b3 + all)) turns d2 rest u2 in
+    let two = runs p (w b2) (w end) steps d1 (omega (arith, one, alone step hs w p l c env b2 d1, u3, u4))
+        (omega (arith, u2, u3, u4, u6)) in
+    omega (arith, two, alone body hb w p l c env b1 d, u5)))
+  where
+    sides : (i j : ℕ) (steps : Arrow) → i ≤ j →
+        ((d : State) → met p (running steps (arrive past_continue (body.run l env (base + test.item.room l) d))) + i
+        ≤ met p d + j) →
+        (b : Bool) → Adds p i j (one_of b
+        (λ d. running steps (arrive past_continue (body.run l env (base + test.item.room l) d))) (λ d. d))
+    sides i j steps h go true d = go d
+    sides i j steps h go false d = omega (arith, h)
