@@ -24,7 +24,11 @@ use Rattle.c_runs.specs.Items.{in_scope, opened, block_of, unchosen, sub, in_tur
 use Rattle.c_runs.specs.Items.{past_switch, at_label, at_case, at_default}
 use Rattle.c_runs.specs.Statements.{plain, value_of, maybe_value, tested, acting, one_of, if_runs, if_item, maybe_sub}
 use Rattle.c_runs.specs.Statements.{switch_runs, switch_item, switch_kind, choose, chosen, Test, test_of, always}
-use Rattle.c_runs.specs.Statements.{maybe_test, turn_room, turns_from, left_at}
+use Rattle.c_runs.specs.Statements.{maybe_test, turn_room, turns_from, left_at, each_turn, looped, rounds_from, repeated}
+use Rattle.c_runs.specs.Statements.{left_scope, while_from, in_loop, do_from, for_turns, for_from, jump, returns}
+use Rattle.c_runs.specs.Statements.{return_of, code, compound, arrived, labeled, case_of, case_value, case_labeled}
+use Rattle.c_runs.specs.Statements.{default_labeled, stmt, begun_by, switch_context}
+use Rattle.c_says.specs.Typing.{constant_of}
 use Rattle.c_runs.proofs.Equations as eqs
 use Rattle.c_places.proofs.Counts.{met}
 use Rattle.c_places.proofs.Parts.{Keeps}
@@ -240,3 +244,226 @@ turns_within at test body step ht hb hs w p l c env (suc n) base =
         (λ d. running steps (arrive past_continue (body.run l env (base + test.item.room l) d))) (λ d. d))
     sides i j steps h go true d = go d
     sides i j steps h go false d = omega (arith, h)
+
+looped_keeps : (at : ℕ) (test : Test) (body step : Item) → TestKeeps test → ItemKeeps body → ItemKeeps step →
+    ItemKeeps (looped at test body step)
+looped_keeps at test body step ht hb hs =
+    let all = followed_keeps test.item (followed body step) ht.item (followed_keeps body step hb hs) in
+    acting_keeps (λ l env base d. arrive past_break (turns_from at test body step l env l.turns base d))
+    (each_turn (followed test.item (followed body step))) all.lasting
+    (λ w p l c env base d. turns_within at test body step ht hb hs w p l c env l.turns base d)
+
+rounds_within : (at : ℕ) (body : Item) (test : Test) → ItemKeeps body → TestKeeps test →
+    (w : ℕ → ℕ) (p : ℕ) (l : Level) → Counting w p l → (env : Env) (n base : ℕ) →
+    Adds p (w base) (w (base + (n + 1) * (body.room l + test.item.room l))) (rounds_from at body test l env n base)
+rounds_within at body test hb ht w p l c env zero base d =
+    let r = body.room l + test.item.room l in
+    omega (arith, c.calls.rises.more base (base + (zero + 1) * r) (omega arith))
+rounds_within at body test hb ht w p l c env (suc n) base d =
+    let r = body.room l + test.item.room l in
+    let all = (n + 1) * r in
+    let end = base + (suc n + 1) * r in
+    let b1 = base + body.room l in
+    let b2 = base + r in
+    let d1 = arrive past_continue (body.run l env base d) in
+    let turns = rounds_from at body test l env n b2 in
+    let u1 = c.calls.rises.more (b1 + test.item.room l) end (omega (arith, next_turn n r)) in
+    let u2 = c.calls.rises.more (b1 + test.item.room l) b2 (omega arith) in
+    let u3 = c.calls.rises.more (b2 + all) end (omega (arith, next_turn n r)) in
+    let u4 = c.calls.rises.more b1 (b1 + test.item.room l) (omega arith) in
+    let go : Bool → Arrow = λ b. one_of b turns (λ d. d) in
+    let step = ht.leads w p l c env b1 (w end) go u1
+        (sides (w (b1 + test.item.room l)) (w b2) (w end) turns u1 u2
+        (λ d. omega (arith, rounds_within at body test hb ht w p l c env n b2 d, u3))) in
+    omega (arith, alone body hb w p l c env base d,
+    runs p (w b1) (w end) (test.run l env b1 go) d1 (step d1) (omega (arith, u1, u4)))
+  where
+    sides : (i m j : ℕ) (turns : Arrow) → i ≤ j → i ≤ m → ((d : State) → met p (turns d) + m ≤ met p d + j) →
+        (b : Bool) → Adds p i j (one_of b turns (λ d. d))
+    sides i m j turns h u go true d = omega (arith, go d, u)
+    sides i m j turns h u go false d = omega (arith, h)
+
+repeated_keeps : (at : ℕ) (body : Item) (test : Test) → ItemKeeps body → TestKeeps test →
+    ItemKeeps (repeated at body test)
+repeated_keeps at body test hb ht =
+    let all = followed_keeps body test.item hb ht.item in
+    acting_keeps (λ l env base d. arrive past_break (rounds_from at body test l env l.turns base d))
+    (each_turn (followed body test.item)) all.lasting
+    (λ w p l c env base d. rounds_within at body test hb ht w p l c env l.turns base d)
+
+left_keeps : (x : Item) → ItemKeeps x → ItemKeeps (left_scope x)
+left_keeps x h = record { acts = h.acts; lasting = h.lasting }
+
+while_keeps : (at : ℕ) (test : Test) (body : Code) (c : Context) → TestKeeps test → CodeKeeps body →
+    ItemKeeps (while_from at test body c)
+while_keeps at test body c ht hb =
+    let inside = sub body (in_loop test.item.after c) in
+    left_keeps (looped at test inside (nothing inside.after))
+    (looped_keeps at test inside (nothing inside.after) ht (sub_keeps body (in_loop test.item.after c) hb)
+    (nothing_keeps inside.after))
+
+do_keeps : (at : ℕ) (body : Item) (condition : ExprNoted) → ItemKeeps body → ExprKeeps condition →
+    ItemKeeps (do_from at body condition)
+do_keeps at body condition hb hc =
+    let test = test_of at (condition body.after) in
+    left_keeps (repeated at body test)
+    (repeated_keeps at body test hb (test_keeps at (condition body.after) (hc body.after)))
+
+for_turns_keep : (at : ℕ) (test : Test) (step : Item) (body : Code) (c : Context) → TestKeeps test → ItemKeeps step →
+    CodeKeeps body → ItemKeeps (for_turns at test step body c)
+for_turns_keep at test step body c ht hs hb =
+    let inside = sub body (in_loop step.after c) in
+    let h = looped_keeps at test inside step ht (sub_keeps body (in_loop step.after c) hb) hs in
+    record { acts = h.acts; lasting = h.lasting }
+
+for_keeps : (at : ℕ) (first : Item) (condition step : Option ExprNoted) (body : Code) (c : Context) →
+    ItemKeeps first → MaybeExpr condition → MaybeExpr step → CodeKeeps body →
+    ItemKeeps (for_from at first condition step body c)
+for_keeps at first condition step body c hf hc hs hb =
+    let test = maybe_test at condition first.after in
+    let next = maybe_value step test.item.after in
+    let turns = for_turns at test next body c in
+    guarded_keeps (closed (followed first turns)) (λ p l base. refl)
+    (closed_keeps (followed first turns)
+    (followed_keeps first turns hf
+    (for_turns_keep at test next body c (maybe_test_keeps at condition first.after hc)
+    (maybe_value_keeps step test.item.after hs) hb)))
+
+-- ---- jumps
+
+jump_keeps : (bs : List Breach) (kind : Kind) (c : Context) → ItemKeeps (jump bs kind c)
+jump_keeps bs kind c = record {
+  acts = λ w p l h env base d.
+      let up = h.calls.rises.more base (base + 0) (omega arith) in
+      omega (arith, runs p (w base) (w (base + 0)) (become kind) d (omega (arith, up)) up);
+  lasting = tt;
+}
+
+returns_within : (x : Noted) (t : Option CType) → NotedKeeps x → ActsWithin x.part.room (returns x t)
+returns_within x t hx w p l c env base d =
+    let end = w (base + x.part.room l) in
+    with_value_adds p (w base) end end (met p d) (x.part.run l env base d)
+    (λ v d. record d { kind = k.Returning; value = Some (converted_to (class_in t) v) })
+    ((hx w p l c.calls).run env base d) (λ v d. le_refl _) (le_refl _)
+
+return_keeps : (at : ℕ) (value : Option ExprNoted) (c : Context) → MaybeExpr value → ItemKeeps (return_of at value c)
+return_keeps at None c h = jump_keeps _ k.Returning c
+return_keeps at (Some f) c h =
+    let x = f c.scope in
+    let kept = plain_keeps x x.part.typed.after [] (returns x c.result) (returns_within x c.result (h c.scope)) in
+    record { acts = kept.acts; lasting = kept.lasting }
+
+-- ---- statements by what stands in them
+
+code_keeps : (here : Context → Item) (every : List Label) → ((c : Context) → ItemKeeps (here c)) →
+    CodeKeeps (code here every)
+code_keeps here every h = record { here = h; content = h }
+
+compound_keeps : (xs : List Code) → EachCode xs → CodeKeeps (compound xs)
+compound_keeps xs h = record {
+  here = λ c.
+      let inside = node (in_turn xs (opened (labels_of xs) (unchosen c))) in
+      without_cases_keep (guarded (closed inside)) (guarded_keeps (closed inside) (λ p l base. refl)
+      (closed_keeps inside (node_keeps (in_turn xs (opened (labels_of xs) (unchosen c)))
+      (in_turn_keeps xs (opened (labels_of xs) (unchosen c)) h))));
+  content = λ c. node_keeps (in_turn xs c) (in_turn_keeps xs c h);
+}
+
+-- a run that arrives goes on as any other
+arrived_keeps : (f : Kind → Kind) (x : Item) → ItemKeeps x → ItemKeeps (arrived f x)
+arrived_keeps f x h = record {
+  acts = λ w p l c env base d. h.acts w p l c env base (arrive f d);
+  lasting = h.lasting;
+}
+
+labeled_keeps : (at : ℕ) (name : Name) (body : Code) → CodeKeeps body → CodeKeeps (labeled at name body)
+labeled_keeps at name body h = record { here = kept; content = kept }
+  where
+    kept : (c : Context) → ItemKeeps ((labeled at name body).here c)
+    kept c =
+        let inside = arrived_keeps (at_label name) (body.here c) (h.here c) in
+        record { acts = inside.acts; lasting = inside.lasting }
+
+case_of_keeps : (at : ℕ) (z : Option ℤ) (x : Item) → ItemKeeps x → ItemKeeps (case_of at z x)
+case_of_keeps at None x h = h
+case_of_keeps at (Some z) x h =
+    let inside = arrived_keeps (at_case (Some z)) x h in record { acts = inside.acts; lasting = inside.lasting }
+
+case_keeps : (at : ℕ) (value : ExprNoted) (body : Code) → CodeKeeps body → CodeKeeps (case_labeled at value body)
+case_keeps at value body h = record { here = kept; content = kept }
+  where
+    kept : (c : Context) → ItemKeeps ((case_labeled at value body).here c)
+    kept c =
+        let x = value c.scope in
+        let inside = case_of_keeps at (case_value c.chooses (constant_of x.part.typed))
+            (body.here (in_scope x.part.typed.after c)) (h.here (in_scope x.part.typed.after c)) in
+        record { acts = inside.acts; lasting = inside.lasting }
+
+default_keeps : (at : ℕ) (body : Code) → CodeKeeps body → CodeKeeps (default_labeled at body)
+default_keeps at body h = record { here = kept; content = kept }
+  where
+    kept : (c : Context) → ItemKeeps ((default_labeled at body).here c)
+    kept c =
+        let inside = arrived_keeps at_default (body.here c) (h.here c) in
+        record { acts = inside.acts; lasting = inside.lasting }
+
+-- ---- the induction
+
+abbrev Keeping : Stmt → Type 0
+Keeping x = CodeKeeps (stmt x)
+
+-- what holds of what a statement does
+holds : (x : Stmt) (y : Code) → stmt x ≡ y → CodeKeeps y → Keeping x
+holds x y e h = subst CodeKeeps (sym e) h
+
+each_code : (xs : List Stmt) → EachStmt Keeping xs → EachCode (map stmt xs)
+each_code [] h = tt
+each_code (x ∷ xs) h = (h.0, each_code xs h.1)
+
+maybe_code : (x : Option Stmt) → MaybeStmt Keeping x → MaybeCode (option_map stmt x)
+maybe_code None h = tt
+maybe_code (Some x) h = h
+
+begun_keeps : (x : ForStart) (s : Scope) → ItemKeeps (begun_by x s)
+begun_keeps (start_.Value value) s = maybe_value_keeps (option_map noted value) s (maybe_expr value)
+begun_keeps (start_.Declared d) s = declaration_keeps d s
+
+steps : StmtSteps Keeping
+steps = record {
+  on_block = λ at xs h. holds _ _ (eqs.does-Block at xs) (compound_keeps (map stmt xs) (each_code xs h));
+  on_declared = λ d. holds _ _ (eqs.does-Declared d) (code_keeps _ [] (λ c. declaration_keeps d c.scope));
+  on_value = λ at e. holds _ _ (eqs.does-Value at e) (code_keeps _ []
+      (λ c. node_keeps (maybe_value (option_map noted e) c.scope)
+      (maybe_value_keeps (option_map noted e) c.scope (maybe_expr e))));
+  on_label = λ at n x h. holds _ _ (eqs.does-Label at n x) (labeled_keeps at n (stmt x) h);
+  on_case = λ at e x h. holds _ _ (eqs.does-Case at e x) (case_keeps at (noted e) (stmt x) h);
+  on_default = λ at x h. holds _ _ (eqs.does-Default at x) (default_keeps at (stmt x) h);
+  on_if = λ at e x y hx hy. holds _ _ (eqs.does-If at e x y) (code_keeps _ _
+      (λ c. let z = noted e (enter c.scope) in
+      let first = in_scope z.part.typed.after c in
+      let second = in_scope (sub (stmt x) first).after c in
+      if_keeps at z (sub (stmt x) first) (maybe_sub (option_map stmt y) second) (expr_keeps e (enter c.scope))
+      (sub_keeps (stmt x) first hx) (maybe_sub_keeps (option_map stmt y) second (maybe_code y hy))));
+  on_switch = λ at e x h. holds _ _ (eqs.does-Switch at e x) (code_keeps _ _
+      (λ c. let z = noted e (enter c.scope) in
+      switch_keeps at z (block_of (stmt x) (switch_context z c)) (expr_keeps e (enter c.scope))
+      (block_keeps (stmt x) (switch_context z c) h)));
+  on_while = λ at e x h. holds _ _ (eqs.does-While at e x) (code_keeps _ _
+      (λ c. while_keeps at (test_of at (noted e (enter c.scope))) (stmt x) c
+      (test_keeps at (noted e (enter c.scope)) (expr_keeps e (enter c.scope))) h));
+  on_do = λ at x e h. holds _ _ (eqs.does-Do at x e) (code_keeps _ _
+      (λ c. do_keeps at (sub (stmt x) (in_loop (enter c.scope) c)) (noted e)
+      (sub_keeps (stmt x) (in_loop (enter c.scope) c) h) (expr_keeps e)));
+  on_for = λ at b e f x h. holds _ _ (eqs.does-For at b e f x) (code_keeps _ _
+      (λ c. for_keeps at (begun_by b (enter c.scope)) (option_map noted e) (option_map noted f) (stmt x) c
+      (begun_keeps b (enter c.scope)) (maybe_expr e) (maybe_expr f) h));
+  on_goto = λ at n. holds _ _ (eqs.does-Goto at n) (code_keeps _ [] (λ c. jump_keeps _ (k.Going n) c));
+  on_continue = λ at. holds _ _ (eqs.does-Continue at) (code_keeps _ [] (λ c. jump_keeps _ k.Continuing c));
+  on_break = λ at. holds _ _ (eqs.does-Break at) (code_keeps _ [] (λ c. jump_keeps _ k.Breaking c));
+  on_return = λ at e. holds _ _ (eqs.does-Return at e) (code_keeps _ []
+      (λ c. return_keeps at (option_map noted e) c (maybe_expr e)));
+}
+
+-- a statement meets no place but those of its room
+pub statement_keeps : (x : Stmt) → CodeKeeps (stmt x)
+statement_keeps x = of_stmt Keeping steps x
