@@ -6,3 +6,5 @@ pub mod Items
 pub mod Initials
 pub mod Declarations
 pub mod Statements
+pub mod Calls
+pub mod Levels
