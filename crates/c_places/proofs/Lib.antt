@@ -8,3 +8,4 @@ pub mod Declarations
 pub mod Statements
 pub mod Calls
 pub mod Levels
+pub mod Offsets
