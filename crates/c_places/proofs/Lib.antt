@@ -9,3 +9,4 @@ pub mod Statements
 pub mod Calls
 pub mod Levels
 pub mod Offsets
+pub mod Needs
