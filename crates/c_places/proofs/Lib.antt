@@ -10,3 +10,4 @@ pub mod Calls
 pub mod Levels
 pub mod Offsets
 pub mod Needs
+pub mod Runs

@@ -1,5 +1,11 @@
--- How often a place stands among those that a run meets, and that none stands twice.
+-- How often a place stands among those that a run meets; that none stands twice; and that each is one of the room.
 use Rattle.std.specs.Prelude.{ℕ, ◌+◌, ◌≤◌, cond, nat_eq, List, [], ◌∷◌}
+use Rattle.bit_words.specs.declared.bounds.Bounds.{Bounds}
+use Rattle.bit_words.specs.Worlds.{WorldTables}
+use Rattle.c_tree.specs.declared.unit.External.{External}
+use Rattle.c_runs.specs.declared.profile.Profile.{Profile}
+use Rattle.c_runs.specs.Runs.{room_of}
+use Rattle.c_runs.specs.Units.{machine_in, source_met}
 
 abbrev pub once : ℕ → ℕ → ℕ
 once place met = cond (nat_eq place met) 1 0
@@ -12,3 +18,14 @@ times place (met ∷ more) = once place met + times place more
 -- each place is met once at most
 abbrev pub AreDistinct : List ℕ → Type 0
 AreDistinct places = (place : ℕ) → times place places ≤ 1
+
+-- each place is one of so many, from 1 on
+abbrev pub AreWithin : ℕ → List ℕ → Type 0
+AreWithin room [] = Unit {0}
+AreWithin room (place ∷ more) = (1 ≤ place) × (place ≤ room) × AreWithin room more
+
+-- Whatever the source is, in every world and for all bounds: its run meets no place twice, and none but those of its
+-- room.
+pub record MeetsItsPlacesOnce (xs : List External) (profile : Profile) (w : WorldTables) (b : Bounds) : Type 0 where
+  pub distinct : AreDistinct (source_met xs profile w b)
+  pub within : AreWithin (room_of (machine_in xs profile w b)) (source_met xs profile w b)
