@@ -11,3 +11,5 @@ pub mod Levels
 pub mod Offsets
 pub mod Needs
 pub mod Runs
+pub mod Programs
+pub mod Sources
