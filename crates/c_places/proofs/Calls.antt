@@ -1,12 +1,12 @@
 -- Calls by rule meet no place but those of their rooms.
-use Rattle.std.proofs.Common.{◌≡◌, ◌≤◌, ℕ, zero, suc, ◌+◌, ◌*◌, ◌%◌, ℤ, pos, negsuc, Bool, true, false, cond, List, [], ◌∷◌}
-use Rattle.std.proofs.Common.{Option, Some, None, refl, arith, length, le_refl}
+use Rattle.std.proofs.Common.{◌≡◌, ◌≤◌, ℕ, zero, suc, ◌+◌, ◌*◌, ℤ, pos, negsuc, Bool, true, false, cond, List, [], ◌∷◌}
+use Rattle.std.proofs.Common.{Option, Some, None, refl, arith, le_refl}
 use Rattle.std.specs.Prelude.{not, ◌&&◌, nat_eq, nat_lt, drop}
 use Rattle.bit_words.specs.declared.run.Undefined.TheVariants as undefined
 use Rattle.bit_words.specs.declared.run.Finish.TheVariants as finish
 use Rattle.c_type_terms.specs.declared.class.Class.{Class}
 use Rattle.c_type_terms.specs.declared.class.Class.TheVariants as class
-use Rattle.c_store.specs.Store.{Store, start, end, object_of}
+use Rattle.c_store.specs.Store.{start, end, object_of}
 use Rattle.c_store.specs.Access.{can_access, can_write, can_free}
 use Rattle.c_says.specs.declared.scope.Entry.{Entry}
 use Rattle.c_means.specs.Parts.{State, Env, Level, Site, meet, with_store}
@@ -16,11 +16,12 @@ use Rattle.c_runs.specs.declared.profile.FillAnswer.TheVariants as answer
 use Rattle.c_runs.specs.declared.profile.FillFunction.{FillFunction}
 use Rattle.c_runs.specs.declared.profile.LogText.{LogText}
 use Rattle.c_runs.specs.Rules.{Library, Exit, Abort, Malloc, Calloc, Free}
-use Rattle.c_runs.specs.Calls.{answers, stopped, finished, asked, value_or_zero, meets, prints, prints_if, log_call, log_pieces}
-use Rattle.c_runs.specs.Calls.{pointers_in, identity_call, as_number, heap_object, freed, library_call, outside_object}
+use Rattle.c_runs.specs.Calls.{answers, stopped, finished, asked, value_or_zero, meets, prints, prints_if, log_call}
+use Rattle.c_runs.specs.Calls.{log_pieces}
+use Rattle.c_runs.specs.Calls.{pointers_in, as_number, heap_object, freed, library_call, outside_object}
 use Rattle.c_runs.specs.Calls.{pointed, outside_pointer, outside_answer, fill_count, fills_at, filled, is_odd, fill_by}
 use Rattle.c_runs.specs.Calls.{outside_call, text_with, arguments_of, before_format, spoken}
-use Rattle.c_places.specs.Places.{once, times}
+use Rattle.c_places.specs.Places.{once}
 use Rattle.c_places.proofs.Counts.{Rises, met, times-append}
 
 -- a weight that counts a place
@@ -35,8 +36,13 @@ pub meets_within : (w : ℕ → ℕ) (p : ℕ) → Counts w p → (q n : ℕ) (d
     met p (meets q n d) + w q ≤ met p d + w (q + n)
 meets_within w p c q zero d = omega (arith, c.rises.more q (q + 0) (omega arith))
 meets_within w p c q (suc n) d =
-    omega (arith, meets_within w p c (suc q) n (meet q d), met_one p q d, c.step q,
-    c.rises.more (suc q + n) (q + suc n) (omega arith))
+    omega (
+      arith,
+      meets_within w p c (suc q) n (meet q d),
+      met_one p q d,
+      c.step q,
+      c.rises.more (suc q + n) (q + suc n) (omega arith),
+    )
 
 either : (p n : ℕ) (b : Bool) (x y : State) → met p x ≤ n → met p y ≤ n → met p (cond b x y) ≤ n
 either p n true x y hx hy = hx
@@ -54,16 +60,22 @@ prints_if_met : (p : ℕ) (l : Level) (named : List Entry) (g : Site) (env : Env
 prints_if_met p l named g env None d = refl
 prints_if_met p l named g env (Some text) d = prints_met p l named g env text d
 
-pub log_within : (w : ℕ → ℕ) (p : ℕ) → Counts w p → (l : Level) (named : List Entry) (f : LogText) (g : Site) (env : Env)
+pub log_within : (w : ℕ → ℕ) (p : ℕ) → Counts w p → (l : Level) (named : List Entry) (f : LogText) (g : Site)
+    (env : Env)
     (vs : List ℤ) (base : ℕ) (d : State) →
     met p (log_call l named f g env vs base d) + w base ≤ met p d + w (base + (4 + pointers_in (log_pieces f g)))
 log_within w p c l named f g env vs base d =
     let ps = log_pieces f g in
     let n = pointers_in ps in
     let text = text_with ps
-        (arguments_of l ps (drop (before_format f) (spoken g.types vs)) (base + 4) d.store) in
-    omega (arith, prints_if_met p l named g env text (meets (base + 4) n d), meets_within w p c (base + 4) n d,
-    c.rises.more base (base + 4) (omega arith), c.rises.more (base + 4 + n) (base + (4 + n)) (omega arith))
+    (arguments_of l ps (drop (before_format f) (spoken g.types vs)) (base + 4) d.store) in
+    omega (
+      arith,
+      prints_if_met p l named g env text (meets (base + 4) n d),
+      meets_within w p c (base + 4) n d,
+      c.rises.more base (base + 4) (omega arith),
+      c.rises.more (base + 4 + n) (base + (4 + n)) (omega arith),
+    )
 
 -- ---- functions of the library
 
@@ -123,23 +135,35 @@ filled_met p n l g q a size f d h =
 fill_within : (w : ℕ → ℕ) (p : ℕ) → Counts w p → (f : FillAnswer) (l : Level) (b : Bool) (g : Site) (q a n : ℕ)
     (d : State) → met p (fill_by f l b g q a n d) + w q ≤ met p d + w (q + 4)
 fill_within w p c answer.Free l b g q a n d =
-    omega (arith,
-    filled_met p (once p q) l g q a n (outside_answer (class_in g.ctype) l b g q) (meets (q + 1) 2 d)
-    (answer_met p (class_in g.ctype) l b g q),
-    meets_within w p c (q + 1) 2 d, c.step q, c.rises.more (suc q) (q + 1) (omega arith),
-    c.rises.more (q + 1 + 2) (q + 4) (omega arith))
+    omega (
+      arith,
+      filled_met p (once p q) l g q a n (outside_answer (class_in g.ctype) l b g q) (meets (q + 1) 2 d)
+          (answer_met p (class_in g.ctype) l b g q),
+      meets_within w p c (q + 1) 2 d,
+      c.step q,
+      c.rises.more (suc q) (q + 1) (omega arith),
+      c.rises.more (q + 1 + 2) (q + 4) (omega arith),
+    )
 fill_within w p c answer.Count l b g q a n d = by_fail (is_odd (asked l (q + 3)))
   where
     by_fail : (odd : Bool) → met p (cond odd (answers g (negsuc 0) (meet (q + 3) d))
         (filled l g q a n (answers g (pos n)) (meets (q + 1) 3 d))) + w q ≤ met p d + w (q + 4)
     by_fail true =
-        omega (arith, met_one p (q + 3) d, c.step (q + 3), c.rises.more q (q + 3) (omega arith),
-        c.rises.more (suc (q + 3)) (q + 4) (omega arith))
+        omega (
+          arith,
+          met_one p (q + 3) d,
+          c.step (q + 3),
+          c.rises.more q (q + 3) (omega arith),
+          c.rises.more (suc (q + 3)) (q + 4) (omega arith),
+        )
     by_fail false =
-        omega (arith,
-        filled_met p 0 l g q a n (answers g (pos n)) (meets (q + 1) 3 d) (λ d. omega arith),
-        meets_within w p c (q + 1) 3 d, c.rises.more q (q + 1) (omega arith),
-        c.rises.more (q + 1 + 3) (q + 4) (omega arith))
+        omega (
+          arith,
+          filled_met p 0 l g q a n (answers g (pos n)) (meets (q + 1) 3 d) (λ d. omega arith),
+          meets_within w p c (q + 1) 3 d,
+          c.rises.more q (q + 1) (omega arith),
+          c.rises.more (q + 1 + 3) (q + 4) (omega arith),
+        )
 
 pub outside_within : (w : ℕ → ℕ) (p : ℕ) → Counts w p → (l : Level) (f : Option FillFunction) (b : Bool) (g : Site)
     (vs : List ℤ) (q : ℕ) (d : State) → met p (outside_call l f b g vs q d) + w q ≤ met p d + w (q + 4)

@@ -1,9 +1,9 @@
 -- Counting how often a place is met. A weight rises with the places; what takes the places from one to another adds
 -- to the count of a place no more than the weight rises between them.
-use Rattle.std.proofs.Common.{◌≡◌, ◌≤◌, ℕ, zero, suc, ◌+◌, Bool, true, false, cond, List, [], ◌∷◌, ◌++◌, Ok, Err}
-use Rattle.std.proofs.Common.{refl, ap, ◌∙◌, arith, le_refl}
+use Rattle.std.proofs.Common.{◌≡◌, ◌≤◌, ℕ, ◌+◌, List, [], ◌∷◌, ◌++◌, Ok, Err}
+use Rattle.std.proofs.Common.{arith, le_refl}
 use Rattle.c_means.specs.Parts.{State, Outcome, ◌>>=◌}
-use Rattle.c_places.specs.Places.{once, times}
+use Rattle.c_places.specs.Places.{times}
 
 pub times-append : (p : ℕ) (xs ys : List ℕ) → times p (xs ++ ys) ≡ times p xs + times p ys
 times-append p [] ys = omega arith

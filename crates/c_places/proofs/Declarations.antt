@@ -1,5 +1,5 @@
 -- Declarations in blocks: objects have the places of their declarations.
-use Rattle.std.proofs.Common.{◌≡◌, ◌≤◌, ℕ, zero, suc, ◌+◌, ℤ, Bool, true, false, List, [], ◌∷◌, Option, Some, None, refl, arith}
+use Rattle.std.proofs.Common.{◌≡◌, ℕ, suc, ◌+◌, Bool, true, false, List, [], ◌∷◌, Option, Some, None, refl, arith}
 use Rattle.std.specs.Prelude.{map, option_map}
 use Rattle.c_tree.specs.declared.unit.Declaration.{Declaration}
 use Rattle.c_tree.specs.declared.unit.InitDeclarator.{InitDeclarator}
@@ -11,16 +11,16 @@ use Rattle.c_says.specs.declared.scope.Linkage.{Linkage}
 use Rattle.c_says.specs.declared.scope.Means.{Means}
 use Rattle.c_says.specs.declared.scope.Means.TheVariants as means
 use Rattle.c_says.specs.Scopes.{Scope}
-use Rattle.c_says.specs.Declares.{Said, Saying, said_by}
+use Rattle.c_says.specs.Declares.{Said, said_by}
 use Rattle.c_says.specs.Declarations.{Declared, declares}
-use Rattle.c_means.specs.Parts.{State, Env, Level}
+use Rattle.c_means.specs.Parts.{State}
 use Rattle.c_means.specs.Values.{bytes_of}
 use Rattle.c_runs.specs.Notes.{specifier_noted}
-use Rattle.c_runs.specs.Items.{Item, typing, nothing, followed, with_breaches, running}
+use Rattle.c_runs.specs.Items.{typing}
 use Rattle.c_runs.specs.Initials.{Initial, Initially, initially, initialising_if, said_if}
-use Rattle.c_runs.specs.Statements.{Declaring, zeroed_if, automatic, no_env, lasting, lasting_object, declared_means}
+use Rattle.c_runs.specs.Statements.{Declaring, zeroed_if, automatic, no_env, lasting, declared_means}
 use Rattle.c_runs.specs.Statements.{declared_entry, type_in_entry, declared_item, defines, name_offset, declares_formed}
-use Rattle.c_runs.specs.Statements.{declares_all, declares_by, is_alone, declaring, declaration}
+use Rattle.c_runs.specs.Statements.{declares_all, is_alone, declaring, declaration}
 use Rattle.c_places.proofs.Counts.{met}
 use Rattle.c_places.proofs.Items.{ItemKeeps, nothing_keeps, followed_keeps, breaches_keep, runs}
 use Rattle.c_places.proofs.Initials.{InitialKeeps, MaybeElements, initial_keeps, initially_keeps}
@@ -38,12 +38,14 @@ automatic_keeps e n x s h = record {
       let one = base + 1 in
       let end = one + x.room l in
       let up = c.calls.rises.more one end (omega arith) in
-      omega (arith,
-      runs p (w one) (w end) (λ d. x.run first l env one (zeroed_if x.is_zeroed first n d)) d
-      (omega (arith, h.acts w p l c.calls first env one d', zeroed_met p x.is_zeroed first n d)) up,
-      c.step base,
-      c.calls.rises.more (suc base) one (omega arith),
-      c.calls.rises.more end (base + (1 + x.room l)) (omega arith));
+      omega (
+        arith,
+        runs p (w one) (w end) (λ d. x.run first l env one (zeroed_if x.is_zeroed first n d)) d
+            (omega (arith, h.acts w p l c.calls first env one d', zeroed_met p x.is_zeroed first n d)) up,
+        c.step base,
+        c.calls.rises.more (suc base) one (omega arith),
+        c.calls.rises.more end (base + (1 + x.room l)) (omega arith),
+      );
   lasting = tt;
 }
 

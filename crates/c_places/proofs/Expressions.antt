@@ -1,23 +1,14 @@
 -- What an expression does meets no place but those of its room: one induction over all trees.
-use Rattle.std.proofs.Common.{◌≡◌, ◌≤◌, ℕ, List, [], ◌∷◌, Option, Some, None, sym, subst}
-use Rattle.std.specs.Prelude.{map, unwrap_or}
-use Rattle.c_tree.specs.declared.expr.Declarator.{Declarator}
-use Rattle.c_tree.specs.declared.expr.Declarator.TheOpen as open_
-use Rattle.c_tree.specs.declared.expr.Enumerator.{Enumerator}
+use Rattle.std.proofs.Common.{◌≡◌, ℕ, List, [], ◌∷◌, sym, subst}
+use Rattle.std.specs.Prelude.{map}
 use Rattle.c_tree.specs.declared.expr.Expr.{Expr}
-use Rattle.c_tree.specs.declared.expr.Field.{Field}
-use Rattle.c_tree.specs.declared.expr.MemberDeclaration.{MemberDeclaration}
-use Rattle.c_tree.specs.declared.expr.Parameter.{Parameter}
-use Rattle.c_tree.specs.declared.expr.Specifier.{Specifier}
-use Rattle.c_tree.specs.declared.expr.TypeName.{TypeName}
 use Rattle.c_tree.proofs.Induction.{Each, Steps, of_expr}
 use Rattle.c_says.specs.Scopes.{Scope, look_up}
 use Rattle.c_says.specs.Typing.{type_of, constant_of}
 use Rattle.c_says.specs.Typing as says
-use Rattle.c_means.specs.Parts.{Level, Part}
-use Rattle.c_means.specs.Values.{class_in}
-use Rattle.c_means.specs.Expressions.{is_lvalue, offset_of, both_run}
-use Rattle.c_means.specs.Trees.{ExprMeans, part, part_step, through, type_name_said}
+use Rattle.c_means.specs.Parts.{Level}
+use Rattle.c_means.specs.Expressions.{is_lvalue, offset_of}
+use Rattle.c_means.specs.Trees.{ExprMeans, part, through, type_name_said}
 use Rattle.c_means.proofs.Equations as meaning
 use Rattle.c_runs.specs.Notes.{noted}
 use Rattle.c_runs.proofs.Fusion.{part_noted}

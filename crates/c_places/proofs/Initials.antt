@@ -1,9 +1,7 @@
 -- An initializer meets no place but those of its room.
-use Rattle.std.proofs.Common.{◌≡◌, ◌≤◌, ℕ, ◌+◌, ℤ, Bool, true, false, cond, List, [], ◌∷◌, ◌++◌, Option, Some, None}
-use Rattle.std.proofs.Common.{refl, sym, subst, arith, le_refl}
-use Rattle.std.specs.Prelude.{map, unwrap_or, option_map}
-use Rattle.c_tree.specs.declared.unit.Designator.{Designator}
-use Rattle.c_tree.specs.declared.unit.Designator.TheVariants as designator
+use Rattle.std.proofs.Common.{◌≤◌, ℕ, ◌+◌, Bool, true, false, cond, List, [], ◌∷◌, ◌++◌, Option, Some, None}
+use Rattle.std.proofs.Common.{sym, subst, arith, le_refl}
+use Rattle.std.specs.Prelude.{map, unwrap_or}
 use Rattle.c_tree.specs.declared.unit.Initializer.{Initializer}
 use Rattle.c_tree.specs.declared.unit.InitializerItem.{InitializerItem}
 use Rattle.c_type_terms.specs.declared.ctype.CType.{CType}
@@ -11,11 +9,11 @@ use Rattle.c_grammar.proofs.UnitEquations.{EachValue, InitialSteps, of_initializ
 use Rattle.c_says.specs.Initials.{Part, Designates, ToMember, ToElement, is_text_of}
 use Rattle.c_says.specs.Scopes.{Scope}
 use Rattle.c_means.specs.Parts.{State, Env, Level}
-use Rattle.c_runs.specs.Notes.{Noted, ExprNoted, noted}
-use Rattle.c_runs.specs.Items.{with_value, running}
-use Rattle.c_runs.specs.Initials.{Element, Evaluates, Indexes, Initially, Listed, Initial, initially, listed_item, designated}
-use Rattle.c_runs.specs.Initials.{listed, indices, all_elements, evaluated, sets, sets_all, sets_text, stores, all_rooms}
-use Rattle.c_runs.specs.Initials.{initialising_if, value_initially, list_initially}
+use Rattle.c_runs.specs.Notes.{Noted, ExprNoted}
+use Rattle.c_runs.specs.Items.{with_value}
+use Rattle.c_runs.specs.Initials.{Element, Evaluates, Indexes, Initially, Initial, initially, listed_item, designated}
+use Rattle.c_runs.specs.Initials.{indices, all_elements, evaluated, sets, sets_all, sets_text, stores, all_rooms}
+use Rattle.c_runs.specs.Initials.{initialising_if}
 use Rattle.c_runs.proofs.Equations as eqs
 use Rattle.c_places.proofs.Counts.{met}
 use Rattle.c_places.proofs.Parts.{Calling, Keeps}
@@ -111,10 +109,13 @@ sets_all_keep w p l c (q ∷ qs) (x ∷ xs) h a env base d =
     let next = base + x.part.room l in
     let d' = sets q x a l env base d in
     let up = c.rises.more next (next + all_rooms xs l) (omega arith) in
-    omega (arith, sets_keep w p l c q x h.0 a env base d,
-    runs p (w next) (w (next + all_rooms xs l)) (sets_all qs xs a l env next) d'
-    (sets_all_keep w p l c qs xs h.1 a env next d') up,
-    c.rises.more (next + all_rooms xs l) (base + (x.part.room l + all_rooms xs l)) (omega arith))
+    omega (
+      arith,
+      sets_keep w p l c q x h.0 a env base d,
+      runs p (w next) (w (next + all_rooms xs l)) (sets_all qs xs a l env next) d'
+          (sets_all_keep w p l c qs xs h.1 a env next d') up,
+      c.rises.more (next + all_rooms xs l) (base + (x.part.room l + all_rooms xs l)) (omega arith),
+    )
 
 abbrev pub MaybeElements : Option Initially → Type 0
 MaybeElements None = Unit {0}

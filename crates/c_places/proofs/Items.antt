@@ -1,7 +1,7 @@
 -- Statements as items of blocks: each meets no place but those of its room, those of the objects that it gives to its
 -- block among them, and its block makes these.
-use Rattle.std.proofs.Common.{◌≡◌, ◌≤◌, ℕ, zero, suc, ◌+◌, ◌*◌, ℤ, Bool, true, false, cond, List, [], ◌∷◌, ◌++◌, Ok, Err}
-use Rattle.std.proofs.Common.{refl, ap, ◌∙◌, arith, Option, Some, None, le_refl, suc-mul}
+use Rattle.std.proofs.Common.{◌≡◌, ◌≤◌, ℕ, suc, ◌+◌, ℤ, Bool, true, false, cond, List, [], ◌∷◌, ◌++◌, Ok, Err}
+use Rattle.std.proofs.Common.{refl, arith}
 use Rattle.bit_words.specs.declared.run.Happening.TheVariants as happening
 use Rattle.bit_words.specs.declared.run.Side.TheVariants as side
 use Rattle.c_type_terms.specs.Integers.{is_zero}
@@ -13,13 +13,13 @@ use Rattle.c_store.specs.Store.{make, end}
 use Rattle.c_means.specs.Parts.{State, Outcome, Env, Level, note, meet, with_store}
 use Rattle.c_means.specs.Expressions.{on_branch}
 use Rattle.c_runs.specs.declared.breach.Breach.{Breach}
-use Rattle.c_runs.specs.Notes.{Noted, ExprNoted}
-use Rattle.c_runs.specs.Items.{Item, Made, Lasting, Code, Context, Acts, Arrow, born, dead, known, running, where_running}
-use Rattle.c_runs.specs.Items.{with_value, nothing, followed, with_breaches, node, guarded, lived, closed, without_cases}
-use Rattle.c_runs.specs.Items.{in_turn, in_scope, sub, block_of, unchosen, opened, arrive, become}
-use Rattle.c_places.specs.Places.{once, times}
-use Rattle.c_places.proofs.Counts.{Rises, met, AddsTo, times-append}
-use Rattle.c_places.proofs.Parts.{Calling, Keeps}
+use Rattle.c_runs.specs.Items.{Item, Made, Lasting, Code, Context, Acts, Arrow, born, dead, known, running}
+use Rattle.c_runs.specs.Items.{where_running}
+use Rattle.c_runs.specs.Items.{with_value, nothing, followed, with_breaches, node, guarded, closed, without_cases}
+use Rattle.c_runs.specs.Items.{in_turn, in_scope, sub, block_of, unchosen, opened}
+use Rattle.c_places.specs.Places.{once}
+use Rattle.c_places.proofs.Counts.{met, AddsTo, times-append}
+use Rattle.c_places.proofs.Parts.{Calling}
 
 -- ---- levels and weights
 
@@ -113,10 +113,13 @@ nothing_keeps s = record {
 
 pub followed_keeps : (x y : Item) → ItemKeeps x → ItemKeeps y → ItemKeeps (followed x y)
 followed_keeps x y hx hy = record {
-  acts = λ w p l c env base d. omega (arith, hx.acts w p l c env base d,
-      hy.acts w p l c env (base + x.room l) (x.run l env base d),
-      made-append p (x.objects l base) (y.objects l (base + x.room l)),
-      c.calls.rises.more (base + x.room l + y.room l) (base + (x.room l + y.room l)) (omega arith));
+  acts = λ w p l c env base d. omega (
+    arith,
+    hx.acts w p l c env base d,
+    hy.acts w p l c env (base + x.room l) (x.run l env base d),
+    made-append p (x.objects l base) (y.objects l (base + x.room l)),
+    c.calls.rises.more (base + x.room l + y.room l) (base + (x.room l + y.room l)) (omega arith),
+  );
   lasting = lasting_append x.lasting y.lasting hx.lasting hy.lasting;
 }
 
@@ -133,12 +136,14 @@ pub guarded_keeps : (x : Item) → NoObject x → ItemKeeps x → ItemKeeps (gua
 guarded_keeps x none h = record {
   acts = λ w p l c env base d.
       let up = c.calls.rises.more base (base + x.room l) (omega arith) in
-      omega (arith, none p l base,
-      runs p (w base) (w (base + x.room l)) (x.run l env base) d
-      (omega (arith, none p l base, h.acts w p l c env base d)) up);
+      omega (
+        arith,
+        none p l base,
+        runs p (w base) (w (base + x.room l)) (x.run l env base) d
+            (omega (arith, none p l base, h.acts w p l c env base d)) up,
+      );
   lasting = h.lasting;
 }
-
 
 pub breaches_keep : (bs : List Breach) (x : Item) → ItemKeeps x → ItemKeeps (with_breaches bs x)
 breaches_keep bs x h = record { acts = h.acts; lasting = h.lasting }

@@ -1,8 +1,8 @@
 -- Calls keep to their rooms, whatever depth is left.
-use Rattle.std.proofs.Common.{◌≡◌, ◌≤◌, ℕ, zero, suc, ◌+◌, ℤ, Bool, true, false, cond, List, [], ◌∷◌, Option, Some, None}
-use Rattle.std.proofs.Common.{refl, arith, length, le_refl}
+use Rattle.std.proofs.Common.{◌≡◌, ◌≤◌, ℕ, zero, suc, ◌+◌, ℤ, Bool, true, false, cond, List, [], ◌∷◌, Option, Some}
+use Rattle.std.proofs.Common.{None}
+use Rattle.std.proofs.Common.{refl, arith, length}
 use Rattle.std.specs.Str.{bytes_eq}
-use Rattle.bit_words.specs.declared.run.Finish.TheVariants as finish
 use Rattle.c_type_terms.specs.declared.tables.Tables.{Tables}
 use Rattle.c_store.specs.Store.{Store, start}
 use Rattle.c_says.specs.declared.scope.Entry.{Entry}
@@ -10,20 +10,17 @@ use Rattle.c_says.specs.declared.scope.Means.{Means}
 use Rattle.c_says.specs.declared.scope.Means.TheVariants as means
 use Rattle.c_says.specs.Scopes.{Name, Scope}
 use Rattle.c_means.specs.Parts.{State, Env, Level, Site, entered}
-use Rattle.c_runs.specs.Items.{Item, Made, born, dead, known, lived}
+use Rattle.c_runs.specs.Items.{born, known, lived}
 use Rattle.c_runs.specs.Statements.{no_env}
 use Rattle.c_runs.specs.Rules.{Rules, LogCall, IdentityCall, BodyCall, LibraryCall, PreludeCall, OutsideCall, Library}
 use Rattle.c_runs.specs.Rules.{Taking, rule_by, identity_or, body_or, library_or, prelude_or_outside, log_of}
 use Rattle.c_runs.specs.Rules.{identity_index, library_of, callee_taking, same_taking, declared_taking, fill_of}
 use Rattle.c_runs.specs.declared.profile.LogFunction.{LogFunction}
-use Rattle.c_runs.specs.Calls.{finished, log_pieces}
 use Rattle.c_runs.specs.Programs.{Function, functions_of, function_named, watched_lasting}
-use Rattle.c_runs.specs.Runs.{Machine, Below, bare, level, level_of, frame, parameter_size, passes, passes_as, by_body}
-use Rattle.c_runs.specs.Runs.{body_room, call_below, room_below, room_by, call_by, rule_of, if_same, prelude_if}
+use Rattle.c_runs.specs.Runs.{Machine, Below, bare, level, level_of, frame, passes, passes_as, by_body}
+use Rattle.c_runs.specs.Runs.{body_room, call_below, room_below, room_by, call_by, rule_of, prelude_if}
 use Rattle.c_runs.specs.Runs.{prelude_of, is_never_null}
-use Rattle.c_places.specs.Places.{once}
-use Rattle.c_places.proofs.Counts.{Rises, met}
-use Rattle.c_places.proofs.Parts.{Calling}
+use Rattle.c_places.proofs.Counts.{met}
 use Rattle.c_places.proofs.Items.{Counting, ItemKeeps, made, born_met, dead_met, closed_keeps}
 use Rattle.c_places.proofs.Calls.{Counts, log_within, library_within, outside_within}
 
@@ -44,7 +41,8 @@ pub named_keeps : (fs : List Function) (name : Name) → EachFunction fs → May
 named_keeps [] name h = tt
 named_keeps (f ∷ fs) name h = found (bytes_eq f.name name) (named_keeps fs name h.1)
   where
-    found : (b : Bool) → MaybeFunction (function_named fs name) → MaybeFunction (cond b (Some f) (function_named fs name))
+    found : (b : Bool) → MaybeFunction (function_named fs name) → MaybeFunction (cond b (Some f)
+        (function_named fs name))
     found true more = h.0
     found false more = more
 
@@ -54,8 +52,12 @@ frame_made : (w : ℕ → ℕ) (p : ℕ) → Counts w p → (s : Scope) (base : 
     made p (frame s base es) + w base ≤ w (base + length es)
 frame_made w p c s base [] = omega (arith, c.rises.more base (base + 0) (omega arith))
 frame_made w p c s base (e ∷ es) =
-    omega (arith, frame_made w p c s (suc base) es, c.step base,
-    c.rises.more (suc base + length es) (base + suc (length es)) (omega arith))
+    omega (
+      arith,
+      frame_made w p c s (suc base) es,
+      c.step base,
+      c.rises.more (suc base + length es) (base + suc (length es)) (omega arith),
+    )
 
 passed_met : (p : ℕ) (tables : Tables) (m : Means) (a : ℕ) (v : ℤ) (d : State) →
     met p (passes_as tables m a v d) ≡ met p d
@@ -85,11 +87,15 @@ body_within w p l c f h vs base s count =
     let first = born ms (entered s count) in
     let d = passes f.inside.tables base f.parameters vs first in
     let env = known ms no_env in
-    omega (arith, dead_met p ms (lived f.body l env (base + n) d),
-    (closed_keeps f.body h).acts w p l c env (base + n) d,
-    passes_met p f.inside.tables base f.parameters vs first, born_met p ms (entered s count),
-    frame_made w p (counts_of w p l c) f.inside base f.parameters,
-    c.calls.rises.more (base + n + f.body.room l) (base + (n + f.body.room l)) (omega arith))
+    omega (
+      arith,
+      dead_met p ms (lived f.body l env (base + n) d),
+      (closed_keeps f.body h).acts w p l c env (base + n) d,
+      passes_met p f.inside.tables base f.parameters vs first,
+      born_met p ms (entered s count),
+      frame_made w p (counts_of w p l c) f.inside base f.parameters,
+      c.calls.rises.more (base + n + f.body.room l) (base + (n + f.body.room l)) (omega arith),
+    )
 
 -- ---- the rule of a call
 
@@ -154,8 +160,11 @@ call_within : (w : ℕ → ℕ) (p : ℕ) → Counts w p → (m : Machine) (call
     (g : Site) (env : Env) (vs : List ℤ) (base : ℕ) (s : Store) (count : ℕ) →
     met p (call_by m caller turns below rule g env vs base s count) + w base ≤ w (base + room_by m below g rule)
 call_within w p c m caller turns below hb (LogCall text) hr g env vs base s count =
-    omega (arith, log_within w p c (bare m turns) (watched_lasting m.program.scope caller) text g env vs base
-    (entered s count))
+    omega (
+      arith,
+      log_within w p c (bare m turns) (watched_lasting m.program.scope caller) text g env vs base
+          (entered s count),
+    )
 call_within w p c m caller turns below hb (IdentityCall i) hr g env vs base s count =
     omega (arith, c.rises.more base (base + 4) (omega arith))
 call_within w p c m caller turns below hb (BodyCall f) hr g env vs base s count =
@@ -165,8 +174,11 @@ call_within w p c m caller turns below hb (LibraryCall f) hr g env vs base s cou
 call_within w p c m caller turns below hb (PreludeCall f) hr g env vs base s count =
     below_within w p c below hb f hr m.limits.texts g vs base s count
 call_within w p c m caller turns below hb OutsideCall hr g env vs base s count =
-    omega (arith, outside_within w p c (bare m turns) (fill_of m.profile g.callee.name) (is_never_null m g) g vs base
-    (entered s count))
+    omega (
+      arith,
+      outside_within w p c (bare m turns) (fill_of m.profile g.callee.name) (is_never_null m g) g vs base
+          (entered s count),
+    )
 
 level_keeps : (w : ℕ → ℕ) (p : ℕ) → Counts w p → (m : Machine) → MachineKeeps m → (below : Below) →
     BelowKeeps w p below → (f : Function) (turns : ℕ) → Counting w p (level m below f turns)

@@ -1,5 +1,5 @@
 -- What a program needs has its place among those of the program.
-use Rattle.std.proofs.Common.{◌≡◌, ◌⊎◌, inl, inr, ℕ, Bool, true, false, cond, List, [], ◌∷◌, ◌++◌, Option, Some, None}
+use Rattle.std.proofs.Common.{ℕ, Bool, true, false, cond, List, [], ◌∷◌, ◌++◌, Option, Some, None}
 use Rattle.std.specs.Str.{bytes_eq}
 use Rattle.std.specs.Prelude.{nat_lt, nat_eq}
 use Rattle.c_says.specs.declared.scope.Linked.{Linked}
@@ -10,7 +10,8 @@ use Rattle.c_runs.specs.Names.{Literal, Names, Word}
 use Rattle.c_runs.specs.Programs.{Function, Outer, Program, Text, Needs, no_needs, and_needs, texts_of, item_needs}
 use Rattle.c_runs.specs.Programs.{declared_needs, function_needs, all_needs, needs_of, is_needed, has_function}
 use Rattle.c_runs.specs.Programs.{needed_words, reached}
-use Rattle.c_runs.specs.Runs.{with_offset, linked_offsets, lasting_offsets, literal_offsets, function_offsets, outer_offsets}
+use Rattle.c_runs.specs.Runs.{with_offset, linked_offsets, lasting_offsets, literal_offsets, function_offsets}
+use Rattle.c_runs.specs.Runs.{outer_offsets}
 use Rattle.c_runs.specs.Runs.{offsets_of, linked_offset, name_offsets, text_offsets}
 use Rattle.c_places.proofs.Offsets.{Ascends, Has, AllIn, ascends_with, has_itself, has_still}
 use Rattle.c_places.proofs.Items.{ItemKeeps, LastingKeep, lasting_append}
@@ -107,24 +108,27 @@ texts_in (t ∷ ts) xs ys more h = (more t.at h.0, texts_in ts xs ys more h.1)
 
 linked_there : (ls : List Linked) (ats : List ℕ) → LinkedIn (linked_offsets ls ats) ls
 linked_there [] ats = tt
-linked_there (l ∷ ls) ats =
-    (has_itself l.at (linked_offsets ls ats),
-    linked_in ls (linked_offsets ls ats) (with_offset l.at (linked_offsets ls ats))
-    (λ b h. has_still b l.at (linked_offsets ls ats) h) (linked_there ls ats))
+linked_there (l ∷ ls) ats = (
+  has_itself l.at (linked_offsets ls ats),
+  linked_in ls (linked_offsets ls ats) (with_offset l.at (linked_offsets ls ats))
+      (λ b h. has_still b l.at (linked_offsets ls ats) h) (linked_there ls ats),
+)
 
 lasting_there : (ls : List Lasting) (ats : List ℕ) → LastingIn (lasting_offsets ls ats) ls
 lasting_there [] ats = tt
-lasting_there (l ∷ ls) ats =
-    (has_itself l.entry.at (lasting_offsets ls ats),
-    lasting_in ls (lasting_offsets ls ats) (with_offset l.entry.at (lasting_offsets ls ats))
-    (λ b h. has_still b l.entry.at (lasting_offsets ls ats) h) (lasting_there ls ats))
+lasting_there (l ∷ ls) ats = (
+  has_itself l.entry.at (lasting_offsets ls ats),
+  lasting_in ls (lasting_offsets ls ats) (with_offset l.entry.at (lasting_offsets ls ats))
+      (λ b h. has_still b l.entry.at (lasting_offsets ls ats) h) (lasting_there ls ats),
+)
 
 texts_there : (name : Name) (ls : List Literal) (ats : List ℕ) → TextsIn (literal_offsets ls ats) (texts_of name ls)
 texts_there name [] ats = tt
-texts_there name (l ∷ ls) ats =
-    (has_itself l.at (literal_offsets ls ats),
-    texts_in (texts_of name ls) (literal_offsets ls ats) (with_offset l.at (literal_offsets ls ats))
-    (λ b h. has_still b l.at (literal_offsets ls ats) h) (texts_there name ls ats))
+texts_there name (l ∷ ls) ats = (
+  has_itself l.at (literal_offsets ls ats),
+  texts_in (texts_of name ls) (literal_offsets ls ats) (with_offset l.at (literal_offsets ls ats))
+      (λ b h. has_still b l.at (literal_offsets ls ats) h) (texts_there name ls ats),
+)
 
 -- the last declaration of a name is one of them
 last_in : (f : Linked → Bool) (best : Option Linked) (ls : List Linked) (xs : List ℕ) → MaybeIn xs best →
@@ -197,8 +201,8 @@ all_in ws found (x ∷ xs) ats =
     let inner = function_offsets x.function rest in
     let whole = outer_offsets (x ∷ xs) ats in
     let from_inner : Held inner whole = λ b h.
-        lasting_held x.item.lasting (literal_offsets x.names.literals inner) b
-        (literals_held x.names.literals inner b h) in
+    lasting_held x.item.lasting (literal_offsets x.names.literals inner) b
+    (literals_held x.names.literals inner b h) in
     both_in whole (declared_needs ws x) (and_needs (function_needs found x.function) (all_needs ws found xs))
     (declared_in ws x inner)
     (both_in whole (function_needs found x.function) (all_needs ws found xs)

@@ -1,15 +1,10 @@
 -- The places of what lives throughout the run: lists of offsets in ascending order, and how many stand before one.
-use Rattle.std.proofs.Common.{◌≡◌, ◌≤◌, ◌<◌, ◌⊎◌, inl, inr, ℕ, zero, suc, ◌+◌, Bool, true, false, cond, List, [], ◌∷◌, ◌++◌}
-use Rattle.std.proofs.Common.{Option, Some, None, refl, sym, subst, arith, length, map}
+use Rattle.std.proofs.Common.{◌≡◌, ◌≤◌, ◌<◌, ◌⊎◌, inl, inr, ℕ, suc, ◌+◌, Bool, true, false, cond, List, [], ◌∷◌}
+use Rattle.std.proofs.Common.{refl, sym, subst, arith, length, map}
 use Rattle.std.specs.Prelude.{nat_lt, nat_eq}
-use Rattle.c_says.specs.declared.scope.Linked.{Linked}
-use Rattle.c_runs.specs.Items.{Lasting}
-use Rattle.c_runs.specs.Names.{Literal}
-use Rattle.c_runs.specs.Programs.{Function, Outer, Program, Text}
-use Rattle.c_runs.specs.Runs.{with_offset, linked_offsets, lasting_offsets, literal_offsets, function_offsets, outer_offsets}
-use Rattle.c_runs.specs.Runs.{offsets_of, place_in}
-use Rattle.c_places.specs.Places.{once, times}
-use Rattle.c_places.proofs.Counts.{Rises}
+use Rattle.c_runs.specs.Runs.{with_offset}
+use Rattle.c_runs.specs.Runs.{place_in}
+use Rattle.c_places.specs.Places.{times}
 use Rattle.c_places.proofs.Calls.{Counts}
 
 -- ---- ascending lists
@@ -129,20 +124,30 @@ pub last_place : (xs : List ℕ) (at : ℕ) → Ascends xs → Has at xs → pla
 last_place [] at h has = absurd has
 last_place (x ∷ xs) at h (inl e) = omega (arith, first_is x at (place_in xs at) e)
 last_place (x ∷ xs) at h (inr has) =
-    omega (arith, later_is x at (place_in xs at) (above_has x at xs h has),
-    last_place xs at (ascends x xs h) has)
+    omega (
+      arith,
+      later_is x at (place_in xs at) (above_has x at xs h has),
+      last_place xs at (ascends x xs h) has,
+    )
 
 -- a later offset has a later place
 pub place_rises : (xs : List ℕ) (a b : ℕ) → Ascends xs → Has a xs → a < b → suc (place_in xs a) ≤ place_in xs b
 place_rises [] a b h has less = absurd has
 place_rises (x ∷ xs) a b h (inl e) less =
-    omega (arith, first_is x a (place_in xs a) e, later_is x b (place_in xs b) (omega (arith, e, less)),
-    first_place xs b)
+    omega (
+      arith,
+      first_is x a (place_in xs a) e,
+      later_is x b (place_in xs b) (omega (arith, e, less)),
+      first_place xs b,
+    )
 place_rises (x ∷ xs) a b h (inr has) less =
     let first = above_has x a xs h has in
-    omega (arith, later_is x a (place_in xs a) first,
-    later_is x b (place_in xs b) (omega (arith, first, less)),
-    place_rises xs a b (ascends x xs h) has less)
+    omega (
+      arith,
+      later_is x a (place_in xs a) first,
+      later_is x b (place_in xs b) (omega (arith, first, less)),
+      place_rises xs a b (ascends x xs h) has less,
+    )
 
 -- ---- the places of ascending offsets are met once each
 
@@ -156,12 +161,20 @@ behind_one : (w : ℕ → ℕ) (p : ℕ) → Counts w p → (xs : List ℕ) → 
 behind_one w p c xs h b [] hb above all =
     omega (arith, c.rises.more (suc (place_in xs b)) (suc (length xs)) (omega (arith, last_place xs b h hb)))
 behind_one w p c xs h b (at ∷ ats) hb above all =
-    omega (arith, behind_one w p c xs h at ats all.0 above.1 all.1,
-    c.rises.more (suc (place_in xs b)) (place_in xs at) (place_rises xs b at h hb above.0), c.step (place_in xs at))
+    omega (
+      arith,
+      behind_one w p c xs h at ats all.0 above.1 all.1,
+      c.rises.more (suc (place_in xs b)) (place_in xs at) (place_rises xs b at h hb above.0),
+      c.step (place_in xs at),
+    )
 
 pub places_once : (w : ℕ → ℕ) (p : ℕ) → Counts w p → (xs ats : List ℕ) → Ascends xs → Ascends ats → AllIn xs ats →
     times p (map (place_in xs) ats) + w 1 ≤ w (suc (length xs))
 places_once w p c xs [] h a all = omega (arith, c.rises.more 1 (suc (length xs)) (omega arith))
 places_once w p c xs (at ∷ ats) h a all =
-    omega (arith, behind_one w p c xs h at ats all.0 a all.1,
-    c.rises.more 1 (place_in xs at) (first_place xs at), c.step (place_in xs at))
+    omega (
+      arith,
+      behind_one w p c xs h at ats all.0 a all.1,
+      c.rises.more 1 (place_in xs at) (first_place xs at),
+      c.step (place_in xs at),
+    )

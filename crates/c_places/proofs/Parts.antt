@@ -1,10 +1,9 @@
 -- The forms of expressions: each meets no place but those from its base on, as many as its room, where its parts do so.
-use Rattle.std.proofs.Common.{◌≡◌, ◌≤◌, ℕ, zero, suc, ◌+◌, ℤ, pos, Bool, true, false, cond, List, [], ◌∷◌, ◌++◌, Ok, Err}
-use Rattle.std.proofs.Common.{refl, ap, ◌∙◌, arith, Option, Some, None, le_refl}
+use Rattle.std.proofs.Common.{◌≤◌, ℕ, ◌+◌, ℤ, pos, Bool, true, false, List, [], ◌∷◌, Ok}
+use Rattle.std.proofs.Common.{arith, Option, Some, None, le_refl}
 use Rattle.std.specs.Prelude.{not, unwrap_or}
 use Rattle.bit_words.specs.declared.run.Side.TheVariants as side
 use Rattle.bit_words.specs.declared.run.Happening.TheVariants as happening
-use Rattle.c_lexer.specs.declared.token.IntegerConstant.{IntegerConstant}
 use Rattle.c_tree.specs.declared.expr.BinaryOperator.{BinaryOperator}
 use Rattle.c_tree.specs.declared.expr.BinaryOperator.TheVariants as o
 use Rattle.c_tree.specs.declared.expr.PostfixOperator.{PostfixOperator}
@@ -16,30 +15,30 @@ use Rattle.c_type_terms.specs.declared.class.Class.TheVariants as class
 use Rattle.c_store.specs.Store.{Store}
 use Rattle.c_says.specs.declared.scope.Duration.{Duration}
 use Rattle.c_says.specs.declared.scope.Entry.{Entry}
-use Rattle.c_says.specs.declared.scope.Fault.{Fault}
 use Rattle.c_says.specs.declared.scope.Means.{Means}
 use Rattle.c_says.specs.declared.scope.Means.TheVariants as means
-use Rattle.c_says.specs.declared.shown.Shown.{Shown}
 use Rattle.c_says.specs.Scopes.{Name, Scope}
 use Rattle.c_says.specs.Typing.{Typed, NamedType, type_of}
 use Rattle.c_says.specs.Typing as says
-use Rattle.c_means.specs.Parts.{State, Outcome, Env, Run, Level, Site, Part, ◌>>=◌, note, returned, returned_in, resumed}
-use Rattle.c_means.specs.Operators.{Operand, operand, one, operated, operated_on, turned_value, negated, target_in, value_type}
+use Rattle.c_means.specs.Parts.{State, Outcome, Env, Run, Level, Site, Part, ◌>>=◌, note, returned, returned_in}
+use Rattle.c_means.specs.Operators.{Operand, operand, one, operated, operated_on, turned_value, negated, target_in}
+use Rattle.c_means.specs.Operators.{value_type}
 use Rattle.c_means.specs.Objects.{load, put}
 use Rattle.c_means.specs.Values.{address, class_in, converted_to}
 use Rattle.c_type_terms.specs.Integers.{is_zero, number_of}
 use Rattle.c_says.specs.declared.scope.Duration.TheVariants as duration
-use Rattle.c_means.specs.Expressions.{Needs, valued, placed, alone, over_one, over_both, over_three, on_value, part_of_value, both_run, subscript, member, member_by, is_lvalue}
+use Rattle.c_means.specs.Expressions.{Needs, valued, placed, alone, over_one, over_both, over_three, on_value}
+use Rattle.c_means.specs.Expressions.{part_of_value, both_run, subscript, member, member_by, is_lvalue}
 use Rattle.c_means.specs.Expressions.{offset_of, arrow, stepped, postfix, postfix_by, prefix, unary, size_of_expression}
 use Rattle.c_means.specs.Expressions.{size_of_type, cast, cast_as, cast_operand, on_branch, truth_of, and_then, or_else}
 use Rattle.c_means.specs.Expressions.{logical, both_evaluated, binary, chosen, choice_as, choice, simple, compound}
-use Rattle.c_means.specs.Expressions.{assignment, comma, Passed, passed, all_rooms, arguments, calling, needed, direct_call}
+use Rattle.c_means.specs.Expressions.{assignment, comma, Passed, passed, all_rooms, arguments, calling, needed}
+use Rattle.c_means.specs.Expressions.{direct_call}
 use Rattle.c_means.specs.Expressions.{call_of, call, constant, unmeant, made_for, string_literal, function_name}
 use Rattle.c_means.specs.Expressions.{identifier, named_as, object_of, site, designated, parameters_of}
 use Rattle.c_means.specs.declared.kind.Kind.{Kind}
 use Rattle.c_means.specs.declared.kind.Kind.TheVariants as kind
 use Rattle.c_type_terms.specs.declared.ctype.CType.{CType}
-use Rattle.c_places.specs.Places.{times}
 use Rattle.c_places.proofs.Counts.{Rises, met, AddsTo, Quiet, bind, weaken, quiet, times-append}
 use Rattle.c_places.proofs.Values.{either, loads, puts, operates, operates_on, turns}
 
@@ -107,7 +106,7 @@ module _ (w : ℕ → ℕ) (p : ℕ) (l : Level) (c : Calling w p l) where
       K (placed t rooted n r)
   place_keeps t rooted n r h =
       let loading = behind (n.room l) (r l) (λ env base a. Rattle.c_means.specs.Objects.load t rooted a.0 a.1) h
-          (λ env base a. loads p t rooted a.0 a.1) in
+      (λ env base a. loads p t rooted a.0 a.1) in
       record { reach = h; run = loading; effect = loading }
 
   pub constant_keeps : (t : Typed) (z : ℤ) → K (constant t z)
@@ -156,8 +155,12 @@ module _ (w : ℕ → ℕ) (p : ℕ) (l : Level) (c : Calling w p l) where
   -- behind the places of another
   past : {A : Type 0} (r s : ℕ) (g : Run A) → Within w p s g → Within w p (r + s) (λ env base d. g env (base + r) d)
   past r s g h env base d = record {
-    holds = omega (arith, (h env (base + r) d).holds, up base (base + r) (omega arith),
-    up (base + r + s) (base + (r + s)) (omega arith));
+    holds = omega (
+      arith,
+      (h env (base + r) d).holds,
+      up base (base + r) (omega arith),
+      up (base + r + s) (base + (r + s)) (omega arith),
+    );
   }
 
   -- ---- operands
@@ -181,7 +184,8 @@ module _ (w : ℕ → ℕ) (p : ℕ) (l : Level) (c : Calling w p l) where
   pub member_keeps : (b : Bool) (offset : ℕ) (t : Typed) (x : Part) → K x → K (member_by b offset t x)
   member_keeps true offset t x hx =
       place_keeps t x.rooted (over_one x) _
-      (behind (x.room l) (x.reach l) (λ env base a. Ok (Rattle.c_means.specs.Expressions.behind offset a.0, a.1)) hx.reach
+      (behind (x.room l) (x.reach l) (λ env base a. Ok
+      (Rattle.c_means.specs.Expressions.behind offset a.0, a.1)) hx.reach
       (λ env base a i. quiet p i (Rattle.c_means.specs.Expressions.behind offset a.0) a.1))
   member_keeps false offset t x hx =
       value_keeps t (over_one x) _
@@ -292,8 +296,10 @@ module _ (w : ℕ → ℕ) (p : ℕ) (l : Level) (c : Calling w p l) where
       Within w p room (λ env base d. on_branch at z (f env base) d)
   branches at room f h z env base d =
       either p (w base) (w (base + room)) (met p d) (is_zero z)
-      (f env base false (note (happening.Branch at side.No) d)) (f env base true (note (happening.Branch at side.Yes) d))
-      (h false env base (note (happening.Branch at side.No) d)) (h true env base (note (happening.Branch at side.Yes) d))
+      (f env base false (note (happening.Branch at side.No) d)) (f env base true (note
+      (happening.Branch at side.Yes) d))
+      (h false env base (note (happening.Branch at side.No) d)) (h true env base (note
+      (happening.Branch at side.Yes) d))
 
   truth : (y : Part) → K y → Within w p (y.room l) (truth_of y l)
   truth y hy =
@@ -308,7 +314,8 @@ module _ (w : ℕ → ℕ) (p : ℕ) (l : Level) (c : Calling w p l) where
   or_else_within y hy true = still {A = ℤ} (y.room l) _ (λ env base d i. quiet p i (pos 1) d)
   or_else_within y hy false = truth y hy
 
-  pub logical_keeps : (at : ℕ) (op : BinaryOperator) (f : Part → Level → Env → ℕ → Bool → State → Outcome ℤ) (x y : Part) →
+  pub logical_keeps : (at : ℕ) (op : BinaryOperator) (f : Part → Level → Env → ℕ → Bool → State → Outcome ℤ)
+      (x y : Part) →
       K x → ((b : Bool) → Within w p (y.room l) (λ env base d. f y l env base b d)) → K (logical at op f x y)
   logical_keeps at op f x y hx hf =
       value_keeps (says.binary at op x.typed y.typed) (over_both x y) _

@@ -1,8 +1,6 @@
 -- Programs that are read off trees: their functions and declarations keep to their rooms.
-use Rattle.std.proofs.Common.{◌≡◌, ℕ, Bool, List, [], ◌∷◌, ◌++◌, Option, Some, None, refl}
+use Rattle.std.proofs.Common.{ℕ, List, [], ◌∷◌, ◌++◌, Option, Some, None}
 use Rattle.std.specs.Prelude.{map}
-use Rattle.c_tree.specs.declared.expr.Declarator.{Declarator}
-use Rattle.c_tree.specs.declared.expr.Specifier.{Specifier}
 use Rattle.c_tree.specs.declared.unit.Body.{Body}
 use Rattle.c_tree.specs.declared.unit.Body.TheVariants as body
 use Rattle.c_tree.specs.declared.unit.External.{External}
@@ -13,15 +11,15 @@ use Rattle.c_says.specs.Declarations.{FunctionSaid, function_by}
 use Rattle.c_runs.specs.Names.{Names, external_names}
 use Rattle.c_runs.specs.Notes.{declarator_noted, specifier_noted}
 use Rattle.c_runs.specs.Items.{Item, Code}
-use Rattle.c_runs.specs.Statements.{stmt}
-use Rattle.c_runs.specs.Programs.{Function, Outer, Program, body_context, body_item, function_from, function_outer}
-use Rattle.c_runs.specs.Programs.{with_function, code_in, unread_in, head_names, outer, in_order, program_of, function_if}
+use Rattle.c_runs.specs.Programs.{Function, Outer, body_context, body_item, function_from}
+use Rattle.c_runs.specs.Programs.{with_function, code_in, unread_in, head_names, outer, in_order, program_of}
+use Rattle.c_runs.specs.Programs.{function_if}
 use Rattle.c_runs.specs.Programs.{functions_in, functions_of}
-use Rattle.c_runs.specs.Prelude.{functions_from, externals}
+use Rattle.c_runs.specs.Prelude.{functions_from}
 use Rattle.c_places.proofs.Items.{ItemKeeps, CodeKeeps, nothing_keeps}
 use Rattle.c_places.proofs.Statements.{statement_keeps}
 use Rattle.c_places.proofs.Declarations.{declaration_keeps}
-use Rattle.c_places.proofs.Levels.{FunctionKeeps, EachFunction, MaybeFunction, MachineKeeps}
+use Rattle.c_places.proofs.Levels.{EachFunction, MaybeFunction}
 use Rattle.c_places.proofs.Needs.{OuterKeeps, EachOuter}
 
 abbrev MaybeCode : Option Code → Type 0

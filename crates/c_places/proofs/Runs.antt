@@ -1,31 +1,31 @@
 -- A whole run meets each of its places once at most.
-use Rattle.std.proofs.Common.{◌≡◌, ◌≤◌, ◌<◌, ℕ, zero, suc, ◌+◌, ◌-◌, ◌*◌, Bool, true, false, cond, List, [], ◌∷◌, ◌++◌}
-use Rattle.std.proofs.Common.{Option, Some, None, refl, sym, ap, ◌∙◌, subst, arith, length, map, le_refl}
-use Rattle.std.specs.Prelude.{nat_lt, nat_eq}
+use Rattle.std.proofs.Common.{◌≡◌, ◌≤◌, ℕ, zero, suc, ◌+◌, ◌-◌, ◌*◌, Bool, true, false, cond, List, [], ◌∷◌}
+use Rattle.std.proofs.Common.{Option, Some, None, refl, ◌∙◌, arith, map, le_refl}
 use Rattle.c_store.specs.Store.{initial, start, zero_range, write}
 use Rattle.c_store.specs.declared.object.ObjectKind.TheVariants as object
 use Rattle.c_says.specs.declared.scope.Entry.{Entry}
 use Rattle.c_says.specs.declared.scope.Linked.{Linked}
 use Rattle.c_says.specs.Scopes.{Name, linked_as, entry_in}
-use Rattle.c_means.specs.Parts.{State, Level, entered, meet}
-use Rattle.c_runs.specs.Items.{Lasting, running, Arrow}
+use Rattle.c_means.specs.Parts.{State, entered, meet}
+use Rattle.c_runs.specs.Items.{Lasting}
 use Rattle.c_runs.specs.Calls.{meets}
-use Rattle.c_runs.specs.Programs.{Function, Program, Text, Needs, needs_of, functions_of, function_named, functions_in}
-use Rattle.c_runs.specs.Programs.{Outer, function_if, main'}
-use Rattle.c_runs.specs.Runs.{Machine, bare, level_of, by_body, body_room, offsets_of, places_of, place_in, entry_place}
+use Rattle.c_runs.specs.Programs.{Function, Text, Needs, needs_of, functions_of}
+use Rattle.c_runs.specs.Programs.{main'}
+use Rattle.c_runs.specs.Runs.{Machine, bare, level_of, by_body, body_room, offsets_of, places_of, entry_place}
 use Rattle.c_runs.specs.Runs.{object_at, zeroed_if, makes_object, makes_objects, makes_link, makes_links, makes_text}
 use Rattle.c_runs.specs.Runs.{makes_texts, makes, sets, lasting_offsets, text_offsets, name_offsets, meets_offsets}
-use Rattle.c_runs.specs.Runs.{meets_needs, prepared, entry_room, argument_count, makes_strings, points_to, makes_arguments}
-use Rattle.c_runs.specs.Runs.{main_state, main_arguments, behind, called_main, main_run, main_of, end_of, met_of}
+use Rattle.c_runs.specs.Runs.{meets_needs, prepared, entry_room, argument_count, makes_strings, points_to}
+use Rattle.c_runs.specs.Runs.{makes_arguments}
+use Rattle.c_runs.specs.Runs.{main_state, main_arguments, called_main, main_run, main_of, met_of}
 use Rattle.c_runs.specs.Runs.{main_room, room_of, final_size}
-use Rattle.c_places.specs.Places.{once, times}
-use Rattle.c_places.proofs.Counts.{Rises, met, times-append}
+use Rattle.c_places.specs.Places.{times}
+use Rattle.c_places.proofs.Counts.{met, times-append}
 use Rattle.c_places.proofs.Parts.{Calling}
 use Rattle.c_places.proofs.Items.{LastingKeep, runs}
 use Rattle.c_places.proofs.Calls.{Counts, met_one, meets_within}
-use Rattle.c_places.proofs.Levels.{EachFunction, MaybeFunction, FunctionKeeps, MachineKeeps, named_keeps, body_within, level_of_keeps}
+use Rattle.c_places.proofs.Levels.{MaybeFunction, FunctionKeeps, MachineKeeps, named_keeps, body_within, level_of_keeps}
 use Rattle.c_places.proofs.Offsets.{places_once}
-use Rattle.c_places.proofs.Needs.{EachOuter, OuterKeeps, offsets_ascend, needs_in, texts_ordered, lasting_ordered}
+use Rattle.c_places.proofs.Needs.{EachOuter, offsets_ascend, needs_in, texts_ordered, lasting_ordered}
 use Rattle.c_places.proofs.Needs.{names_ordered, linked_of_program, needs_lasting}
 
 -- ---- what is made before `main` meets nothing more than its places
@@ -96,8 +96,11 @@ sets_met p m [] h d = le_refl _
 sets_met p m (x ∷ xs) h d =
     let l = bare m m.limits.turns in
     let d' = x.set l d in
-    omega (arith, h.0 p l (bare_calls p m m.limits.turns) d,
-    runs p 0 0 (sets m xs) d' (omega (arith, sets_met p m xs h.1 d')) (le_refl _))
+    omega (
+      arith,
+      h.0 p l (bare_calls p m m.limits.turns) d,
+      runs p 0 0 (sets m xs) d' (omega (arith, sets_met p m xs h.1 d')) (le_refl _),
+    )
 
 prepared_within : (w : ℕ → ℕ) (p : ℕ) → Counts w p → (m : Machine) → EachOuter m.program.outers → (d : State) →
     met p (prepared m d) + w 1 ≤ met p d + w (entry_place m.program)
@@ -109,13 +112,17 @@ prepared_within w p c m h d =
     let objects = lasting_offsets x.lasting texts in
     let ats = name_offsets m.program.scope x.links objects in
     let ordered = names_ordered xs m.program.scope x.links objects (linked_of_program m.program)
-        (lasting_ordered xs x.lasting texts kept.lasting (texts_ordered xs x.texts kept.texts)) in
+    (lasting_ordered xs x.lasting texts kept.lasting (texts_ordered xs x.texts kept.texts)) in
     let d1 = meets_needs m x d in
     let d2 = makes m x d1 in
-    omega (arith, offsets_met p m ats d,
-    places_once w p c xs ats (offsets_ascend m.program) ordered.ascends ordered.inside, makes_met p m x d1,
-    runs p 0 0 (sets m x.lasting) d2
-    (omega (arith, sets_met p m x.lasting (needs_lasting m.profile m.program h) d2)) (le_refl _))
+    omega (
+      arith,
+      offsets_met p m ats d,
+      places_once w p c xs ats (offsets_ascend m.program) ordered.ascends ordered.inside,
+      makes_met p m x d1,
+      runs p 0 0 (sets m x.lasting) d2
+          (omega (arith, sets_met p m x.lasting (needs_lasting m.profile m.program h) d2)) (le_refl _),
+    )
 
 -- ---- `main`
 
@@ -160,10 +167,14 @@ main_within w p c m hm f hf d =
     let first = q + entry_room m f.parameters in
     let room = body_room f l in
     let r = by_body l f (main_arguments m f.parameters q) first e.store e.count in
-    omega (arith, times-append p e.met r.met, state_within w p c m f.parameters q d,
-    body_within w p l (level_of_keeps w p c m hm (m.depth - 1) f m.limits.turns) f hf
-    (main_arguments m f.parameters q) first e.store e.count,
-    c.rises.more (first + room) (q + (entry_room m f.parameters + room)) (omega arith))
+    omega (
+      arith,
+      times-append p e.met r.met,
+      state_within w p c m f.parameters q d,
+      body_within w p l (level_of_keeps w p c m hm (m.depth - 1) f m.limits.turns) f hf
+          (main_arguments m f.parameters q) first e.store e.count,
+      c.rises.more (first + room) (q + (entry_room m f.parameters + room)) (omega arith),
+    )
 
 run_within : (w : ℕ → ℕ) (p : ℕ) → Counts w p → (m : Machine) → MachineKeeps m → (f : Option Function) →
     MaybeFunction f → (d : State) →
@@ -184,6 +195,9 @@ whole_within w p c m h hm =
     let first = entered (initial m.world.byte) 0 in
     let d = prepared m first in
     let f = main_of m in
-    omega (arith, prepared_within w p c m h first,
-    run_within w p c m hm f (named_keeps (functions_of m.program) main' hm.functions) d,
-    c.rises.more (entry_place m.program + main_room m f) (suc (room_of m)) (omega arith))
+    omega (
+      arith,
+      prepared_within w p c m h first,
+      run_within w p c m hm f (named_keeps (functions_of m.program) main' hm.functions) d,
+      c.rises.more (entry_place m.program + main_room m f) (suc (room_of m)) (omega arith),
+    )

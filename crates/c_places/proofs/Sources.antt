@@ -1,5 +1,5 @@
 -- The run of every source meets no place twice, and none but those of its room.
-use Rattle.std.proofs.Common.{◌≡◌, ◌≤◌, ◌<◌, ℕ, zero, suc, ◌+◌, Bool, true, false, cond, List, [], ◌∷◌, refl, arith, le_refl}
+use Rattle.std.proofs.Common.{◌≡◌, ◌≤◌, ◌<◌, ℕ, suc, ◌+◌, Bool, true, false, cond, List, [], ◌∷◌, refl, arith, le_refl}
 use Rattle.std.specs.Prelude.{nat_lt, nat_eq}
 use Rattle.bit_words.specs.declared.bounds.Bounds.{Bounds}
 use Rattle.bit_words.specs.Worlds.{WorldTables}
@@ -9,7 +9,6 @@ use Rattle.c_runs.specs.Prelude.{externals}
 use Rattle.c_runs.specs.Runs.{Machine, met_of, room_of}
 use Rattle.c_runs.specs.Units.{machine_in, source_met}
 use Rattle.c_places.specs.Places.{once, times, AreDistinct, AreWithin, MeetsItsPlacesOnce}
-use Rattle.c_places.proofs.Counts.{Rises}
 use Rattle.c_places.proofs.Calls.{Counts}
 use Rattle.c_places.proofs.Levels.{MachineKeeps}
 use Rattle.c_places.proofs.Needs.{EachOuter}
@@ -85,7 +84,7 @@ within_by : (places : List ℕ) (room : ℕ) →
 within_by [] room h = tt
 within_by (p ∷ ps) room h =
     let b = between p room (times p ps) (nat_lt p 1) (nat_lt p (suc room)) refl refl
-        (omega (arith, h p, itself p)) in
+    (omega (arith, h p, itself p)) in
     (b.0, b.1, within_by ps room (λ q. omega (arith, h q)))
 
 -- ---- machines and sources

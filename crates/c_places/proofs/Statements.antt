@@ -3,7 +3,6 @@ use Rattle.std.proofs.Common.{◌≡◌, ◌≤◌, ℕ, zero, suc, ◌+◌, ◌
 use Rattle.std.proofs.Common.{refl, sym, ap, subst, ◌∙◌, arith, le_refl, suc-mul, one-mul}
 use Rattle.std.specs.Prelude.{map, option_map}
 use Rattle.c_tree.specs.declared.expr.Expr.{Expr}
-use Rattle.c_tree.specs.declared.unit.Declaration.{Declaration}
 use Rattle.c_tree.specs.declared.unit.ForStart.{ForStart}
 use Rattle.c_tree.specs.declared.unit.ForStart.TheVariants as start_
 use Rattle.c_tree.specs.declared.unit.Stmt.{Stmt}
@@ -18,22 +17,22 @@ use Rattle.c_means.specs.Values.{class_in, converted_to}
 use Rattle.c_means.specs.Expressions.{on_branch}
 use Rattle.c_runs.specs.declared.breach.Breach.{Breach}
 use Rattle.c_runs.specs.Notes.{Noted, ExprNoted, noted}
-use Rattle.c_runs.specs.Items.{Item, Code, Context, Label, Arrow, Acts, Lasting, typing, breach_if, running, become, arrive}
-use Rattle.c_runs.specs.Items.{with_value, nothing, followed, with_breaches, node, guarded, closed, without_cases}
+use Rattle.c_runs.specs.Items.{Item, Code, Context, Label, Arrow, Acts, running, become, arrive}
+use Rattle.c_runs.specs.Items.{with_value, nothing, followed, node, guarded, closed}
 use Rattle.c_runs.specs.Items.{in_scope, opened, block_of, unchosen, sub, in_turn, labels_of, past_break, past_continue}
 use Rattle.c_runs.specs.Items.{past_switch, at_label, at_case, at_default}
 use Rattle.c_runs.specs.Statements.{plain, value_of, maybe_value, tested, acting, one_of, if_runs, if_item, maybe_sub}
 use Rattle.c_runs.specs.Statements.{switch_runs, switch_item, switch_kind, choose, chosen, Test, test_of, always}
-use Rattle.c_runs.specs.Statements.{maybe_test, turn_room, turns_from, left_at, each_turn, looped, rounds_from, repeated}
+use Rattle.c_runs.specs.Statements.{maybe_test, turn_room, turns_from, left_at, each_turn, looped, rounds_from}
+use Rattle.c_runs.specs.Statements.{repeated}
 use Rattle.c_runs.specs.Statements.{left_scope, while_from, in_loop, do_from, for_turns, for_from, jump, returns}
 use Rattle.c_runs.specs.Statements.{return_of, code, compound, arrived, labeled, case_of, case_value, case_labeled}
 use Rattle.c_runs.specs.Statements.{default_labeled, stmt, begun_by, switch_context}
 use Rattle.c_says.specs.Typing.{constant_of}
 use Rattle.c_runs.proofs.Equations as eqs
 use Rattle.c_places.proofs.Counts.{met}
-use Rattle.c_places.proofs.Parts.{Keeps}
 use Rattle.c_places.proofs.Expressions.{noted_keeps}
-use Rattle.c_places.proofs.Items.{Counting, ItemKeeps, CodeKeeps, EachCode, LastingKeep, ActsWithin, Adds, made, runs}
+use Rattle.c_places.proofs.Items.{Counting, ItemKeeps, CodeKeeps, EachCode, LastingKeep, ActsWithin, Adds, runs}
 use Rattle.c_places.proofs.Items.{with_value_adds, on_branch_adds, nothing_keeps, followed_keeps, closed_keeps}
 use Rattle.c_places.proofs.Items.{guarded_keeps, breaches_keep, node_keeps, without_cases_keep, block_keeps, sub_keeps}
 use Rattle.c_places.proofs.Items.{in_turn_keeps}
@@ -58,8 +57,10 @@ plain_keeps : (x : Noted) (s : Scope) (bs : List Breach) (run : Acts) → ActsWi
 plain_keeps x s bs run h = record {
   acts = λ w p l c env base d.
       let up = c.calls.rises.more base (base + x.part.room l) (omega arith) in
-      omega (arith,
-      runs p (w base) (w (base + x.part.room l)) (run l env base) d (h w p l c env base d) up);
+      omega (
+        arith,
+        runs p (w base) (w (base + x.part.room l)) (run l env base) d (h w p l c env base d) up,
+      );
   lasting = tt;
 }
 
@@ -130,7 +131,7 @@ if_keeps : (at : ℕ) (x : Noted) (first second : Item) → NotedKeeps x → Ite
 if_keeps at x first second hx hf hs =
     let all = followed_keeps (tested x) (followed first second) (tested_keeps x) (followed_keeps first second hf hs) in
     let h = acting_keeps (if_runs at x first second) (followed (tested x) (followed first second)) all.lasting
-        (if_within at x first second hx hf hs) in
+    (if_within at x first second hx hf hs) in
     record { acts = h.acts; lasting = h.lasting }
 
 abbrev MaybeCode : Option Code → Type 0
@@ -151,15 +152,18 @@ switch_within at x body hx hb w p l c env base d =
     arrive past_switch (body.run l env middle (choose at (chosen body.cases z) z d)))
     ((hx w p l c.calls).run env base d)
     (λ v d. let z = converted (switch_kind x) v in
-    omega (arith, alone body hb w p l c env middle (choose at (chosen body.cases z) z d),
-    c.calls.rises.more (middle + body.room l) end (omega arith)))
+    omega (
+      arith,
+      alone body hb w p l c env middle (choose at (chosen body.cases z) z d),
+      c.calls.rises.more (middle + body.room l) end (omega arith),
+    ))
     (c.calls.rises.more middle end (omega arith))
 
 switch_keeps : (at : ℕ) (x : Noted) (body : Item) → NotedKeeps x → ItemKeeps body → ItemKeeps (switch_item at x body)
 switch_keeps at x body hx hb =
     let all = followed_keeps (tested x) body (tested_keeps x) hb in
     let h = acting_keeps (switch_runs at x body) (followed (tested x) body) all.lasting
-        (switch_within at x body hx hb) in
+    (switch_within at x body hx hb) in
     record { acts = h.acts; lasting = h.lasting }
 
 -- ---- iteration
@@ -234,7 +238,7 @@ turns_within at test body step ht hb hs w p l c env (suc n) base =
     let u6 = c.calls.rises.more b2 (b2 + step.room l) (omega arith) in
     let one = runs p (w b3) (w (b3 + all)) turns d2 rest u2 in
     let two = runs p (w b2) (w end) steps d1 (omega (arith, one, alone step hs w p l c env b2 d1, u3, u4))
-        (omega (arith, u2, u3, u4, u6)) in
+    (omega (arith, u2, u3, u4, u6)) in
     omega (arith, two, alone body hb w p l c env b1 d, u5)))
   where
     sides : (i j : ℕ) (steps : Arrow) → i ≤ j →
@@ -273,10 +277,13 @@ rounds_within at body test hb ht w p l c env (suc n) base d =
     let u4 = c.calls.rises.more b1 (b1 + test.item.room l) (omega arith) in
     let go : Bool → Arrow = λ b. one_of b turns (λ d. d) in
     let step = ht.leads w p l c env b1 (w end) go u1
-        (sides (w (b1 + test.item.room l)) (w b2) (w end) turns u1 u2
-        (λ d. omega (arith, rounds_within at body test hb ht w p l c env n b2 d, u3))) in
-    omega (arith, alone body hb w p l c env base d,
-    runs p (w b1) (w end) (test.run l env b1 go) d1 (step d1) (omega (arith, u1, u4)))
+    (sides (w (b1 + test.item.room l)) (w b2) (w end) turns u1 u2
+    (λ d. omega (arith, rounds_within at body test hb ht w p l c env n b2 d, u3))) in
+    omega (
+      arith,
+      alone body hb w p l c env base d,
+      runs p (w b1) (w end) (test.run l env b1 go) d1 (step d1) (omega (arith, u1, u4)),
+    )
   where
     sides : (i m j : ℕ) (turns : Arrow) → i ≤ j → i ≤ m → ((d : State) → met p (turns d) + m ≤ met p d + j) →
         (b : Bool) → Adds p i j (one_of b turns (λ d. d))
@@ -396,7 +403,7 @@ case_keeps at value body h = record { here = kept; content = kept }
     kept c =
         let x = value c.scope in
         let inside = case_of_keeps at (case_value c.chooses (constant_of x.part.typed))
-            (body.here (in_scope x.part.typed.after c)) (h.here (in_scope x.part.typed.after c)) in
+        (body.here (in_scope x.part.typed.after c)) (h.here (in_scope x.part.typed.after c)) in
         record { acts = inside.acts; lasting = inside.lasting }
 
 default_keeps : (at : ℕ) (body : Code) → CodeKeeps body → CodeKeeps (default_labeled at body)

@@ -1,5 +1,5 @@
 -- Reading, writing and reckoning meet no place.
-use Rattle.std.proofs.Common.{◌≤◌, ℕ, suc, ◌+◌, ℤ, pos, negsuc, ◌+ℤ◌, ◌*ℤ◌, neg_ℤ, Bool, true, false, cond, Option, Some, None}
+use Rattle.std.proofs.Common.{ℕ, ℤ, pos, negsuc, ◌+ℤ◌, ◌*ℤ◌, neg_ℤ, Bool, true, false, cond, Option, Some, None}
 use Rattle.std.proofs.Common.{Ok, Err, le_refl}
 use Rattle.std.specs.Prelude.{◌-ℤ◌, not, ◌||◌, nat_lt, nat_le, nat_eq}
 use Rattle.bit_words.specs.declared.run.Undefined.TheVariants.{Dereference, LiteralWrite, PointerRange, PointerOrder}
@@ -9,16 +9,16 @@ use Rattle.c_store.specs.Access.{can_access, can_write, in_one_object}
 use Rattle.c_tree.specs.declared.expr.BinaryOperator.{BinaryOperator}
 use Rattle.c_tree.specs.declared.expr.BinaryOperator.TheVariants as o
 use Rattle.c_tree.specs.declared.expr.UnaryOperator.{UnaryOperator}
-use Rattle.c_type_terms.specs.declared.class.Class.{Class}
 use Rattle.c_type_terms.specs.declared.ctype.IntegerKind.{IntegerKind}
 use Rattle.c_type_terms.specs.declared.tables.Tables.{Tables}
 use Rattle.c_type_terms.specs.Operators.{Answer}
 use Rattle.c_says.specs.Typing.{Typed, type_of, worked, turned}
-use Rattle.c_means.specs.Parts.{State, Outcome, stop, refused, or_stop, with_store}
+use Rattle.c_means.specs.Parts.{State, Outcome, stop, or_stop, with_store}
 use Rattle.c_means.specs.Values.{address, class_in, bytes_of, converted_to, bytes_of_value}
-use Rattle.c_means.specs.Objects.{load, put, put_as, is_read, value_at}
-use Rattle.c_means.specs.Operators.{Operand, operand, on_integers, arithmetic, shift, addition_of, subtraction_of, relation, equality}
-use Rattle.c_means.specs.Operators.{are_integers, operated, operated_on, turned_of, turned_value, negated}
+use Rattle.c_means.specs.Objects.{load, put, is_read, value_at}
+use Rattle.c_means.specs.Operators.{Operand, operand, on_integers, arithmetic, shift, addition_of, subtraction_of}
+use Rattle.c_means.specs.Operators.{relation, equality}
+use Rattle.c_means.specs.Operators.{are_integers, operated, operated_on, turned_of, turned_value}
 use Rattle.c_means.specs.Pointers.{moved_to, moved, ordered, apart, elements_in}
 use Rattle.c_places.proofs.Counts.{met, AddsTo, Quiet}
 
@@ -40,11 +40,12 @@ puts p at tables x rooted a z d i =
     let c = class_in (type_of x) in
     let n = bytes_of tables (type_of x) in
     let stored : Outcome ℤ =
-        Ok (converted_to c z, with_store (write n a (bytes_of_value c (converted_to c z)) d.store) d) in
+    Ok (converted_to c z, with_store (write n a (bytes_of_value c (converted_to c z)) d.store) d) in
     let access : Bool = rooted || can_access d.store a n in
     let writes : Bool = rooted || can_write d.store a n in
     either p i i (met p d) access (cond writes stored (stop at LiteralWrite d)) (stop x.at Dereference d)
-    (either p i i (met p d) writes stored (stop at LiteralWrite d) (record { holds = le_refl _ }) (record { holds = le_refl _ })) (record { holds = le_refl _ })
+    (either p i i (met p d) writes stored (stop at LiteralWrite d) (record { holds = le_refl _ })
+    (record { holds = le_refl _ })) (record { holds = le_refl _ })
 
 answered : (p at : ℕ) (x : Answer) (d : State) → Quiet p d (or_stop at x d)
 answered p at (Ok z) d i = record { holds = le_refl _ }
@@ -67,7 +68,8 @@ shifts p at op x y d i =
 moves_to : (p at from : ℕ) (z : ℤ) (d : State) → Quiet p d (moved_to at from z d)
 moves_to p at from (negsuc n) d i = record { holds = le_refl _ }
 moves_to p at from (pos to) d i =
-    either p i i (met p d) (in_one_object d.store from to) (Ok (pos to, d)) (stop at PointerRange d) (record { holds = le_refl _ })
+    either p i i (met p d) (in_one_object d.store from to) (Ok (pos to, d)) (stop at PointerRange d)
+    (record { holds = le_refl _ })
     (record { holds = le_refl _ })
 
 moves : (p at size : ℕ) (z : ℤ) (a : ℕ) (d : State) → Quiet p d (moved at size z a d)
@@ -107,7 +109,8 @@ equals : (p at : ℕ) (op : BinaryOperator) (same : ℕ → ℕ → Bool) (x y :
     Quiet p d (equality at op same x y d)
 equals p at op same x y d i =
     either p i i (met p d) (are_integers x.kind y.kind) (arithmetic at op x y d)
-    (Ok (number_of (same (address x.value) (address y.value)), d)) (reckons p at op x y d i) (record { holds = le_refl _ })
+    (Ok (number_of (same (address x.value) (address y.value)), d)) (reckons p at op x y d i)
+    (record { holds = le_refl _ })
 
 pub operates : (p at : ℕ) (op : BinaryOperator) (x y : Operand) (d : State) → Quiet p d (operated at op x y d)
 operates p at o.Multiply x y d i = reckons p at o.Multiply x y d i

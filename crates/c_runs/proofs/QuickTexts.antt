@@ -61,7 +61,8 @@ enough b (suc turns) (suc m) two h =
     below : suc m / b < b ^ turns
     below = div_below (suc m) b (b ^ turns) (omega arith) (omega (arith, h, pow-suc b turns))
 
-same_by : (c : Bool) (radix : Radix) (n : ℕ) → nat_lt n (2 ^ 64) ≡ c → digits_by c (base radix) n ≡ digits_of (base radix) n
+same_by : (c : Bool) (radix : Radix) (n : ℕ) → nat_lt n (2 ^ 64) ≡ c → digits_by c (base radix) n ≡ digits_of
+    (base radix) n
 same_by true radix n e = enough (base radix) 22 n (omega (arith, base_least radix)) (below radix)
   where
     below : (radix : Radix) → n < base radix ^ 22

@@ -1,0 +1,16 @@
+//! The law, as the contract of a function.
+ghost use Rattle.std.specs.Prelude.{List};
+ghost use Rattle.bit_words.specs.declared.bounds.Bounds.{Bounds};
+ghost use Rattle.bit_words.specs.Worlds.{WorldTables};
+ghost use Rattle.c_tree.specs.declared.unit.External.{External};
+ghost use Rattle.c_runs.specs.declared.profile.Profile.{Profile};
+ghost use Rattle.c_places.specs.Places.{MeetsItsPlacesOnce};
+
+/// Does nothing. What it promises is the law: whatever the source is, in every world and for all bounds, its run meets
+/// each place once at most, and none but those of its room.
+#[tactic(auto, using(crate::proofs::Sources::meets_its_places_once))]
+pub fn places_are_met_once()
+    ensures once { (xs : List External) (profile : Profile) (w : WorldTables) (b : Bounds) →
+        MeetsItsPlacesOnce xs profile w b }
+{
+}
