@@ -2,6 +2,7 @@ pub mod Counts
 pub mod Values
 pub mod Parts
 pub mod Expressions
+pub mod Blind
 pub mod Items
 pub mod Initials
 pub mod Declarations
