@@ -1,5 +1,5 @@
 -- Declarations in blocks: objects have the places of their declarations.
-use Rattle.std.proofs.Common.{◌≡◌, ℕ, suc, ◌+◌, Bool, true, false, List, [], ◌∷◌, Option, Some, None, refl, arith}
+use Rattle.std.proofs.Common.{◌≡◌, ℕ, suc, ◌+◌, Bool, true, false, cond, List, [], ◌∷◌, Option, Some, None, refl, arith}
 use Rattle.std.specs.Prelude.{map, option_map}
 use Rattle.c_tree.specs.declared.unit.Declaration.{Declaration}
 use Rattle.c_tree.specs.declared.unit.InitDeclarator.{InitDeclarator}
@@ -22,6 +22,8 @@ use Rattle.c_runs.specs.Statements.{Declaring, zeroed_if, automatic, no_env, las
 use Rattle.c_runs.specs.Statements.{declared_entry, type_in_entry, declared_item, defines, name_offset, declares_formed}
 use Rattle.c_runs.specs.Statements.{declares_all, is_alone, declaring, declaration}
 use Rattle.c_places.proofs.Counts.{met}
+use Rattle.c_means.specs.Parts.{Level}
+use Rattle.c_places.proofs.Blind.{still}
 use Rattle.c_places.proofs.Items.{ItemKeeps, nothing_keeps, followed_keeps, breaches_keep, runs}
 use Rattle.c_places.proofs.Initials.{InitialKeeps, MaybeElements, initial_keeps, initially_keeps}
 
@@ -47,6 +49,8 @@ automatic_keeps e n x s h = record {
         c.calls.rises.more end (base + (1 + x.room l)) (omega arith),
       );
   lasting = tt;
+  size = λ l. omega (arith, h.size l);
+  room = λ l. omega (arith, h.room l);
 }
 
 lasting_keeps : (at : ℕ) (e : Entry) (n : ℕ) (k : Linkage) (defined : Bool) (x : Initial) (s : Scope) →
@@ -54,7 +58,13 @@ lasting_keeps : (at : ℕ) (e : Entry) (n : ℕ) (k : Linkage) (defined : Bool) 
 lasting_keeps at e n k defined x s h = record {
   acts = (nothing_keeps s).acts;
   lasting = ((λ p l c d. omega (arith, h.acts (λ q. 0) p l c (start (l.static e.at)) no_env 0 d)), tt);
+  size = counted defined;
+  room = λ l. refl;
 }
+  where
+    counted : (b : Bool) (l : Level) → cond b (1 + x.size l) 0 ≡ cond b (1 + x.size (still l)) 0
+    counted true l = omega (arith, h.size l)
+    counted false l = refl
 
 means_keep : (at : ℕ) (e : Entry) (m : Means) (defined : Bool) (x : Initial) (s : Scope) → InitialKeeps x →
     ItemKeeps (declared_means at e m defined x s)
@@ -62,7 +72,8 @@ means_keep at e (means.Object t duration.Automatic k) defined x s h =
     automatic_keeps e (bytes_of s.tables (Some t)) x s h
 means_keep at e (means.Object t duration.Static k) defined x s h =
     lasting_keeps at e (bytes_of s.tables (Some t)) k defined x s h
-means_keep at e (means.Function t k) defined x s h = record { acts = (nothing_keeps s).acts; lasting = tt }
+means_keep at e (means.Function t k) defined x s h =
+    record { acts = (nothing_keeps s).acts; lasting = tt; size = λ l. refl; room = λ l. refl }
 means_keep at e (means.Typedef t) defined x s h = nothing_keeps s
 means_keep at e (means.Constant z) defined x s h = nothing_keeps s
 means_keep at e means.Faulty defined x s h = nothing_keeps s

@@ -16,14 +16,23 @@ use Rattle.c_runs.specs.Initials.{indices, all_elements, evaluated, sets, sets_a
 use Rattle.c_runs.specs.Initials.{initialising_if}
 use Rattle.c_runs.proofs.Equations as eqs
 use Rattle.c_places.proofs.Counts.{met}
+use Rattle.c_runs.specs.Notes.{noted}
+use Rattle.std.proofs.Common.{◌≡◌, refl}
 use Rattle.c_places.proofs.Parts.{Calling, Keeps}
+use Rattle.c_tree.specs.declared.expr.Expr.{Expr}
+use Rattle.c_runs.specs.Initials.{all_sizes}
 use Rattle.c_places.proofs.Expressions.{noted_keeps}
+use Rattle.c_places.proofs.Blind.{still, Blind, noted_blind}
 use Rattle.c_places.proofs.Items.{runs, with_value_adds}
 
 -- ---- expressions
 
-abbrev pub NotedKeeps : Noted → Type 0
-NotedKeeps x = (w : ℕ → ℕ) (p : ℕ) (l : Level) → Calling w p l → Keeps w p l x.part
+pub record NotedKeeps (x : Noted) : Type 0 where
+  pub keeps : (w : ℕ → ℕ) (p : ℕ) (l : Level) → Calling w p l → Keeps w p l x.part
+  pub blind : Blind x.part
+
+pub noted_is_kept : (e : Expr) (s : Scope) → NotedKeeps (noted e s)
+noted_is_kept e s = record { keeps = λ w p l c. noted_keeps w p l c e s; blind = noted_blind e s }
 
 abbrev pub ExprKeeps : ExprNoted → Type 0
 ExprKeeps f = (s : Scope) → NotedKeeps (f s)
@@ -71,7 +80,7 @@ each_item (x ∷ xs) h =
 steps : InitialSteps Keeping
 steps = record {
   on_value = λ e. subst (λ y. EachElement y.elements) (sym (eqs.initially-Value e))
-      ((λ s w p l c. noted_keeps w p l c e s), tt);
+      (noted_is_kept e, tt);
   on_list = λ at xs trailing h. subst (λ y. EachElement y.elements) (sym (eqs.initially-List at xs trailing))
       (each_item xs h);
 }
@@ -82,6 +91,8 @@ initially_keeps x = of_initializer Keeping steps x
 -- ---- what they do
 
 pub record InitialKeeps (x : Initial) : Type 0 where
+  pub size : (l : Level) → x.size l ≡ x.size (still l)
+  pub room : (l : Level) → x.room l ≡ x.room (still l)
   pub acts : (w : ℕ → ℕ) (p : ℕ) (l : Level) → Calling w p l → (a : ℕ) (env : Env) (base : ℕ) (d : State) →
       met p (x.run a l env base d) + w base ≤ met p d + w (base + x.room l)
 
@@ -98,7 +109,7 @@ sets_keep w p l c q x h a env base d = by_text (is_text_of q.type x.part.typed)
     by_text false =
         with_value_adds p (w base) (w (base + x.part.room l)) (w (base + x.part.room l)) (met p d)
         (x.part.run l env base d) (stores x.part.typed.after.tables q.type (a + q.offset))
-        ((h w p l c).run env base d) (λ v d'. le_refl _) (le_refl _)
+        ((h.keeps w p l c).run env base d) (λ v d'. le_refl _) (le_refl _)
 
 sets_all_keep : (w : ℕ → ℕ) (p : ℕ) (l : Level) → Calling w p l → (qs : List Part) (xs : List Noted) → EachNoted xs →
     (a : ℕ) (env : Env) (base : ℕ) (d : State) →
@@ -117,6 +128,14 @@ sets_all_keep w p l c (q ∷ qs) (x ∷ xs) h a env base d =
       c.rises.more (next + all_rooms xs l) (base + (x.part.room l + all_rooms xs l)) (omega arith),
     )
 
+sizes_blind : (xs : List Noted) → EachNoted xs → (l : Level) → all_sizes xs l ≡ all_sizes xs (still l)
+sizes_blind [] h l = refl
+sizes_blind (x ∷ xs) h l = omega (arith, h.0.blind.size l, sizes_blind xs h.1 l)
+
+rooms_blind : (xs : List Noted) → EachNoted xs → (l : Level) → all_rooms xs l ≡ all_rooms xs (still l)
+rooms_blind [] h l = refl
+rooms_blind (x ∷ xs) h l = omega (arith, h.0.blind.room l, rooms_blind xs h.1 l)
+
 abbrev pub MaybeElements : Option Initially → Type 0
 MaybeElements None = Unit {0}
 MaybeElements (Some x) = EachElement x.elements
@@ -124,10 +143,20 @@ MaybeElements (Some x) = EachElement x.elements
 pub initial_keeps : (x : Option Initially) (t : Option CType) (s : Scope) → MaybeElements x →
     InitialKeeps (initialising_if x t s)
 initial_keeps None t s h =
-    record { acts = λ w p l c a env base d. omega (arith, c.rises.more base (base + 0) (omega arith)) }
+    record {
+      size = λ l. refl;
+      room = λ l. refl;
+      acts = λ w p l c a env base d. omega (arith, c.rises.more base (base + 0) (omega arith));
+    }
 initial_keeps (Some x) None s h =
-    record { acts = λ w p l c a env base d. omega (arith, c.rises.more base (base + 0) (omega arith)) }
+    record {
+      size = λ l. refl;
+      room = λ l. refl;
+      acts = λ w p l c a env base d. omega (arith, c.rises.more base (base + 0) (omega arith));
+    }
 initial_keeps (Some x) (Some t) s h = record {
+  size = sizes_blind (evaluated x.elements s) (evaluated_keep x.elements s h);
+  room = rooms_blind (evaluated x.elements s) (evaluated_keep x.elements s h);
   acts = λ w p l c a env base d.
       sets_all_keep w p l c _ (evaluated x.elements s) (evaluated_keep x.elements s h) a env base d;
 }

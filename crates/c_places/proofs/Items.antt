@@ -20,6 +20,7 @@ use Rattle.c_runs.specs.Items.{in_turn, in_scope, sub, block_of, unchosen, opene
 use Rattle.c_places.specs.Places.{once}
 use Rattle.c_places.proofs.Counts.{met, AddsTo, times-append}
 use Rattle.c_places.proofs.Parts.{Calling}
+use Rattle.c_places.proofs.Blind.{still}
 
 -- ---- levels and weights
 
@@ -101,6 +102,8 @@ pub record ItemKeeps (x : Item) : Type 0 where
   pub acts : (w : ℕ → ℕ) (p : ℕ) (l : Level) → Counting w p l → (env : Env) (base : ℕ) (d : State) →
       met p (x.run l env base d) + made p (x.objects l base) + w base ≤ met p d + w (base + x.room l)
   pub lasting : LastingKeep x.lasting
+  pub size : (l : Level) → x.size l ≡ x.size (still l)
+  pub room : (l : Level) → x.room l ≡ x.room (still l)
 
 abbrev pub NoObject : Item → Type 0
 NoObject x = (p : ℕ) (l : Level) (base : ℕ) → made p (x.objects l base) ≡ 0
@@ -109,6 +112,8 @@ pub nothing_keeps : (s : Scope) → ItemKeeps (nothing s)
 nothing_keeps s = record {
   acts = λ w p l c env base d. omega (arith, c.calls.rises.more base (base + 0) (omega arith));
   lasting = tt;
+  size = λ l. refl;
+  room = λ l. refl;
 }
 
 pub followed_keeps : (x y : Item) → ItemKeeps x → ItemKeeps y → ItemKeeps (followed x y)
@@ -121,6 +126,8 @@ followed_keeps x y hx hy = record {
     c.calls.rises.more (base + x.room l + y.room l) (base + (x.room l + y.room l)) (omega arith),
   );
   lasting = lasting_append x.lasting y.lasting hx.lasting hy.lasting;
+  size = λ l. omega (arith, hx.size l, hy.size l);
+  room = λ l. omega (arith, hx.room l, hy.room l);
 }
 
 pub closed_keeps : (x : Item) → ItemKeeps x → ItemKeeps (closed x)
@@ -130,6 +137,8 @@ closed_keeps x h = record {
       let d' = x.run l (known ms env) base (born ms d) in
       omega (arith, h.acts w p l c (known ms env) base (born ms d), born_met p ms d, dead_met p ms d');
   lasting = h.lasting;
+  size = h.size;
+  room = h.room;
 }
 
 pub guarded_keeps : (x : Item) → NoObject x → ItemKeeps x → ItemKeeps (guarded x)
@@ -143,16 +152,23 @@ guarded_keeps x none h = record {
             (omega (arith, none p l base, h.acts w p l c env base d)) up,
       );
   lasting = h.lasting;
+  size = h.size;
+  room = h.room;
 }
 
 pub breaches_keep : (bs : List Breach) (x : Item) → ItemKeeps x → ItemKeeps (with_breaches bs x)
-breaches_keep bs x h = record { acts = h.acts; lasting = h.lasting }
+breaches_keep bs x h = record { acts = h.acts; lasting = h.lasting; size = h.size; room = h.room }
 
 pub node_keeps : (x : Item) → ItemKeeps x → ItemKeeps (node x)
-node_keeps x h = record { acts = h.acts; lasting = h.lasting }
+node_keeps x h = record {
+  acts = h.acts;
+  lasting = h.lasting;
+  size = λ l. omega (arith, h.size l);
+  room = h.room;
+}
 
 pub without_cases_keep : (x : Item) → ItemKeeps x → ItemKeeps (without_cases x)
-without_cases_keep x h = record { acts = h.acts; lasting = h.lasting }
+without_cases_keep x h = record { acts = h.acts; lasting = h.lasting; size = h.size; room = h.room }
 
 -- ---- statements
 

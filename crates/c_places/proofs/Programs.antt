@@ -1,6 +1,7 @@
 -- Programs that are read off trees: their functions and declarations keep to their rooms.
 use Rattle.std.proofs.Common.{ℕ, List, [], ◌∷◌, ◌++◌, Option, Some, None}
 use Rattle.std.specs.Prelude.{map}
+use Rattle.std.proofs.Common.{refl}
 use Rattle.c_tree.specs.declared.unit.Body.{Body}
 use Rattle.c_tree.specs.declared.unit.Body.TheVariants as body
 use Rattle.c_tree.specs.declared.unit.External.{External}
@@ -42,7 +43,7 @@ function_keeps f (Some e) unread b names h = h
 with_function_keeps : (f : FunctionSaid) (unread : Option ℕ) (x : Option Code) (head whole : Names) (s : Scope) →
     MaybeCode x → OuterKeeps (with_function f unread x head whole s)
 with_function_keeps f unread x head whole s h = record {
-  item = record { acts = (nothing_keeps f.after).acts; lasting = tt };
+  item = record { acts = (nothing_keeps f.after).acts; lasting = tt; size = λ l. refl; room = λ l. refl };
   function = function_keeps f f.entry unread (body_item f x) whole (body_keeps f x h);
 }
 

@@ -36,11 +36,12 @@ use Rattle.c_places.proofs.Items.{Counting, ItemKeeps, CodeKeeps, EachCode, Last
 use Rattle.c_places.proofs.Items.{with_value_adds, on_branch_adds, nothing_keeps, followed_keeps, closed_keeps}
 use Rattle.c_places.proofs.Items.{guarded_keeps, breaches_keep, node_keeps, without_cases_keep, block_keeps, sub_keeps}
 use Rattle.c_places.proofs.Items.{in_turn_keeps}
-use Rattle.c_places.proofs.Initials.{NotedKeeps, ExprKeeps}
+use Rattle.c_places.proofs.Initials.{NotedKeeps, ExprKeeps, noted_is_kept}
+use Rattle.c_places.proofs.Blind.{still}
 use Rattle.c_places.proofs.Declarations.{declaration_keeps}
 
 expr_keeps : (e : Expr) → ExprKeeps (noted e)
-expr_keeps e s w p l c = noted_keeps w p l c e s
+expr_keeps e s = noted_is_kept e s
 
 abbrev MaybeExpr : Option ExprNoted → Type 0
 MaybeExpr None = Unit {0}
@@ -52,9 +53,9 @@ maybe_expr (Some e) = expr_keeps e
 
 -- ---- a step of an expression
 
-plain_keeps : (x : Noted) (s : Scope) (bs : List Breach) (run : Acts) → ActsWithin x.part.room run →
+plain_keeps : (x : Noted) → NotedKeeps x → (s : Scope) (bs : List Breach) (run : Acts) → ActsWithin x.part.room run →
     ItemKeeps (plain x s bs run)
-plain_keeps x s bs run h = record {
+plain_keeps x hx s bs run h = record {
   acts = λ w p l c env base d.
       let up = c.calls.rises.more base (base + x.part.room l) (omega arith) in
       omega (
@@ -62,6 +63,8 @@ plain_keeps x s bs run h = record {
         runs p (w base) (w (base + x.part.room l)) (run l env base) d (h w p l c env base d) up,
       );
   lasting = tt;
+  size = hx.blind.size;
+  room = hx.blind.room;
 }
 
 effect_within : (x : Noted) → NotedKeeps x →
@@ -69,10 +72,10 @@ effect_within : (x : Noted) → NotedKeeps x →
 effect_within x h w p l c env base d =
     let end = w (base + x.part.room l) in
     with_value_adds p (w base) end end (met p d) (x.part.effect l env base d) (λ v d. d)
-    ((h w p l c.calls).effect env base d) (λ v d. le_refl _) (le_refl _)
+    ((h.keeps w p l c.calls).effect env base d) (λ v d. le_refl _) (le_refl _)
 
 value_keeps : (x : Noted) → NotedKeeps x → ItemKeeps (value_of x)
-value_keeps x h = plain_keeps x x.part.typed.after [] _ (effect_within x h)
+value_keeps x h = plain_keeps x h x.part.typed.after [] _ (effect_within x h)
 
 maybe_value_keeps : (f : Option ExprNoted) (s : Scope) → MaybeExpr f → ItemKeeps (maybe_value f s)
 maybe_value_keeps None s h = nothing_keeps s
@@ -82,17 +85,20 @@ nothing_within : (x : Noted) → ActsWithin x.part.room (λ l env base d. d)
 nothing_within x w p l c env base d =
     omega (arith, c.calls.rises.more base (base + x.part.room l) (omega arith))
 
-tested_keeps : (x : Noted) → ItemKeeps (tested x)
-tested_keeps x =
-    let h = plain_keeps x x.part.typed.after [] (λ l env base d. d) (nothing_within x) in
-    record { acts = h.acts; lasting = tt }
+tested_keeps : (x : Noted) → NotedKeeps x → ItemKeeps (tested x)
+tested_keeps x hx =
+    let h = plain_keeps x hx x.part.typed.after [] (λ l env base d. d) (nothing_within x) in
+    record { acts = h.acts; lasting = tt; size = h.size; room = h.room }
 
-acting_keeps : (run : Acts) (x : Item) → LastingKeep x.lasting → ActsWithin x.room run → ItemKeeps (acting run x)
-acting_keeps run x hl h = record {
+acting_keeps : (run : Acts) (x : Item) → LastingKeep x.lasting → ((l : Level) → x.size l ≡ x.size (still l)) →
+    ((l : Level) → x.room l ≡ x.room (still l)) → ActsWithin x.room run → ItemKeeps (acting run x)
+acting_keeps run x hl size room h = record {
   acts = λ w p l c env base d.
       let up = c.calls.rises.more base (base + x.room l) (omega arith) in
       omega (arith, runs p (w base) (w (base + x.room l)) (run l env base) d (h w p l c env base d) up);
   lasting = hl;
+  size = size;
+  room = room;
 }
 
 -- what it adds, without the places of its objects
@@ -111,7 +117,7 @@ if_within at x first second hx hf hs w p l c env base d =
     let g = second.run l env last in
     let go : Bool → Arrow = λ b. one_of b f g in
     with_value_adds p (w base) (w middle) (w end) (met p d) (x.part.run l env base d) (λ v. on_branch at v go)
-    ((hx w p l c.calls).run env base d)
+    ((hx.keeps w p l c.calls).run env base d)
     (λ v. on_branch_adds p (w middle) (w end) at v go (sides middle last end
     (λ d. alone first hf w p l c env middle d) (λ d. alone second hs w p l c env last d)
     (c.calls.rises.more (middle + first.room l) end (omega arith)) (c.calls.rises.more middle last (omega arith))
@@ -129,10 +135,11 @@ if_within at x first second hx hf hs w p l c env base d =
 if_keeps : (at : ℕ) (x : Noted) (first second : Item) → NotedKeeps x → ItemKeeps first → ItemKeeps second →
     ItemKeeps (if_item at x first second)
 if_keeps at x first second hx hf hs =
-    let all = followed_keeps (tested x) (followed first second) (tested_keeps x) (followed_keeps first second hf hs) in
-    let h = acting_keeps (if_runs at x first second) (followed (tested x) (followed first second)) all.lasting
+    let all = followed_keeps (tested x) (followed first second) (tested_keeps x hx) (followed_keeps first second hf hs) in
+    let h = acting_keeps (if_runs at x first second) (followed (tested x) (followed first second)) all.lasting all.size
+    all.room
     (if_within at x first second hx hf hs) in
-    record { acts = h.acts; lasting = h.lasting }
+    record { acts = h.acts; lasting = h.lasting; size = λ l. omega (arith, h.size l); room = h.room }
 
 abbrev MaybeCode : Option Code → Type 0
 MaybeCode None = Unit {0}
@@ -150,7 +157,7 @@ switch_within at x body hx hb w p l c env base d =
     with_value_adds p (w base) (w middle) (w end) (met p d) (x.part.run l env base d)
     (λ v d. let z = converted (switch_kind x) v in
     arrive past_switch (body.run l env middle (choose at (chosen body.cases z) z d)))
-    ((hx w p l c.calls).run env base d)
+    ((hx.keeps w p l c.calls).run env base d)
     (λ v d. let z = converted (switch_kind x) v in
     omega (
       arith,
@@ -161,10 +168,10 @@ switch_within at x body hx hb w p l c env base d =
 
 switch_keeps : (at : ℕ) (x : Noted) (body : Item) → NotedKeeps x → ItemKeeps body → ItemKeeps (switch_item at x body)
 switch_keeps at x body hx hb =
-    let all = followed_keeps (tested x) body (tested_keeps x) hb in
-    let h = acting_keeps (switch_runs at x body) (followed (tested x) body) all.lasting
+    let all = followed_keeps (tested x) body (tested_keeps x hx) hb in
+    let h = acting_keeps (switch_runs at x body) (followed (tested x) body) all.lasting all.size all.room
     (switch_within at x body hx hb) in
-    record { acts = h.acts; lasting = h.lasting }
+    record { acts = h.acts; lasting = h.lasting; size = λ l. omega (arith, h.size l); room = h.room }
 
 -- ---- iteration
 
@@ -177,11 +184,11 @@ record TestKeeps (t : Test) : Type 0 where
 
 test_keeps : (at : ℕ) (x : Noted) → NotedKeeps x → TestKeeps (test_of at x)
 test_keeps at x hx = record {
-  item = breaches_keep _ (tested x) (tested_keeps x);
+  item = breaches_keep _ (tested x) (tested_keeps x hx);
   leads = λ w p l c env base n go up h d.
       let end = w (base + x.part.room l) in
       with_value_adds p (w base) end n (met p d) (x.part.run l env base d) (λ v. on_branch at v go)
-      ((hx w p l c.calls).run env base d) (λ v. on_branch_adds p end n at v go h) up;
+      ((hx.keeps w p l c.calls).run env base d) (λ v. on_branch_adds p end n at v go h) up;
 }
 
 always_keeps : (s : Scope) → TestKeeps (always s)
@@ -255,6 +262,7 @@ looped_keeps at test body step ht hb hs =
     let all = followed_keeps test.item (followed body step) ht.item (followed_keeps body step hb hs) in
     acting_keeps (λ l env base d. arrive past_break (turns_from at test body step l env l.turns base d))
     (each_turn (followed test.item (followed body step))) all.lasting
+    (λ l. ap (λ n. 1 + (l.turns + 1) * n) (all.size l)) (λ l. ap (λ n. (l.turns + 1) * n) (all.room l))
     (λ w p l c env base d. turns_within at test body step ht hb hs w p l c env l.turns base d)
 
 rounds_within : (at : ℕ) (body : Item) (test : Test) → ItemKeeps body → TestKeeps test →
@@ -296,10 +304,11 @@ repeated_keeps at body test hb ht =
     let all = followed_keeps body test.item hb ht.item in
     acting_keeps (λ l env base d. arrive past_break (rounds_from at body test l env l.turns base d))
     (each_turn (followed body test.item)) all.lasting
+    (λ l. ap (λ n. 1 + (l.turns + 1) * n) (all.size l)) (λ l. ap (λ n. (l.turns + 1) * n) (all.room l))
     (λ w p l c env base d. rounds_within at body test hb ht w p l c env l.turns base d)
 
 left_keeps : (x : Item) → ItemKeeps x → ItemKeeps (left_scope x)
-left_keeps x h = record { acts = h.acts; lasting = h.lasting }
+left_keeps x h = record { acts = h.acts; lasting = h.lasting; size = h.size; room = h.room }
 
 while_keeps : (at : ℕ) (test : Test) (body : Code) (c : Context) → TestKeeps test → CodeKeeps body →
     ItemKeeps (while_from at test body c)
@@ -321,7 +330,7 @@ for_turns_keep : (at : ℕ) (test : Test) (step : Item) (body : Code) (c : Conte
 for_turns_keep at test step body c ht hs hb =
     let inside = sub body (in_loop step.after c) in
     let h = looped_keeps at test inside step ht (sub_keeps body (in_loop step.after c) hb) hs in
-    record { acts = h.acts; lasting = h.lasting }
+    record { acts = h.acts; lasting = h.lasting; size = h.size; room = h.room }
 
 for_keeps : (at : ℕ) (first : Item) (condition step : Option ExprNoted) (body : Code) (c : Context) →
     ItemKeeps first → MaybeExpr condition → MaybeExpr step → CodeKeeps body →
@@ -344,6 +353,8 @@ jump_keeps bs kind c = record {
       let up = h.calls.rises.more base (base + 0) (omega arith) in
       omega (arith, runs p (w base) (w (base + 0)) (become kind) d (omega (arith, up)) up);
   lasting = tt;
+  size = λ l. refl;
+  room = λ l. refl;
 }
 
 returns_within : (x : Noted) (t : Option CType) → NotedKeeps x → ActsWithin x.part.room (returns x t)
@@ -351,14 +362,14 @@ returns_within x t hx w p l c env base d =
     let end = w (base + x.part.room l) in
     with_value_adds p (w base) end end (met p d) (x.part.run l env base d)
     (λ v d. record d { kind = k.Returning; value = Some (converted_to (class_in t) v) })
-    ((hx w p l c.calls).run env base d) (λ v d. le_refl _) (le_refl _)
+    ((hx.keeps w p l c.calls).run env base d) (λ v d. le_refl _) (le_refl _)
 
 return_keeps : (at : ℕ) (value : Option ExprNoted) (c : Context) → MaybeExpr value → ItemKeeps (return_of at value c)
 return_keeps at None c h = jump_keeps _ k.Returning c
 return_keeps at (Some f) c h =
     let x = f c.scope in
-    let kept = plain_keeps x x.part.typed.after [] (returns x c.result) (returns_within x c.result (h c.scope)) in
-    record { acts = kept.acts; lasting = kept.lasting }
+    let kept = plain_keeps x (h c.scope) x.part.typed.after [] (returns x c.result) (returns_within x c.result (h c.scope)) in
+    record { acts = kept.acts; lasting = kept.lasting; size = λ l. omega (arith, kept.size l); room = kept.room }
 
 -- ---- statements by what stands in them
 
@@ -381,6 +392,8 @@ arrived_keeps : (f : Kind → Kind) (x : Item) → ItemKeeps x → ItemKeeps (ar
 arrived_keeps f x h = record {
   acts = λ w p l c env base d. h.acts w p l c env base (arrive f d);
   lasting = h.lasting;
+  size = h.size;
+  room = h.room;
 }
 
 labeled_keeps : (at : ℕ) (name : Name) (body : Code) → CodeKeeps body → CodeKeeps (labeled at name body)
@@ -389,22 +402,34 @@ labeled_keeps at name body h = record { here = kept; content = kept }
     kept : (c : Context) → ItemKeeps ((labeled at name body).here c)
     kept c =
         let inside = arrived_keeps (at_label name) (body.here c) (h.here c) in
-        record { acts = inside.acts; lasting = inside.lasting }
+        record {
+          acts = inside.acts;
+          lasting = inside.lasting;
+          size = λ l. omega (arith, inside.size l);
+          room = inside.room;
+        }
 
 case_of_keeps : (at : ℕ) (z : Option ℤ) (x : Item) → ItemKeeps x → ItemKeeps (case_of at z x)
 case_of_keeps at None x h = h
 case_of_keeps at (Some z) x h =
-    let inside = arrived_keeps (at_case (Some z)) x h in record { acts = inside.acts; lasting = inside.lasting }
+    let inside = arrived_keeps (at_case (Some z)) x h in
+    record { acts = inside.acts; lasting = inside.lasting; size = inside.size; room = inside.room }
 
-case_keeps : (at : ℕ) (value : ExprNoted) (body : Code) → CodeKeeps body → CodeKeeps (case_labeled at value body)
-case_keeps at value body h = record { here = kept; content = kept }
+case_keeps : (at : ℕ) (value : ExprNoted) (body : Code) → ExprKeeps value → CodeKeeps body → CodeKeeps (case_labeled at value body)
+case_keeps at value body hv h = record { here = kept; content = kept }
   where
     kept : (c : Context) → ItemKeeps ((case_labeled at value body).here c)
     kept c =
         let x = value c.scope in
         let inside = case_of_keeps at (case_value c.chooses (constant_of x.part.typed))
         (body.here (in_scope x.part.typed.after c)) (h.here (in_scope x.part.typed.after c)) in
-        record { acts = inside.acts; lasting = inside.lasting }
+        let blind = (hv c.scope).blind in
+        record {
+          acts = inside.acts;
+          lasting = inside.lasting;
+          size = λ l. omega (arith, blind.size l, inside.size l);
+          room = inside.room;
+        }
 
 default_keeps : (at : ℕ) (body : Code) → CodeKeeps body → CodeKeeps (default_labeled at body)
 default_keeps at body h = record { here = kept; content = kept }
@@ -412,7 +437,12 @@ default_keeps at body h = record { here = kept; content = kept }
     kept : (c : Context) → ItemKeeps ((default_labeled at body).here c)
     kept c =
         let inside = arrived_keeps at_default (body.here c) (h.here c) in
-        record { acts = inside.acts; lasting = inside.lasting }
+        record {
+          acts = inside.acts;
+          lasting = inside.lasting;
+          size = λ l. omega (arith, inside.size l);
+          room = inside.room;
+        }
 
 -- ---- the induction
 
@@ -443,7 +473,7 @@ steps = record {
       (λ c. node_keeps (maybe_value (option_map noted e) c.scope)
       (maybe_value_keeps (option_map noted e) c.scope (maybe_expr e))));
   on_label = λ at n x h. holds _ _ (eqs.does-Label at n x) (labeled_keeps at n (stmt x) h);
-  on_case = λ at e x h. holds _ _ (eqs.does-Case at e x) (case_keeps at (noted e) (stmt x) h);
+  on_case = λ at e x h. holds _ _ (eqs.does-Case at e x) (case_keeps at (noted e) (stmt x) (expr_keeps e) h);
   on_default = λ at x h. holds _ _ (eqs.does-Default at x) (default_keeps at (stmt x) h);
   on_if = λ at e x y hx hy. holds _ _ (eqs.does-If at e x y) (code_keeps _ _
       (λ c. let z = noted e (enter c.scope) in
