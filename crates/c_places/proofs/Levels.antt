@@ -99,7 +99,7 @@ body_within w p l c f h vs base s count =
 
 -- ---- the rule of a call
 
-abbrev RuleKeeps : Rules Function → Type 0
+abbrev pub RuleKeeps : Rules Function → Type 0
 RuleKeeps (LogCall text) = Unit {0}
 RuleKeeps (IdentityCall i) = Unit {0}
 RuleKeeps (BodyCall f) = FunctionKeeps f
@@ -180,23 +180,22 @@ call_within w p c m caller turns below hb OutsideCall hr g env vs base s count =
           (entered s count),
     )
 
+pub rule_is_kept : (m : Machine) → MachineKeeps m → (g : Site) → RuleKeeps (rule_of m g)
+rule_is_kept m hm g =
+    let name = g.callee.name in
+    rule_keeps (log_of m.profile name) (identity_index m.profile name) (function_named (functions_of m.program) name)
+    (library_of g) (prelude_of m (callee_taking g) name) (named_keeps (functions_of m.program) name hm.functions)
+    (prelude_keeps (callee_taking g) (function_named m.prelude name) (named_keeps m.prelude name hm.prelude))
+
 level_keeps : (w : ℕ → ℕ) (p : ℕ) → Counts w p → (m : Machine) → MachineKeeps m → (below : Below) →
     BelowKeeps w p below → (f : Function) (turns : ℕ) → Counting w p (level m below f turns)
 level_keeps w p c m hm below hb f turns = record {
   calls = record {
     rises = c.rises;
-    call = λ g env vs base s count. call_within w p c m f turns below hb (rule_of m g) (kept g) g env vs base s count;
+    call = λ g env vs base s count. call_within w p c m f turns below hb (rule_of m g) (rule_is_kept m hm g) g env vs base s count;
   };
   step = c.step;
 }
-  where
-    kept : (g : Site) → RuleKeeps (rule_of m g)
-    kept g =
-        let name = g.callee.name in
-        rule_keeps (log_of m.profile name) (identity_index m.profile name)
-        (function_named (functions_of m.program) name) (library_of g) (prelude_of m (callee_taking g) name)
-        (named_keeps (functions_of m.program) name hm.functions)
-        (prelude_keeps (callee_taking g) (function_named m.prelude name) (named_keeps m.prelude name hm.prelude))
 
 -- whatever depth is left, calls keep to their rooms
 pub level_of_keeps : (w : ℕ → ℕ) (p : ℕ) → Counts w p → (m : Machine) → MachineKeeps m → (n : ℕ) (f : Function)

@@ -9,6 +9,7 @@ pub mod Declarations
 pub mod Statements
 pub mod Calls
 pub mod Levels
+pub mod Worlds
 pub mod Offsets
 pub mod Needs
 pub mod Runs
