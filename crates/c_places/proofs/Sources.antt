@@ -7,8 +7,12 @@ use Rattle.c_tree.specs.declared.unit.External.{External}
 use Rattle.c_runs.specs.declared.profile.Profile.{Profile}
 use Rattle.c_runs.specs.Prelude.{externals}
 use Rattle.c_runs.specs.Runs.{Machine, met_of, room_of}
-use Rattle.c_runs.specs.Units.{machine_in, source_met}
+use Rattle.c_means.specs.Parts.{World, Limits}
+use Rattle.c_runs.specs.Units.{machine_in, machine_of, world_of, limits_of, silent, source_met, source_room, source_size}
 use Rattle.c_places.specs.Places.{once, times, AreDistinct, AreWithin, MeetsItsPlacesOnce}
+use Rattle.c_places.specs.Places.{IsTheSameInEveryWorld}
+use Rattle.c_places.proofs.Worlds.{room_in_world, size_in_world}
+use Rattle.std.proofs.Common.{sym, subst}
 use Rattle.c_places.proofs.Calls.{Counts}
 use Rattle.c_places.proofs.Levels.{MachineKeeps}
 use Rattle.c_places.proofs.Needs.{EachOuter}
@@ -95,14 +99,32 @@ distinct m h hm = distinct_by (met_of m) (room_of m) (λ p. whole_within (weight
 pub within : (m : Machine) → EachOuter m.program.outers → MachineKeeps m → AreWithin (room_of m) (met_of m)
 within m h hm = within_by (met_of m) (room_of m) (λ p. whole_within (weight p) p (counts p) m h hm)
 
-machine_keeps : (xs : List External) (profile : Profile) (w : WorldTables) (b : Bounds) →
-    MachineKeeps (machine_in xs profile w b)
-machine_keeps xs profile w b = record { functions = each_function xs; prelude = each_from externals }
+source_keeps : (xs : List External) (profile : Profile) (world : World) (limits : Limits) (depth : ℕ) →
+    MachineKeeps (machine_of xs profile world limits depth)
+source_keeps xs profile world limits depth = record { functions = each_function xs; prelude = each_from externals }
+
+-- the machine of a source over the world that gives 0
+abbrev quiet : List External → Profile → Bounds → Machine
+quiet xs profile b = machine_of xs profile silent (limits_of b) b.depth
+
+pub is_the_same_in_every_world : (xs : List External) (profile : Profile) (w : WorldTables) (b : Bounds) →
+    IsTheSameInEveryWorld xs profile w b
+unfolding source_room source_size
+is_the_same_in_every_world xs profile w b =
+    let h = source_keeps xs profile silent (limits_of b) b.depth in
+    record {
+      room = sym (room_in_world (quiet xs profile b) (world_of w) h);
+      size = sym (size_in_world (quiet xs profile b) (world_of w) h);
+    }
 
 pub meets_its_places_once : (xs : List External) (profile : Profile) (w : WorldTables) (b : Bounds) →
     MeetsItsPlacesOnce xs profile w b
 unfolding source_met
-meets_its_places_once xs profile w b = record {
-  distinct = distinct (machine_in xs profile w b) (program_keeps xs) (machine_keeps xs profile w b);
-  within = within (machine_in xs profile w b) (program_keeps xs) (machine_keeps xs profile w b);
-}
+meets_its_places_once xs profile w b =
+    let m = machine_in xs profile w b in
+    let h = source_keeps xs profile (world_of w) (limits_of b) b.depth in
+    record {
+      distinct = distinct m (program_keeps xs) h;
+      within = subst (λ n. AreWithin n (met_of m)) (is_the_same_in_every_world xs profile w b).room
+          (within m (program_keeps xs) h);
+    }

@@ -1,11 +1,11 @@
 -- How often a place stands among those that a run meets; that none stands twice; and that each is one of the room.
-use Rattle.std.specs.Prelude.{ℕ, ◌+◌, ◌≤◌, cond, nat_eq, List, [], ◌∷◌}
+use Rattle.std.specs.Prelude.{◌≡◌, ℕ, ◌+◌, ◌≤◌, cond, nat_eq, List, [], ◌∷◌}
 use Rattle.bit_words.specs.declared.bounds.Bounds.{Bounds}
 use Rattle.bit_words.specs.Worlds.{WorldTables}
 use Rattle.c_tree.specs.declared.unit.External.{External}
 use Rattle.c_runs.specs.declared.profile.Profile.{Profile}
-use Rattle.c_runs.specs.Runs.{room_of}
-use Rattle.c_runs.specs.Units.{machine_in, source_met}
+use Rattle.c_runs.specs.Runs.{room_of, unrolled_size}
+use Rattle.c_runs.specs.Units.{machine_in, source_met, source_room, source_size}
 
 abbrev pub once : ℕ → ℕ → ℕ
 once place met = cond (nat_eq place met) 1 0
@@ -28,4 +28,10 @@ AreWithin room (place ∷ more) = (1 ≤ place) × (place ≤ room) × AreWithin
 -- room.
 pub record MeetsItsPlacesOnce (xs : List External) (profile : Profile) (w : WorldTables) (b : Bounds) : Type 0 where
   pub distinct : AreDistinct (source_met xs profile w b)
-  pub within : AreWithin (room_of (machine_in xs profile w b)) (source_met xs profile w b)
+  pub within : AreWithin (source_room xs profile b) (source_met xs profile w b)
+
+-- The room and the size of its machine are those of the source, in every world.
+pub record IsTheSameInEveryWorld (xs : List External) (profile : Profile) (w : WorldTables) (b : Bounds) :
+    Type 0 where
+  pub room : room_of (machine_in xs profile w b) ≡ source_room xs profile b
+  pub size : unrolled_size (machine_in xs profile w b) ≡ source_size xs profile b
