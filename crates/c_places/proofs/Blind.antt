@@ -1,6 +1,6 @@
 -- How many nodes an expression unrolls to, how many places it takes, and of which literal it is the text: none of these
 -- depends on the world, nor on what calls do.
-use Rattle.std.proofs.Common.{◌≡◌, ℕ, zero, suc, ◌+◌, ℤ, Bool, true, false, List, [], ◌∷◌, Option, Some, None, refl, sym}
+use Rattle.std.proofs.Common.{◌≡◌, ℕ, suc, ℤ, Bool, true, false, List, [], ◌∷◌, Option, Some, None, refl, sym}
 use Rattle.std.proofs.Common.{ap, subst, ◌∙◌, arith}
 use Rattle.std.specs.Prelude.{map}
 use Rattle.c_tree.specs.declared.expr.BinaryOperator.{BinaryOperator}
@@ -12,18 +12,17 @@ use Rattle.c_tree.specs.declared.expr.UnaryOperator.{UnaryOperator}
 use Rattle.c_tree.specs.declared.expr.UnaryOperator.TheVariants as u
 use Rattle.c_tree.proofs.Induction.{Each, Steps, of_expr}
 use Rattle.c_type_terms.specs.declared.ctype.CType.{CType}
-use Rattle.c_says.specs.declared.scope.Duration.TheVariants as duration
 use Rattle.c_says.specs.declared.scope.Entry.{Entry}
 use Rattle.c_says.specs.declared.scope.Means.{Means}
 use Rattle.c_says.specs.declared.scope.Means.TheVariants as means
-use Rattle.c_says.specs.Scopes.{Name, Scope, look_up}
+use Rattle.c_says.specs.Scopes.{Scope, look_up}
 use Rattle.c_says.specs.Typing.{Typed, type_of}
 use Rattle.c_says.specs.Typing as says
 use Rattle.c_means.specs.Parts.{Level, Run, Site, Part, entered}
 use Rattle.c_means.specs.Expressions.{Needs, valued, placed, over_one, over_both, over_three, named_as, identifier}
-use Rattle.c_means.specs.Expressions.{subscript, member_by, is_lvalue, offset_of, arrow, postfix, unary, binary}
-use Rattle.c_means.specs.Expressions.{choice_as, assignment, comma, Passed, passed, all_sizes, all_rooms, passed_texts}
-use Rattle.c_means.specs.Expressions.{text_at, direct_call, call_of, call, site, designated, parameters_of, cast_as}
+use Rattle.c_means.specs.Expressions.{member_by, is_lvalue, offset_of, postfix, unary, binary}
+use Rattle.c_means.specs.Expressions.{Passed, passed, all_sizes, all_rooms, passed_texts}
+use Rattle.c_means.specs.Expressions.{text_at, direct_call, call_of, site, designated, parameters_of}
 use Rattle.c_means.specs.Trees.{ExprMeans, part, through, type_name_said}
 use Rattle.c_means.proofs.Equations as meaning
 use Rattle.c_runs.specs.Notes.{noted}

@@ -31,7 +31,6 @@ use Rattle.c_runs.specs.Statements.{default_labeled, stmt, begun_by, switch_cont
 use Rattle.c_says.specs.Typing.{constant_of}
 use Rattle.c_runs.proofs.Equations as eqs
 use Rattle.c_places.proofs.Counts.{met}
-use Rattle.c_places.proofs.Expressions.{noted_keeps}
 use Rattle.c_places.proofs.Items.{Counting, ItemKeeps, CodeKeeps, EachCode, LastingKeep, ActsWithin, Adds, runs}
 use Rattle.c_places.proofs.Items.{with_value_adds, on_branch_adds, nothing_keeps, followed_keeps, closed_keeps}
 use Rattle.c_places.proofs.Items.{guarded_keeps, breaches_keep, node_keeps, without_cases_keep, block_keeps, sub_keeps}

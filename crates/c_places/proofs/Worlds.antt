@@ -1,5 +1,5 @@
 -- The room and the size of a program are the same in every world.
-use Rattle.std.proofs.Common.{◌≡◌, ℕ, zero, suc, ◌+◌, ◌-◌, Bool, List, [], ◌∷◌, Option, Some, None, refl, sym, ap, ◌∙◌, length}
+use Rattle.std.proofs.Common.{◌≡◌, ℕ, zero, suc, ◌+◌, ◌-◌, Option, Some, None, refl, sym, ap, ◌∙◌, length}
 use Rattle.std.proofs.Math.Path.{fun_ext}
 use Rattle.c_says.specs.Scopes.{Name}
 use Rattle.c_means.specs.Parts.{World, Level, Site, entered}

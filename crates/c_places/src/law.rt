@@ -12,13 +12,11 @@ ghost use Rattle.c_places.specs.Places.{IsTheSameInEveryWorld, MeetsItsPlacesOnc
 pub fn places_are_met_once()
     ensures once { (xs : List External) (profile : Profile) (w : WorldTables) (b : Bounds) →
         MeetsItsPlacesOnce xs profile w b }
-{
-}
+{}
 
 /// Does nothing. It promises that how many places a source has, and how many nodes it unrolls to, is the same in every
 /// world.
 pub fn rooms_are_the_same_in_every_world()
     ensures same { (xs : List External) (profile : Profile) (w : WorldTables) (b : Bounds) →
         IsTheSameInEveryWorld xs profile w b }
-{
-}
+{}

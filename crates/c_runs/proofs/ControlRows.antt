@@ -142,3 +142,35 @@ row_byte_within_length = refl
 pub row_count_is_length : (run_of (filling (returns 80 filled ∷ []))).finish ≡ finish.Return (pos 4)
 unfolding converted exact level_of
 row_count_is_length = refl
+
+-- ---- int f(char *, int), which fills its first argument, and answers freely: char x[8]; f(x, 4); return 0;
+
+abbrev filling_freely : Machine
+filling_freely = record (machine long_world (
+    declared_function 5 f' (word w.Int ∷ [])
+    (taking (name 5 f') (parameter (word w.Char ∷ []) (pointer omitted) ∷ parameter (word w.Int ∷ []) omitted ∷ []))
+    ∷ main_with (f' ∷ []) [] (
+    declare (word w.Char ∷ []) (array 8 (name 20 x')) None ∷ does filled ∷ returns 80 (int 0) ∷ []) ∷ [])) {
+      profile = record { log = []; identity = []; fills = filler ∷ []; never_null = [] };
+    }
+  where
+    filler : FillFunction
+    filler = record { name = f'; buffer = 0; length = 1; answer = answer.Free }
+
+-- `f`, `main`, the object; how much is filled, with what, and the answer
+pub row_filling_places : met_of filling_freely ≡ 1 ∷ 2 ∷ 3 ∷ 5 ∷ 6 ∷ 4 ∷ []
+unfolding converted exact level_of
+row_filling_places = refl
+
+-- ---- int f(int); int x(void); int main(void) { return f(x()); }, both of them outside
+
+abbrev asking_twice : Machine
+asking_twice = machine silent (
+    declared_function 5 f' (word w.Int ∷ []) (taking (name 5 f') (parameter (word w.Int ∷ []) omitted ∷ []))
+    ∷ declared_function 6 x' (word w.Int ∷ []) (taking (name 6 x') (parameter (word w.Void ∷ []) omitted ∷ []))
+    ∷ main_with (f' ∷ x' ∷ []) [] (returns 80 (call 85 f' (call 87 x' [] ∷ [])) ∷ []) ∷ [])
+
+-- the places of a call stand behind those of its arguments
+pub row_places_of_arguments : met_of asking_twice ≡ 1 ∷ 2 ∷ 3 ∷ 4 ∷ 8 ∷ []
+unfolding converted exact level_of
+row_places_of_arguments = refl
