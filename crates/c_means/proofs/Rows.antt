@@ -20,7 +20,7 @@ use Rattle.c_means.specs.declared.kind.Kind.TheVariants as kind
 use Rattle.c_says.proofs.Built as built
 use Rattle.c_means.specs.Trees.{ExprMeans, part, meaning}
 use Rattle.c_means.proofs.Scene.{OfExpr, OfMember, OfTypeName, a', b', c', e', f', g', h', k', m', p', r', s', t', u'}
-use Rattle.c_means.proofs.Scene.{v', w', x', y', z'}
+use Rattle.c_means.proofs.Scene.{q', v', w', x', y', z'}
 use Rattle.c_means.proofs.Scene.{int, unsigned, text, the, op, un, minus, address, deref, element, dot, arrow, set}
 use Rattle.c_means.proofs.Scene.{set_at, set_by}
 use Rattle.c_means.proofs.Scene.{after_increment, after_decrement, ◌then◌, call, choice, word, omitted, pointer, type}
@@ -1193,6 +1193,14 @@ places_of_arguments = call 1 f' (call 2 y' [] ∷ []) then call 3 y' []
 pub row_places_of_arguments : found (part places_of_arguments.tree) ≡ gives 108
 unfolding part converted exact
 row_places_of_arguments = ap found places_of_arguments.is
+
+-- q(y()): a call's places stand behind those of its arguments
+abbrev places_behind_arguments : OfExpr
+places_behind_arguments = call 1 q' (call 2 y' [] ∷ [])
+
+pub row_places_behind_arguments : found (part places_behind_arguments.tree) ≡ gives 104
+unfolding part converted exact
+row_places_behind_arguments = ap found places_behind_arguments.is
 
 -- x ? y() : y()
 abbrev places_of_what_is_skipped : OfExpr

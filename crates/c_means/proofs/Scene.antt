@@ -2,6 +2,7 @@
 -- come to. Each object has the number of its declaration's offset, a literal that of its own offset.
 use Rattle.std.proofs.Common.{ℕ, ◌+◌, ℤ, pos, negsuc, List, [], ◌∷◌, false, cond, Option, Some, None}
 use Rattle.std.proofs.Common.{Result, Ok, Err}
+use Rattle.std.specs.Prelude.{◌||◌}
 use Rattle.std.specs.Str.{bytes_eq}
 use Rattle.bit_words.specs.declared.run.Event.{Event}
 use Rattle.bit_words.specs.declared.run.Finish.TheVariants as finish
@@ -68,6 +69,9 @@ g' = 103 ∷ []
 
 abbrev pub h' : Name
 h' = 104 ∷ []
+
+abbrev pub q' : Name
+q' = 113 ∷ []
 
 abbrev pub k' : Name
 k' = 107 ∷ []
@@ -224,10 +228,11 @@ taking t d = built.function meaning 0 d (built.parameter meaning (t ∷ []) omit
 
 -- int x; int a[4]; char c; _Bool b; int *p; struct s { .. } s; struct s u; int f(int); int m(void); void e(void);
 -- int y(void); enum { g = 7 }; struct s *r; short h[3][2]; union { .. } v; char w[16]; void z(int);
--- int k(void);
+-- int k(void); int q(int);
 abbrev pub file : Scope
 file =
-    declare 18 k' (word w.Int ∷ []) (taking (word w.Void))
+    declare 19 q' (word w.Int ∷ []) (taking (word w.Int))
+    (declare 18 k' (word w.Int ∷ []) (taking (word w.Void))
     (declare 17 z' (word w.Void ∷ []) (taking (word w.Int))
     (declare 16 w' (word w.Char ∷ []) (array 16)
     (declare 15 v' (overlay ∷ []) plain
@@ -244,7 +249,7 @@ file =
     (declare 4 b' (word w.Bool ∷ []) plain
     (declare 3 c' (word w.Char ∷ []) plain
     (declare 2 a' (word w.Int ∷ []) (array 4)
-    (declare 1 x' (word w.Int ∷ []) plain empty)))))))))))))))))
+    (declare 1 x' (word w.Int ∷ []) plain empty))))))))))))))))))
   where
     seven : Scope → Scope
     seven s =
@@ -269,8 +274,8 @@ store =
     (make 3 (of_size object.Static 1) (make 2 (of_size object.Static 16) (make 1 (of_size object.Static 4)
     (initial (λ _. 0))))))))))))))))))
 
--- ---- what calls do here: `f` gives its argument back, `m` reaches its `}` without a value, `y` gives its first
--- place, `k` ends the array and gives 1, `z` ends the run, and the others print A
+-- ---- what calls do here: `f` gives its argument back, `m` reaches its `}` without a value, `y` and `q` give their
+-- first place, `k` ends the array and gives 1, `z` ends the run, and the others print A
 
 abbrev first : List ℤ → ℤ
 first [] = pos 0
@@ -281,7 +286,7 @@ calls g env vs base s count =
     let d = entered s count in
     cond (bytes_eq g.callee.name f') (record d { value = Some (first vs) })
     (cond (bytes_eq g.callee.name m') d
-    (cond (bytes_eq g.callee.name y') (record d { value = Some (pos base) })
+    (cond (bytes_eq g.callee.name y' || bytes_eq g.callee.name q') (record d { value = Some (pos base) })
     (cond (bytes_eq g.callee.name k') (record d { value = Some (pos 1); store = end 2 s })
     (cond (bytes_eq g.callee.name z') (record d { kind = kind.Ended (finish.Exit (first vs)) }) (print (65 ∷ []) d)))))
 
