@@ -1,30 +1,20 @@
 //! Operators behind an operand (C99 6.5.2, 6.5.5 to 6.5.17).
-ghost use Rattle.std.specs.Prelude.{◌≡◌, ◌≤◌, ◌<◌, ◌+◌, IfOk, pred};
+ghost use Rattle.std.specs.Prelude.{◌≤◌, ◌<◌, ◌+◌, IfOk};
 ghost use Rattle.c_grammar.specs.Reading as spec;
 ghost use Rattle.c_grammar.specs.Reading.{rules};
-ghost use Rattle.c_grammar.specs.Spelling.{rank_of as rank_spec};
 ghost use Rattle.c_exprs.specs.Below.{ReachesExpr};
-ghost use Rattle.c_exprs.specs.Reads.{Reads, ReadsExpr};
+ghost use Rattle.c_reading.specs.Reads.{Reads};
+ghost use Rattle.c_exprs.specs.Reads.{ReadsExpr};
 ghost use Rattle.c_exprs.specs.Conditional.{arms_at, chosen_at};
 
 use crate::below::Below;
-use crate::cursor::Cursor;
-use crate::fault::ParseFault;
-use c_grammar::{DeclaratorPlace, Infix, rank_of};
+use c_grammar::{DeclaratorPlace, Infix};
 use c_lexer::{Punctuator, Token};
 use c_nodes::{FoundDeclarator, FoundExpr, FoundSpecifier, expr};
+use c_reading::{Cursor, ParseFault, right_rank};
 use c_scope::FileNames;
 use c_tree::BinaryOperator;
 use std::alloc::Global;
-
-/// How loosely the right operand of a binary operator may bind: less than the operator, so operators of one rank
-/// group to the left (C99 6.5.5 to 6.5.14).
-fn right_rank(operator: BinaryOperator) -> u32
-    ensures rank { result ≡ pred (rank_spec operator) }
-    ensures known { result ≤ 16 }
-{
-    rank_of(operator) - 1
-}
 
 impl<
     'a,

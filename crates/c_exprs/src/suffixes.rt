@@ -6,12 +6,10 @@ ghost use Rattle.c_exprs.specs.Below.{Reaches, ReachesDeclarator};
 ghost use Rattle.c_exprs.specs.Reads.{ReadsDeclarator};
 
 use crate::below::Below;
-use crate::cursor::Cursor;
-use crate::fault::ParseFault;
-use crate::scopes::may_omit;
 use c_grammar::DeclaratorPlace;
 use c_lexer::{Name, Punctuator, Token, TokenKind};
 use c_nodes::{FoundDeclarator, FoundExpr, FoundSpecifier, declarator};
+use c_reading::{Cursor, ParseFault, may_omit};
 use c_scope::FileNames;
 use std::alloc::Global;
 

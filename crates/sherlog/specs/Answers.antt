@@ -16,8 +16,8 @@ use Rattle.sherlog.specs.Sources.{IsUnit, HasFaultIn, HasOtherForm, start_at}
 use Rattle.sherlog.specs.Causes.{IsRead, Cause}
 use Rattle.c_lexer.specs.Places.{located}
 use Rattle.c_lexer.specs.declared.token.Token.{Token}
-use Rattle.c_exprs.specs.declared.fault.ParseFault.{ParseFault}
-use Rattle.c_exprs.specs.declared.fault.ParseFault.TheVariants as parser
+use Rattle.c_reading.specs.declared.fault.ParseFault.{ParseFault}
+use Rattle.c_reading.specs.declared.fault.ParseFault.TheVariants as parser
 use Rattle.sherlog.specs.declared.refusal.SourceFault.{SourceFault}
 use Rattle.sherlog.specs.declared.refusal.SourceFault.TheVariants.{Syntax, TooDeep}
 use Rattle.sherlog.specs.declared.refusal.InputFile.{InputFile}

@@ -1,7 +1,7 @@
 use Rattle.std.proofs.Common.{Some, drop, sym, ap, ◌∙◌}
 use Rattle.c_grammar.specs.UnitReading as spec
 use Rattle.c_scope.specs.Local.{scope_of}
-use Rattle.c_exprs.specs.Cursor.{state_of}
+use Rattle.c_reading.specs.Cursor.{state_of}
 use Rattle.c_parser.proofs.BlockReads.{found_gives, unread_gives}
 use Rattle.c_parser.proofs.bodies.read_block.Goals as goal
 

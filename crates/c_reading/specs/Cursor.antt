@@ -6,10 +6,10 @@ use Rattle.c_lexer.specs.declared.token.TokenKind.{TokenKind}
 use Rattle.c_grammar.specs.Parts.{Frame, Scope, State}
 use Rattle.c_grammar.specs.Reading.{Reading, ◌>>=◌, begins_by}
 use Rattle.c_scope.specs.Local.{scope_of}
-use Rattle.c_exprs.specs.declared.cursor.Cursor.{Cursor}
-use Rattle.c_exprs.specs.declared.cursor.Source.{Source}
-use Rattle.c_exprs.specs.declared.fault.ParseFault.{ParseFault}
-use Rattle.c_exprs.specs.declared.fault.ParseFault.TheVariants as fault
+use Rattle.c_reading.specs.declared.cursor.Cursor.{Cursor}
+use Rattle.c_reading.specs.declared.cursor.Source.{Source}
+use Rattle.c_reading.specs.declared.fault.ParseFault.{ParseFault}
+use Rattle.c_reading.specs.declared.fault.ParseFault.TheVariants as fault
 
 -- the tokens that are left, and the names in scope
 abbrev pub state_of : List Token → Frame → Cursor → State

@@ -1,7 +1,7 @@
 use Rattle.std.proofs.Common.{◌≡◌, length, suc}
 use Rattle.c_grammar.specs.Reading.{run_at, an_array_word}
-use Rattle.c_exprs.specs.Cursor.{here, after}
-use Rattle.c_exprs.proofs.cursor.Source.array_words.Given as goal
+use Rattle.c_reading.specs.Cursor.{here, after}
+use Rattle.c_reading.proofs.cursor.Source.array_words.Given as goal
 
 abbrev pub invariant-run : goal.invariant-run
 invariant-run l = after l.all (run_at an_array_word l.left (here l.self l.c)) ≡ run_at an_array_word

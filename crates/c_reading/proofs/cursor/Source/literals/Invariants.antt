@@ -1,7 +1,7 @@
 use Rattle.std.proofs.Common.{◌≡◌, length, suc, [], ◌∷◌}
 use Rattle.c_grammar.specs.Reading.{run_at, a_literal}
-use Rattle.c_exprs.specs.Cursor.{here, after}
-use Rattle.c_exprs.proofs.cursor.Source.literals.Given as goal
+use Rattle.c_reading.specs.Cursor.{here, after}
+use Rattle.c_reading.proofs.cursor.Source.literals.Given as goal
 
 abbrev pub invariant-run : goal.invariant-run
 invariant-run l = after l.all (run_at a_literal l.left (here l.self l.c)) ≡ after (l.fn.first ∷ [])

@@ -18,7 +18,7 @@ pub enum ParseFault {
 
 impl From<AllocError> for ParseFault {
     ghost use Rattle.std.specs.Prelude.{◌≡◌};
-    ghost use Rattle.c_exprs.specs.declared.fault.ParseFault.TheVariants.{Memory};
+    ghost use Rattle.c_reading.specs.declared.fault.ParseFault.TheVariants.{Memory};
 
     ghost from_gives = { λ _ fault. fault ≡ Memory };
 

@@ -1,8 +1,8 @@
 //! As many words of a kind as there are.
 ghost use Rattle.std.specs.Prelude.{◌≡◌, ◌∷◌, [], IfOk, length, suc};
 ghost use Rattle.c_grammar.specs.Reading as spec;
-ghost use Rattle.c_exprs.specs.Cursor.{here, after, Gives, Takes};
-ghost use Rattle.c_exprs.specs.Reads.{Reads};
+ghost use Rattle.c_reading.specs.Cursor.{here, after, Gives, Takes};
+ghost use Rattle.c_reading.specs.Reads.{Reads};
 
 use crate::cursor::{Cursor, Source};
 use crate::fault::ParseFault;

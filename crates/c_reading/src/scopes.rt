@@ -1,9 +1,9 @@
-//! Blocks of names that are entered and left while declarators are read (C99 6.2.1).
+//! Names, and blocks of names that are entered and left (C99 6.2.1).
 ghost use Rattle.std.specs.Prelude.{◌≡◌, OnOk, false};
 ghost use Rattle.c_grammar.specs.Reading as spec;
-ghost use Rattle.c_grammar.specs.Parts.{declared, entered};
+ghost use Rattle.c_grammar.specs.Parts.{declared, entered, forgetting, is_typedef, left};
 ghost use Rattle.c_grammar.specs.Grammar.{may_omit as may_omit_spec};
-ghost use Rattle.c_exprs.specs.Cursor.{here};
+ghost use Rattle.c_reading.specs.Cursor.{here};
 
 use crate::cursor::{Cursor, Source};
 use c_grammar::DeclaratorPlace;
@@ -34,6 +34,13 @@ fn is_suffix(kind: &TokenKind) -> bool
 }
 
 impl<'a> Source<'a> {
+    /// Whether a name is a typedef name here (C99 6.7.7).
+    pub fn is_typedef(&self, c: &Cursor, name: &Name) -> bool
+        ensures { result ≡ is_typedef name.now (here self.now c.now).1 }
+    {
+        c.names.is_typedef(self.file, name.get().as_slice())
+    }
+
     /// Declares a name as another than a typedef name. It fails for want of memory alone.
     pub fn declare_name(&self, c: &mut Cursor, name: &Name) -> Result<(), AllocError>
         ensures { OnOk result
@@ -59,6 +66,20 @@ impl<'a> Source<'a> {
         c.names.enter()
     }
 
+    /// Leaves the innermost block of names.
+    pub fn leave(&self, c: &mut Cursor)
+        ensures { here self.now c.new ≡ ((here self.now c.old).0, left (here self.now c.old).1) }
+    {
+        c.names.leave();
+    }
+
+    /// Forgets the parameters of the function whose declarator was read last.
+    pub fn forget(&self, c: &mut Cursor)
+        ensures { here self.now c.new ≡ ((here self.now c.old).0, forgetting (here self.now c.old).1) }
+    {
+        c.names.forget();
+    }
+
     /// Leaves the block of a function's parameters, which are kept where a declaration declares that function.
     pub fn close(&self, c: &mut Cursor, place: DeclaratorPlace, derived: bool)
         ensures { here self.now c.new
@@ -67,12 +88,12 @@ impl<'a> Source<'a> {
         match place {
             DeclaratorPlace::Declaration => {
                 if derived {
-                    c.names.leave();
+                    self.leave(c);
                 } else {
                     c.names.leave_keeping();
                 }
             }
-            _ => c.names.leave(),
+            _ => self.leave(c),
         }
     }
 

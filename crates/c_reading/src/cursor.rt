@@ -3,8 +3,8 @@ ghost use Rattle.std.specs.Prelude.{◌≡◌};
 ghost use Rattle.c_grammar.specs.Reading as spec;
 ghost use Rattle.c_grammar.specs.Parts.{specifies_in, specifies_by, begins_type};
 ghost use Rattle.c_grammar.specs.Parts as parts;
-ghost use Rattle.c_exprs.specs.Cursor.{here, Gives};
-ghost use Rattle.c_exprs.specs.Reads.{Reads};
+ghost use Rattle.c_reading.specs.Cursor.{here, Gives};
+ghost use Rattle.c_reading.specs.Reads.{Reads};
 
 use crate::fault::ParseFault;
 use c_grammar::{binding_of, unary_of};
@@ -183,7 +183,7 @@ impl<'a> Source<'a> {
         match kind {
             TokenKind::Keyword(keyword) => begins_type_word(*keyword),
             TokenKind::Identifier(name) => {
-                let known = c.names.is_typedef(self.file, name.get().as_slice());
+                let known = self.is_typedef(c, name);
                 !typed && known
             }
             _ => false,
@@ -196,6 +196,25 @@ impl<'a> Source<'a> {
     {
         match self.tokens.get(c.position) {
             Some(token) => self.token_specifies(c, &token.kind, typed),
+            None => false,
+        }
+    }
+
+    /// Whether `(` and a type come next. The cursor ends where it began.
+    pub fn begins_typed(&self, c: &mut Cursor) -> bool
+        ensures typed { result ≡ spec.typed_in (here self.now c.old).0 (here self.now c.old).1 }
+        ensures same { here self.now c.new ≡ here self.now c.old }
+    {
+        match self.tokens.get(c.position) {
+            Some(token) => match &token.kind {
+                TokenKind::Punctuator(Punctuator::LeftParen) => {
+                    c.position += 1;
+                    let typed = self.specifies(c, false);
+                    c.position -= 1;
+                    typed
+                }
+                _ => false,
+            },
             None => false,
         }
     }

@@ -1,8 +1,8 @@
 use Rattle.std.proofs.Common.{◌-◌, arith}
 use Rattle.c_grammar.specs.Reading.{a_qualifier}
-use Rattle.c_exprs.specs.Cursor.{here}
-use Rattle.c_exprs.proofs.Lists.{run_goes, run_stops, run_out}
-use Rattle.c_exprs.proofs.cursor.Source.qualifiers.Goals as goal
+use Rattle.c_reading.specs.Cursor.{here}
+use Rattle.c_reading.proofs.Lists.{run_goes, run_stops, run_out}
+use Rattle.c_reading.proofs.cursor.Source.qualifiers.Goals as goal
 
 pub run-preserved : goal.run-preserved
 run-preserved c =
