@@ -1,20 +1,43 @@
 //! Function bodies (C99 6.9.1).
-ghost use Rattle.std.specs.Prelude.{Some};
+ghost use Rattle.std.specs.Prelude.{◌≡◌, Some, IfOk};
 ghost use Rattle.c_grammar.specs.UnitReading as spec;
 ghost use Rattle.c_scope.specs.Local.{scope_of};
 ghost use Rattle.c_reading.specs.Cursor.{state_of, Gives};
 ghost use Rattle.c_reading.specs.Reads.{Reads};
-ghost use Rattle.c_parser.specs.Bodies.{body_of};
+ghost use Rattle.c_parser.specs.Bodies.{body_of, found_by, unread_by};
 
 use crate::groups::{Extent, group};
 use crate::statements::statement;
 use c_lexer::Token;
-use c_reading::{
-    Cursor, ParseFault, Source, found, front, is_at_end, most_height, rest, start_of, unread,
-};
+use c_reading::{Cursor, ParseFault, Source, front, is_at_end, most_height, rest, start_of};
 use c_scope::{FileNames, Names};
-use c_tree::Body;
-use std::alloc::Global;
+use c_tree::{Body, Stmt};
+use plain_data::Shared;
+use std::alloc::{AllocError, Global};
+
+/// A block as a body, where it is the whole of its brace group. It fails for want of memory alone.
+fn found(alloc: Global, block: Stmt, is_whole: bool, at: u32) -> Result<Body, AllocError>
+    ensures { IfOk result (λ body. body ≡ found_by is_whole block at) }
+{
+    if is_whole {
+        let block = Shared::new(alloc, block)?;
+        Ok(Body::Read { block })
+    } else {
+        drop(block);
+        Ok(Body::Unread { at })
+    }
+}
+
+/// The body where no block is read, unless memory ran out.
+fn unread(fault: ParseFault, at: u32) -> Result<Body, ParseFault>
+    ensures { result ≡ unread_by fault at }
+{
+    match fault {
+        ParseFault::Memory => Err(ParseFault::Memory),
+        ParseFault::Syntax(_) => Ok(Body::Unread { at }),
+        ParseFault::TooDeep(_) => Ok(Body::Unread { at }),
+    }
+}
 
 /// What comes next, up to the end of the tokens, as a block.
 fn read_block(
