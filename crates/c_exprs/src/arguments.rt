@@ -9,6 +9,7 @@ ghost use Rattle.c_reading.specs.Reads.{ReadsLow};
 ghost use Rattle.c_exprs.specs.Reads.{ReadsExpr};
 
 use crate::below::Below;
+use crate::discarding::discard_expr;
 use c_grammar::DeclaratorPlace;
 use c_lexer::{Punctuator, Token};
 use c_nodes::{FoundDeclarator, FoundExpr, FoundSpecifier, expr};
@@ -118,8 +119,19 @@ impl<
         ensures { ReadsExpr self.now.source c.old c.new result
             (spec.call_at (rules self.now.height) at left.tree) (self.now.height + 2) }
     {
-        let arguments = self.arguments(c)?;
-        self.source.expect(c, Punctuator::RightParen)?;
-        Ok(expr::call(self.alloc, at, left, arguments.trees, arguments.height)?)
+        let arguments = match self.arguments(c) {
+            Ok(arguments) => arguments,
+            Err(fault) => {
+                discard_expr(left);
+                return Err(fault);
+            }
+        };
+        match self.source.expect(c, Punctuator::RightParen) {
+            Ok(_) => Ok(expr::call(self.alloc, at, left, arguments.trees, arguments.height)?),
+            Err(fault) => {
+                discard_expr(left);
+                Err(fault)
+            }
+        }
     }
 }

@@ -6,6 +6,7 @@ mod aggregates;
 mod arguments;
 mod below;
 mod declarators;
+mod discarding;
 mod enumerations;
 mod enumerators;
 mod knot;

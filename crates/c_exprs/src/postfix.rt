@@ -8,6 +8,7 @@ ghost use Rattle.c_exprs.specs.Reads.{ReadsExpr};
 ghost use Rattle.c_exprs.specs.Conditional.{arms_at, chosen_at};
 
 use crate::below::Below;
+use crate::discarding::discard_expr;
 use c_grammar::{DeclaratorPlace, Infix};
 use c_lexer::{Punctuator, Token};
 use c_nodes::{FoundDeclarator, FoundExpr, FoundSpecifier, expr};
@@ -43,9 +44,21 @@ impl<
         ensures { ReadsExpr self.now.source c.old c.new result
             (spec.subscript_at (rules self.now.height) at left.tree) (self.now.height + 2) }
     {
-        let index = self.expr(c, 16)?;
-        self.source.expect(c, Punctuator::RightBracket)?;
-        Ok(expr::subscript(self.alloc, at, left, index)?)
+        let index = match self.expr(c, 16) {
+            Ok(index) => index,
+            Err(fault) => {
+                discard_expr(left);
+                return Err(fault);
+            }
+        };
+        match self.source.expect(c, Punctuator::RightBracket) {
+            Ok(_) => Ok(expr::subscript(self.alloc, at, left, index)?),
+            Err(fault) => {
+                discard_expr(left);
+                discard_expr(index);
+                Err(fault)
+            }
+        }
     }
 
     /// `multiplicative-expression: multiplicative-expression ( * | / | % ) cast-expression`, and so at each rank up to
@@ -64,8 +77,13 @@ impl<
         ensures { ReadsExpr self.now.source c.old c.new result
             (spec.binary_at (rules self.now.height) at operator left.tree) (self.now.height + 2) }
     {
-        let right = self.expr(c, right_rank(operator))?;
-        Ok(expr::binary(self.alloc, at, operator, left, right)?)
+        match self.expr(c, right_rank(operator)) {
+            Ok(right) => Ok(expr::binary(self.alloc, at, operator, left, right)?),
+            Err(fault) => {
+                discard_expr(left);
+                Err(fault)
+            }
+        }
     }
 
     /// `expression : conditional-expression` (C99 6.5.15): both arms, with the `:` between them.
@@ -77,9 +95,20 @@ impl<
         ensures low { IfOk result (λ x. (x.0.height ≤ self.now.height) × (x.1.height ≤ self.now.height)) }
     {
         let positive = self.expr(c, 16)?;
-        self.source.expect(c, Punctuator::Colon)?;
-        let negative = self.expr(c, 14)?;
-        Ok((positive, negative))
+        match self.source.expect(c, Punctuator::Colon) {
+            Ok(_) => (),
+            Err(fault) => {
+                discard_expr(positive);
+                return Err(fault);
+            }
+        }
+        match self.expr(c, 14) {
+            Ok(negative) => Ok((positive, negative)),
+            Err(fault) => {
+                discard_expr(positive);
+                Err(fault)
+            }
+        }
     }
 
     /// `? expression : conditional-expression` (C99 6.5.15), after the `?`, where the condition may stand there.
@@ -91,8 +120,15 @@ impl<
         ensures { ReadsExpr self.now.source c.old c.new result
             (chosen_at (rules self.now.height) at left.tree) (self.now.height + 2) }
     {
-        let (positive, negative) = self.arms(c)?;
-        Ok(expr::conditional(self.alloc, at, left, positive, negative)?)
+        match self.arms(c) {
+            Ok((positive, negative)) => {
+                Ok(expr::conditional(self.alloc, at, left, positive, negative)?)
+            }
+            Err(fault) => {
+                discard_expr(left);
+                Err(fault)
+            }
+        }
     }
 
     /// `conditional-expression: logical-OR-expression [ ? expression : conditional-expression ]` (C99 6.5.15),
@@ -111,6 +147,7 @@ impl<
             (spec.conditional_at (rules self.now.height) at left.tree) (self.now.height + 2) }
     {
         if left.rank > 13 {
+            discard_expr(left);
             return Err(ParseFault::Syntax(c.position.saturating_sub(1)));
         }
         self.choose(c, at, left)
@@ -124,8 +161,13 @@ impl<
         ensures { ReadsExpr self.now.source c.old c.new result
             (spec.member_of_at at left.tree) (self.now.height + 2) }
     {
-        let (member, _) = self.source.name(c)?;
-        Ok(expr::member(self.alloc, at, member, left)?)
+        match self.source.name(c) {
+            Ok((member, _)) => Ok(expr::member(self.alloc, at, member, left)?),
+            Err(fault) => {
+                discard_expr(left);
+                Err(fault)
+            }
+        }
     }
 
     /// `postfix-expression: postfix-expression -> identifier` (C99 6.5.2.3), after `->`.
@@ -135,8 +177,13 @@ impl<
         requires low_left { left.height ≤ self.now.height + 1 }
         ensures { ReadsExpr self.now.source c.old c.new result (spec.arrow_at at left.tree) (self.now.height + 2) }
     {
-        let (member, _) = self.source.name(c)?;
-        Ok(expr::arrow(self.alloc, at, member, left)?)
+        match self.source.name(c) {
+            Ok((member, _)) => Ok(expr::arrow(self.alloc, at, member, left)?),
+            Err(fault) => {
+                discard_expr(left);
+                Err(fault)
+            }
+        }
     }
 
     /// `assignment-expression: unary-expression assignment-operator assignment-expression` (C99 6.5.16), after the
@@ -156,10 +203,16 @@ impl<
             (spec.assign_at (rules self.now.height) at operator left.tree) (self.now.height + 2) }
     {
         if left.rank > 2 {
+            discard_expr(left);
             return Err(ParseFault::Syntax(c.position.saturating_sub(1)));
         }
-        let value = self.expr(c, 15)?;
-        Ok(expr::assign(self.alloc, at, operator, left, value)?)
+        match self.expr(c, 15) {
+            Ok(value) => Ok(expr::assign(self.alloc, at, operator, left, value)?),
+            Err(fault) => {
+                discard_expr(left);
+                Err(fault)
+            }
+        }
     }
 
     /// `expression: expression , assignment-expression` (C99 6.5.17), after `,`.
@@ -171,8 +224,13 @@ impl<
         ensures { ReadsExpr self.now.source c.old c.new result
             (spec.comma_at (rules self.now.height) at left.tree) (self.now.height + 2) }
     {
-        let right = self.expr(c, 15)?;
-        Ok(expr::comma(self.alloc, at, left, right)?)
+        match self.expr(c, 15) {
+            Ok(right) => Ok(expr::comma(self.alloc, at, left, right)?),
+            Err(fault) => {
+                discard_expr(left);
+                Err(fault)
+            }
+        }
     }
 
     /// After an operator between two operands.
@@ -190,7 +248,10 @@ impl<
             (spec.infix_at (rules self.now.height) at found left.tree) (self.now.height + 2) }
     {
         match found {
-            None => Err(ParseFault::Syntax(c.position)),
+            None => {
+                discard_expr(left);
+                Err(ParseFault::Syntax(c.position))
+            }
             Some(Infix::Binary(operator)) => self.binary(c, at, operator, left),
             Some(Infix::Assign(operator)) => self.assign(c, at, operator, left),
         }

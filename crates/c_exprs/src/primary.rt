@@ -6,6 +6,7 @@ ghost use Rattle.c_exprs.specs.Below.{ReachesExpr};
 ghost use Rattle.c_exprs.specs.Reads.{ReadsExpr};
 
 use crate::below::Below;
+use crate::discarding::discard_expr;
 use bit_words::Bytes;
 use c_grammar::{DeclaratorPlace, operand_rank};
 use c_lexer::{Name, Punctuator, Token, TokenKind};
@@ -37,8 +38,13 @@ impl<
             (spec.parenthesized_at (rules self.now.height) at) (self.now.height + 1) }
     {
         let inner = self.expr(c, 16)?;
-        self.source.expect(c, Punctuator::RightParen)?;
-        Ok(expr::parenthesized(self.alloc, at, inner)?)
+        match self.source.expect(c, Punctuator::RightParen) {
+            Ok(_) => Ok(expr::parenthesized(self.alloc, at, inner)?),
+            Err(fault) => {
+                discard_expr(inner);
+                Err(fault)
+            }
+        }
     }
 
     /// `primary-expression: string-literal { string-literal }` (C99 6.5.1, 5.1.1.2), after the first literal.

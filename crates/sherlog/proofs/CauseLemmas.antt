@@ -1,7 +1,7 @@
 -- Causes of refusals over several gets.
 use Rattle.std.proofs.Common.{◌≡◌, ◌≤◌, ◌+◌, ◌∙◌, ℕ, List, Ok, Err, min, arith, subst, sym, ap, refl}
 use Rattle.sl_io.specs.ShelfStates.{ShelfState, CountsOn}
-use Rattle.first_form.specs.declared.tree.Unit.{Unit as UnitType}
+use Rattle.first_runs.specs.declared.tree.Unit.{Unit as UnitType}
 use Rattle.sherlog.specs.Sources.{IsUnit}
 use Rattle.sherlog.specs.Words.{Names}
 use Rattle.sl_io.specs.Gets.{Gets}

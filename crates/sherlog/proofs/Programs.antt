@@ -6,8 +6,8 @@ use Rattle.c_tree.specs.PlaceTables.{PlaceTable, places_of}
 use Rattle.c_tree.specs.declared.unit.Unit.{Unit as ParsedUnit}
 use Rattle.c_grammar.specs.Units.{derives}
 use Rattle.c_parser.specs.Parsing.{IsOnly}
-use Rattle.first_form.specs.declared.tree.Unit.{Unit as UnitType}
-use Rattle.first_form.specs.Answers.{program_in}
+use Rattle.first_runs.specs.declared.tree.Unit.{Unit as UnitType}
+use Rattle.first_runs.specs.Programs.{program_in}
 use Rattle.first_form.specs.Form.{program_of}
 use Rattle.sl_io.specs.Gets.{HoldsMore}
 use Rattle.sl_io.specs.ShelfStates.{Files, ShelfState, Holds}

@@ -4,11 +4,12 @@ use Rattle.sl_io.specs.Counts.{Rose}
 use Rattle.sl_io.specs.ShelfStates.{Files, ShelfState, CountsOn}
 use Rattle.sl_io.specs.SinkStates.{SinkState}
 use Rattle.sl_io.specs.Writes.{Appended, AppendedPrefix}
-use Rattle.first_form.specs.declared.tree.Unit.{Unit as UnitType}
-use Rattle.first_form.specs.Answers.{program_in, is_found}
+use Rattle.first_runs.specs.declared.tree.Unit.{Unit as UnitType}
+use Rattle.first_runs.specs.Programs.{program_in}
+use Rattle.first_form.specs.Answers.{is_found}
 use Rattle.first_form.specs.Verdicts.{Diagnoses}
 use Rattle.first_form.specs.Reports.{report_of}
-use Rattle.first_form.specs.declared.verdict.Diagnosis.{Diagnosis}
+use Rattle.first_runs.specs.declared.verdict.Diagnosis.{Diagnosis}
 use Rattle.first_form.specs.declared.diagnose.Answer.{Answer}
 use Rattle.sherlog.specs.Words.{Names}
 use Rattle.sherlog.specs.Inputs.{IsInput, Failed, IsTooLong}

@@ -2,7 +2,7 @@
 use Rattle.std.specs.Prelude.{List, ℕ, Option, ⊤}
 use Rattle.sl_io.specs.ShelfStates.{Files, ShelfState}
 use Rattle.c_lexer.specs.declared.token.Spot.{Spot}
-use Rattle.first_form.specs.declared.tree.Unit.{Unit as UnitType}
+use Rattle.first_runs.specs.declared.tree.Unit.{Unit as UnitType}
 use Rattle.sherlog.specs.Words.{Names}
 use Rattle.sherlog.specs.Inputs.{IsInput, Failed, IsTooLong}
 use Rattle.sherlog.specs.Sources.{IsUnit, HasFaultIn, HasOtherForm}

@@ -3,7 +3,7 @@ use Rattle.std.specs.Prelude.{◌≡◌, ◌≤◌, ℕ, List, Some, length}
 use Rattle.sl_io.specs.Counts.{Rose}
 use Rattle.sl_io.specs.ShelfStates.{Files, ShelfState}
 use Rattle.sl_io.specs.SinkStates.{SinkState}
-use Rattle.first_form.specs.Programs.{Program}
+use Rattle.first_runs.specs.Programs.{Program}
 use Rattle.sherlog.specs.Sources.{IsProgram}
 use Rattle.sherlog.specs.Words.{Names}
 use Rattle.sherlog.specs.Inputs.{name_of, limit_of, Failed}

@@ -11,10 +11,10 @@ use Rattle.c_tree.specs.PlaceTables.{places_of}
 use Rattle.c_tree.specs.declared.unit.External.{External}
 use Rattle.c_grammar.specs.Units.{derives}
 use Rattle.c_parser.specs.Parsing.{IsUnderivable, IsOnly}
-use Rattle.first_form.specs.declared.tree.Unit.{Unit as UnitType}
-use Rattle.first_form.specs.Answers.{program_in}
+use Rattle.first_runs.specs.declared.tree.Unit.{Unit as UnitType}
+use Rattle.first_runs.specs.Programs.{program_in}
 use Rattle.first_form.specs.Form.{program_of}
-use Rattle.first_form.specs.Programs.{Program}
+use Rattle.first_runs.specs.Programs.{Program}
 use Rattle.sherlog.specs.declared.refusal.SourceFault.{SourceFault}
 use Rattle.sherlog.specs.declared.refusal.SourceFault.TheVariants.{BadByte, OpenText, WideNumber, BadConstant, BadDirective, Syntax, TooDeep}
 

@@ -12,7 +12,7 @@ use c_lexer::{LexFault, Token, Tokens, lex, locate};
 use c_parser::ParseFault;
 use c_parser::unit::parse;
 use first_form::form::{FormFault, read};
-use first_form::tree::Unit;
+use first_runs::Unit;
 use std::alloc::Global;
 
 /// The refusal of a source whose fault stands at a byte.
