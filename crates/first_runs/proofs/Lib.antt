@@ -1,2 +1,2 @@
 pub mod Cases
-pub mod Ways
+pub mod Joining

@@ -1,7 +1,7 @@
 use Rattle.std.proofs.Common.{◌≡◌, drop}
 use Rattle.std.specs.Prelude.{map}
 use Rattle.first_runs.specs.Meaning.{meaning, ways_in_turn}
-use Rattle.first_runs.proofs.Ways.{behind}
+use Rattle.first_runs.proofs.Joining.{behind}
 use Rattle.first_runs.proofs.paths.+split.Given as goal
 
 abbrev pub invariant-split_all-loop-item : goal.invariant-split_all-loop-item
