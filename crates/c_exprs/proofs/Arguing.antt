@@ -6,10 +6,10 @@ use Rattle.c_tree.specs.declared.expr.Expr.{Expr}
 use Rattle.c_grammar.specs.Grammar.{shape, highest_shape}
 use Rattle.c_grammar.specs.Parts.{State}
 use Rattle.c_grammar.specs.Reading.{Reading, Rules, ◌>>=◌, begins, expect, more_arguments_at}
-use Rattle.c_exprs.specs.declared.fault.ParseFault.{ParseFault}
-use Rattle.c_exprs.specs.declared.fault.ParseFault.TheVariants as fault
-use Rattle.c_exprs.specs.Cursor.{Fails, after}
-use Rattle.c_exprs.proofs.Lists.{turned, stopped, failed}
+use Rattle.c_reading.specs.declared.fault.ParseFault.{ParseFault}
+use Rattle.c_reading.specs.declared.fault.ParseFault.TheVariants as fault
+use Rattle.c_reading.specs.Cursor.{Fails, after}
+use Rattle.c_reading.proofs.Lists.{turned, stopped, failed}
 
 -- ---- heights
 

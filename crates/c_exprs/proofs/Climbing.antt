@@ -26,9 +26,9 @@ use Rattle.std.proofs.lemmas.Bool.Decides.{nat_tests}
 use Rattle.c_tree.specs.declared.expr.Expr.{Expr}
 use Rattle.c_grammar.specs.Parts.{State}
 use Rattle.c_grammar.specs.Reading.{Rules, ◌>>=◌, binds, more_at, expr_by}
-use Rattle.c_exprs.specs.declared.fault.ParseFault.{ParseFault}
-use Rattle.c_exprs.specs.declared.fault.ParseFault.TheVariants as fault
-use Rattle.c_exprs.specs.Cursor.{Fails}
+use Rattle.c_reading.specs.declared.fault.ParseFault.{ParseFault}
+use Rattle.c_reading.specs.declared.fault.ParseFault.TheVariants as fault
+use Rattle.c_reading.specs.Cursor.{Fails}
 
 step : (r : Rules) (limit m : ℕ) (s : State) → 3 ≤ m →
     expr_by r limit (suc m) s ≡ (expr_by r limit m s >>= (λ x. more_at r limit (suc m) (suc (length x.1.0)) x.0 x.1))

@@ -24,10 +24,10 @@ use Rattle.c_tree.specs.declared.expr.Enumerator.{Enumerator}
 use Rattle.c_grammar.specs.Grammar.{enumerator_of, highest}
 use Rattle.c_grammar.specs.Parts.{State}
 use Rattle.c_grammar.specs.Reading.{Reading, Rules, ◌>>=◌, begins, expect, enumerator_at, more_enumerators_at}
-use Rattle.c_exprs.specs.declared.fault.ParseFault.{ParseFault}
-use Rattle.c_exprs.specs.declared.fault.ParseFault.TheVariants as fault
-use Rattle.c_exprs.specs.Cursor.{Fails, behind}
-use Rattle.c_exprs.proofs.Tails.{turned, stopped, failed}
+use Rattle.c_reading.specs.declared.fault.ParseFault.{ParseFault}
+use Rattle.c_reading.specs.declared.fault.ParseFault.TheVariants as fault
+use Rattle.c_reading.specs.Cursor.{Fails, behind}
+use Rattle.c_reading.proofs.Tails.{turned, stopped, failed}
 
 -- ---- heights
 

@@ -29,9 +29,9 @@ use Rattle.c_grammar.specs.Operators.{infix_of}
 use Rattle.c_grammar.specs.Grammar.{shape}
 use Rattle.c_grammar.specs.Parts.{State}
 use Rattle.c_grammar.specs.Reading.{Reading, Rules, binds, extend_in, extend_by, infix_at, more_at}
-use Rattle.c_exprs.specs.declared.fault.ParseFault.{ParseFault}
-use Rattle.c_exprs.specs.declared.fault.ParseFault.TheVariants as fault
-use Rattle.c_exprs.specs.Cursor.{Fails, Gives}
+use Rattle.c_reading.specs.declared.fault.ParseFault.{ParseFault}
+use Rattle.c_reading.specs.declared.fault.ParseFault.TheVariants as fault
+use Rattle.c_reading.specs.Cursor.{Fails, Gives}
 
 pub more_stop : (r : Rules) (m left limit rank : ℕ) (e : Expr) (s : State) (whole : Reading Expr) →
     left ≡ suc m → nat_eq (binds s) rank ≡ false → more_at r limit rank left e s ≡ whole → whole ≡ Some (e, s)

@@ -23,9 +23,9 @@ use Rattle.c_grammar.specs.declared.declarator_place.DeclaratorPlace.{Declarator
 use Rattle.c_grammar.specs.Grammar.{form}
 use Rattle.c_grammar.specs.Parts.{State}
 use Rattle.c_grammar.specs.Reading.{Reading, Rules, suffixed, suffix_in, suffixes_at}
-use Rattle.c_exprs.specs.declared.fault.ParseFault.{ParseFault}
-use Rattle.c_exprs.specs.declared.fault.ParseFault.TheVariants as fault
-use Rattle.c_exprs.specs.Cursor.{Fails}
+use Rattle.c_reading.specs.declared.fault.ParseFault.{ParseFault}
+use Rattle.c_reading.specs.declared.fault.ParseFault.TheVariants as fault
+use Rattle.c_reading.specs.Cursor.{Fails}
 
 pub suffixes_stop : (r : Rules) (m left limit : ℕ) (place : DeclaratorPlace) (d : Declarator) (s : State)
     (whole : Reading Declarator) → left ≡ suc m → suffixed s.0 ≡ false →

@@ -11,9 +11,9 @@ use Rattle.c_nodes.specs.declared.found.FoundExpr.{FoundExpr}
 use Rattle.c_nodes.specs.declared.found.FoundSpecifier.{FoundSpecifier}
 use Rattle.c_nodes.specs.declared.found.FoundDeclarator.{FoundDeclarator}
 use Rattle.c_exprs.specs.declared.below.Below.{Below}
-use Rattle.c_exprs.specs.declared.cursor.Cursor.{Cursor}
-use Rattle.c_exprs.specs.declared.cursor.Source.{Source}
-use Rattle.c_exprs.specs.declared.fault.ParseFault.{ParseFault}
+use Rattle.c_reading.specs.declared.cursor.Cursor.{Cursor}
+use Rattle.c_reading.specs.declared.cursor.Source.{Source}
+use Rattle.c_reading.specs.declared.fault.ParseFault.{ParseFault}
 use Rattle.c_exprs.specs.Reads.{ReadsExpr, ReadsSpecifier, ReadsDeclarator}
 
 -- what a function value of F requires and ensures that is handed what A says, and answers an X and the cursor

@@ -1,4 +1,3 @@
 pub mod Below
 pub mod Conditional
-pub mod Cursor
 pub mod Reads

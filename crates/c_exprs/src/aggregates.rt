@@ -3,14 +3,14 @@ ghost use Rattle.std.specs.Prelude.{◌<◌, ◌+◌, length, suc};
 ghost use Rattle.c_grammar.specs.Reading as spec;
 ghost use Rattle.c_grammar.specs.Reading.{rules};
 ghost use Rattle.c_exprs.specs.Below.{Reaches};
-ghost use Rattle.c_exprs.specs.Reads.{ReadsLow, ReadsSpecifier};
+ghost use Rattle.c_reading.specs.Reads.{ReadsLow};
+ghost use Rattle.c_exprs.specs.Reads.{ReadsSpecifier};
 
 use crate::below::Below;
-use crate::cursor::Cursor;
-use crate::fault::ParseFault;
 use c_grammar::DeclaratorPlace;
 use c_lexer::{Punctuator, Token};
 use c_nodes::{FoundDeclarator, FoundExpr, FoundMembers, FoundSpecifier, pieces, specifier};
+use c_reading::{Cursor, ParseFault};
 use c_scope::FileNames;
 use c_tree::{AggregateKind, TagName};
 use std::alloc::Global;

@@ -4,15 +4,16 @@ ghost use Rattle.c_grammar.specs.Grammar.{highest_shape, shape};
 ghost use Rattle.c_grammar.specs.Reading as spec;
 ghost use Rattle.c_grammar.specs.Reading.{rules};
 ghost use Rattle.c_exprs.specs.Below.{ReachesExpr};
-ghost use Rattle.c_exprs.specs.Cursor.{after};
-ghost use Rattle.c_exprs.specs.Reads.{ReadsExpr, ReadsLow};
+ghost use Rattle.c_reading.specs.Cursor.{after};
+ghost use Rattle.c_reading.specs.Reads.{ReadsLow};
+ghost use Rattle.c_exprs.specs.Reads.{ReadsExpr};
 
 use crate::below::Below;
-use crate::cursor::Cursor;
-use crate::fault::ParseFault;
+use crate::discarding::discard_expr;
 use c_grammar::DeclaratorPlace;
 use c_lexer::{Punctuator, Token};
 use c_nodes::{FoundDeclarator, FoundExpr, FoundSpecifier, expr};
+use c_reading::{Cursor, ParseFault};
 use c_scope::FileNames;
 use c_tree::Expr;
 use plain_data::{Items, Shared};
@@ -118,8 +119,19 @@ impl<
         ensures { ReadsExpr self.now.source c.old c.new result
             (spec.call_at (rules self.now.height) at left.tree) (self.now.height + 2) }
     {
-        let arguments = self.arguments(c)?;
-        self.source.expect(c, Punctuator::RightParen)?;
-        Ok(expr::call(self.alloc, at, left, arguments.trees, arguments.height)?)
+        let arguments = match self.arguments(c) {
+            Ok(arguments) => arguments,
+            Err(fault) => {
+                discard_expr(left);
+                return Err(fault);
+            }
+        };
+        match self.source.expect(c, Punctuator::RightParen) {
+            Ok(_) => Ok(expr::call(self.alloc, at, left, arguments.trees, arguments.height)?),
+            Err(fault) => {
+                discard_expr(left);
+                Err(fault)
+            }
+        }
     }
 }

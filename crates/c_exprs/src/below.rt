@@ -5,11 +5,10 @@ ghost use Rattle.c_grammar.specs.Reading.{rules};
 ghost use Rattle.c_exprs.specs.Below.{ReachesExpr, ReachesSpecifier, ReachesDeclarator};
 ghost use Rattle.c_exprs.specs.Reads.{ReadsExpr, ReadsSpecifier, ReadsDeclarator};
 
-use crate::cursor::{Cursor, Source};
-use crate::fault::ParseFault;
 use c_grammar::DeclaratorPlace;
 use c_lexer::Token;
 use c_nodes::{FoundDeclarator, FoundExpr, FoundSpecifier};
+use c_reading::{Cursor, ParseFault, Source};
 use c_scope::FileNames;
 use std::alloc::Global;
 

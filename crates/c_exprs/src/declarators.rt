@@ -3,14 +3,15 @@ ghost use Rattle.std.specs.Prelude.{◌≤◌, ◌<◌, ◌+◌};
 ghost use Rattle.c_grammar.specs.Reading as spec;
 ghost use Rattle.c_grammar.specs.Reading.{rules};
 ghost use Rattle.c_exprs.specs.Below.{ReachesDeclarator, ReachesExpr};
-ghost use Rattle.c_exprs.specs.Reads.{ReadsDeclarator, ReadsLow};
+ghost use Rattle.c_reading.specs.Reads.{ReadsLow};
+ghost use Rattle.c_exprs.specs.Reads.{ReadsDeclarator};
 
 use crate::below::Below;
-use crate::cursor::Cursor;
-use crate::fault::ParseFault;
+use crate::discarding::discard_declarator;
 use c_grammar::DeclaratorPlace;
 use c_lexer::{Punctuator, Token};
 use c_nodes::{FoundDeclarator, FoundExpr, FoundOptional, FoundSpecifier, declarator, expr};
+use c_reading::{Cursor, ParseFault};
 use c_scope::FileNames;
 use std::alloc::Global;
 
@@ -74,10 +75,27 @@ impl<
         ensures { ReadsDeclarator self.now.source c.old c.new result
             (spec.array_at (rules self.now.height) at inner.tree) (self.now.height + 2) }
     {
-        let words = self.source.array_words(self.alloc, c)?;
-        let length = self.length(c)?;
-        self.source.expect(c, Punctuator::RightBracket)?;
-        Ok(declarator::array(self.alloc, at, inner, words, length)?)
+        let words = match self.source.array_words(self.alloc, c) {
+            Ok(words) => words,
+            Err(fault) => {
+                discard_declarator(inner);
+                return Err(fault);
+            }
+        };
+        let length = match self.length(c) {
+            Ok(length) => length,
+            Err(fault) => {
+                discard_declarator(inner);
+                return Err(fault);
+            }
+        };
+        match self.source.expect(c, Punctuator::RightBracket) {
+            Ok(_) => Ok(declarator::array(self.alloc, at, inner, words, length)?),
+            Err(fault) => {
+                discard_declarator(inner);
+                Err(fault)
+            }
+        }
     }
 
     /// `direct-declarator: ( declarator )` (C99 6.7.5), after `(`.
@@ -94,7 +112,12 @@ impl<
             (spec.grouped_declarator_at (rules self.now.height) place at) (self.now.height + 1) }
     {
         let inner = self.declarator(c, place)?;
-        self.source.expect(c, Punctuator::RightParen)?;
-        Ok(declarator::grouped(self.alloc, at, inner)?)
+        match self.source.expect(c, Punctuator::RightParen) {
+            Ok(_) => Ok(declarator::grouped(self.alloc, at, inner)?),
+            Err(fault) => {
+                discard_declarator(inner);
+                Err(fault)
+            }
+        }
     }
 }

@@ -2,16 +2,15 @@
 ghost use Rattle.c_grammar.specs.Reading as spec;
 ghost use Rattle.c_grammar.specs.Reading.{rules};
 ghost use Rattle.c_exprs.specs.Below.{ReachesExpr};
-ghost use Rattle.c_exprs.specs.Reads.{ReadsLow};
+ghost use Rattle.c_reading.specs.Reads.{ReadsLow};
 
 use crate::below::Below;
-use crate::cursor::Cursor;
-use crate::fault::ParseFault;
 use c_grammar::DeclaratorPlace;
 use c_lexer::{Punctuator, Token};
 use c_nodes::{
     FoundDeclarator, FoundEnumerator, FoundExpr, FoundOptional, FoundSpecifier, expr, pieces,
 };
+use c_reading::{Cursor, ParseFault};
 use c_scope::FileNames;
 use std::alloc::Global;
 

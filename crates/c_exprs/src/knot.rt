@@ -1,15 +1,14 @@
 //! Trees of at most a height: each function reads with itself and the two others at one height less.
 ghost use Rattle.std.specs.Prelude.{◌≤◌};
 ghost use Rattle.c_grammar.specs.Reading.{rules};
-ghost use Rattle.c_exprs.specs.Cursor.{source_of};
+ghost use Rattle.c_reading.specs.Cursor.{source_of};
 ghost use Rattle.c_exprs.specs.Reads.{ReadsExpr, ReadsSpecifier, ReadsDeclarator};
 
 use crate::below::Below;
-use crate::cursor::{Cursor, Source};
-use crate::fault::ParseFault;
 use c_grammar::DeclaratorPlace;
 use c_lexer::Token;
 use c_nodes::{FoundDeclarator, FoundExpr, FoundSpecifier};
+use c_reading::{Cursor, ParseFault, Source};
 use c_scope::FileNames;
 use std::alloc::Global;
 

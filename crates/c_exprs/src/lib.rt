@@ -5,11 +5,10 @@
 mod aggregates;
 mod arguments;
 mod below;
-mod cursor;
 mod declarators;
+mod discarding;
 mod enumerations;
 mod enumerators;
-mod fault;
 mod knot;
 mod members;
 mod operators;
@@ -18,13 +17,9 @@ mod postfix;
 mod prefix;
 mod primary;
 mod ranks;
-mod scopes;
 mod single;
 mod specifiers;
 mod suffixes;
 mod trees;
-mod words;
 
-pub use cursor::{Cursor, Source};
-pub use fault::ParseFault;
 pub use trees::Trees;

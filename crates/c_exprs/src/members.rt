@@ -3,18 +3,17 @@ ghost use Rattle.std.specs.Prelude.{◌≤◌, length, suc};
 ghost use Rattle.c_grammar.specs.Reading as spec;
 ghost use Rattle.c_grammar.specs.Reading.{rules};
 ghost use Rattle.c_exprs.specs.Below.{Reaches, ReachesExpr};
-ghost use Rattle.c_exprs.specs.Cursor.{after};
-ghost use Rattle.c_exprs.specs.Reads.{ReadsLow};
+ghost use Rattle.c_reading.specs.Cursor.{after};
+ghost use Rattle.c_reading.specs.Reads.{ReadsLow};
 
 use crate::below::Below;
-use crate::cursor::Cursor;
-use crate::fault::ParseFault;
 use c_grammar::DeclaratorPlace;
 use c_lexer::{Punctuator, Token};
 use c_nodes::{
     FoundDeclarator, FoundExpr, FoundField, FoundFieldName, FoundFields, FoundMember,
     FoundSpecifier, pieces,
 };
+use c_reading::{Cursor, ParseFault};
 use c_scope::FileNames;
 use std::alloc::Global;
 

@@ -6,11 +6,11 @@ ghost use Rattle.c_exprs.specs.Below.{ReachesExpr};
 ghost use Rattle.c_exprs.specs.Reads.{ReadsExpr};
 
 use crate::below::Below;
-use crate::cursor::Cursor;
-use crate::fault::ParseFault;
+use crate::discarding::discard_expr;
 use c_grammar::{DeclaratorPlace, infix_of};
 use c_lexer::{Punctuator, Token, TokenKind};
 use c_nodes::{FoundDeclarator, FoundExpr, FoundSpecifier, expr};
+use c_reading::{Cursor, ParseFault};
 use c_scope::FileNames;
 use c_tree::PostfixOperator;
 use std::alloc::Global;
@@ -77,9 +77,15 @@ impl<
                     c.position += 1;
                     self.extend_by(c, token.start, *mark, left)
                 }
-                _ => Err(ParseFault::Syntax(c.position)),
+                _ => {
+                    discard_expr(left);
+                    Err(ParseFault::Syntax(c.position))
+                }
             },
-            None => Err(ParseFault::Syntax(c.position)),
+            None => {
+                discard_expr(left);
+                Err(ParseFault::Syntax(c.position))
+            }
         }
     }
 
@@ -102,9 +108,11 @@ impl<
             }
             all = self.extend(c, all)?;
             if all.height > self.height + 1 {
+                discard_expr(all);
                 return Err(ParseFault::TooDeep(c.position));
             }
         }
+        discard_expr(all);
         Err(ParseFault::Syntax(c.position))
     }
 }

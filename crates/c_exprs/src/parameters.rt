@@ -3,17 +3,18 @@ ghost use Rattle.std.specs.Prelude.{◌≡◌, ◌≤◌, ◌<◌, ◌+◌, fals
 ghost use Rattle.c_grammar.specs.Reading as spec;
 ghost use Rattle.c_grammar.specs.Reading.{rules};
 ghost use Rattle.c_exprs.specs.Below.{Reaches};
-ghost use Rattle.c_exprs.specs.Cursor.{behind};
-ghost use Rattle.c_exprs.specs.Reads.{ReadsDeclarator, ReadsLow};
+ghost use Rattle.c_reading.specs.Cursor.{behind};
+ghost use Rattle.c_reading.specs.Reads.{ReadsLow};
+ghost use Rattle.c_exprs.specs.Reads.{ReadsDeclarator};
 
 use crate::below::Below;
-use crate::cursor::Cursor;
-use crate::fault::ParseFault;
+use crate::discarding::discard_declarator;
 use c_grammar::DeclaratorPlace;
 use c_lexer::{Punctuator, Token};
 use c_nodes::{
     FoundDeclarator, FoundExpr, FoundParameter, FoundParameters, FoundSpecifier, declarator,
 };
+use c_reading::{Cursor, ParseFault};
 use c_scope::FileNames;
 use std::alloc::Global;
 
@@ -107,10 +108,27 @@ impl<
         ensures { ReadsDeclarator self.now.source c.old c.new result
             (spec.function_at (rules self.now.height) place at inner.tree) (self.now.height + 2) }
     {
-        self.source.enter(c)?;
-        let parameters = self.parameters(c)?;
+        match self.source.enter(c) {
+            Ok(()) => (),
+            Err(_) => {
+                discard_declarator(inner);
+                return Err(ParseFault::Memory);
+            }
+        }
+        let parameters = match self.parameters(c) {
+            Ok(parameters) => parameters,
+            Err(fault) => {
+                discard_declarator(inner);
+                return Err(fault);
+            }
+        };
         self.source.close(c, place, inner.derived);
-        self.source.expect(c, Punctuator::RightParen)?;
-        Ok(declarator::function(self.alloc, at, inner, parameters)?)
+        match self.source.expect(c, Punctuator::RightParen) {
+            Ok(_) => Ok(declarator::function(self.alloc, at, inner, parameters)?),
+            Err(fault) => {
+                discard_declarator(inner);
+                Err(fault)
+            }
+        }
     }
 }

@@ -1,30 +1,21 @@
 //! Operators behind an operand (C99 6.5.2, 6.5.5 to 6.5.17).
-ghost use Rattle.std.specs.Prelude.{◌≡◌, ◌≤◌, ◌<◌, ◌+◌, IfOk, pred};
+ghost use Rattle.std.specs.Prelude.{◌≤◌, ◌<◌, ◌+◌, IfOk};
 ghost use Rattle.c_grammar.specs.Reading as spec;
 ghost use Rattle.c_grammar.specs.Reading.{rules};
-ghost use Rattle.c_grammar.specs.Spelling.{rank_of as rank_spec};
 ghost use Rattle.c_exprs.specs.Below.{ReachesExpr};
-ghost use Rattle.c_exprs.specs.Reads.{Reads, ReadsExpr};
+ghost use Rattle.c_reading.specs.Reads.{Reads};
+ghost use Rattle.c_exprs.specs.Reads.{ReadsExpr};
 ghost use Rattle.c_exprs.specs.Conditional.{arms_at, chosen_at};
 
 use crate::below::Below;
-use crate::cursor::Cursor;
-use crate::fault::ParseFault;
-use c_grammar::{DeclaratorPlace, Infix, rank_of};
+use crate::discarding::discard_expr;
+use c_grammar::{DeclaratorPlace, Infix};
 use c_lexer::{Punctuator, Token};
 use c_nodes::{FoundDeclarator, FoundExpr, FoundSpecifier, expr};
+use c_reading::{Cursor, ParseFault, right_rank};
 use c_scope::FileNames;
 use c_tree::BinaryOperator;
 use std::alloc::Global;
-
-/// How loosely the right operand of a binary operator may bind: less than the operator, so operators of one rank
-/// group to the left (C99 6.5.5 to 6.5.14).
-fn right_rank(operator: BinaryOperator) -> u32
-    ensures rank { result ≡ pred (rank_spec operator) }
-    ensures known { result ≤ 16 }
-{
-    rank_of(operator) - 1
-}
 
 impl<
     'a,
@@ -53,9 +44,21 @@ impl<
         ensures { ReadsExpr self.now.source c.old c.new result
             (spec.subscript_at (rules self.now.height) at left.tree) (self.now.height + 2) }
     {
-        let index = self.expr(c, 16)?;
-        self.source.expect(c, Punctuator::RightBracket)?;
-        Ok(expr::subscript(self.alloc, at, left, index)?)
+        let index = match self.expr(c, 16) {
+            Ok(index) => index,
+            Err(fault) => {
+                discard_expr(left);
+                return Err(fault);
+            }
+        };
+        match self.source.expect(c, Punctuator::RightBracket) {
+            Ok(_) => Ok(expr::subscript(self.alloc, at, left, index)?),
+            Err(fault) => {
+                discard_expr(left);
+                discard_expr(index);
+                Err(fault)
+            }
+        }
     }
 
     /// `multiplicative-expression: multiplicative-expression ( * | / | % ) cast-expression`, and so at each rank up to
@@ -74,8 +77,13 @@ impl<
         ensures { ReadsExpr self.now.source c.old c.new result
             (spec.binary_at (rules self.now.height) at operator left.tree) (self.now.height + 2) }
     {
-        let right = self.expr(c, right_rank(operator))?;
-        Ok(expr::binary(self.alloc, at, operator, left, right)?)
+        match self.expr(c, right_rank(operator)) {
+            Ok(right) => Ok(expr::binary(self.alloc, at, operator, left, right)?),
+            Err(fault) => {
+                discard_expr(left);
+                Err(fault)
+            }
+        }
     }
 
     /// `expression : conditional-expression` (C99 6.5.15): both arms, with the `:` between them.
@@ -87,9 +95,20 @@ impl<
         ensures low { IfOk result (λ x. (x.0.height ≤ self.now.height) × (x.1.height ≤ self.now.height)) }
     {
         let positive = self.expr(c, 16)?;
-        self.source.expect(c, Punctuator::Colon)?;
-        let negative = self.expr(c, 14)?;
-        Ok((positive, negative))
+        match self.source.expect(c, Punctuator::Colon) {
+            Ok(_) => (),
+            Err(fault) => {
+                discard_expr(positive);
+                return Err(fault);
+            }
+        }
+        match self.expr(c, 14) {
+            Ok(negative) => Ok((positive, negative)),
+            Err(fault) => {
+                discard_expr(positive);
+                Err(fault)
+            }
+        }
     }
 
     /// `? expression : conditional-expression` (C99 6.5.15), after the `?`, where the condition may stand there.
@@ -101,8 +120,15 @@ impl<
         ensures { ReadsExpr self.now.source c.old c.new result
             (chosen_at (rules self.now.height) at left.tree) (self.now.height + 2) }
     {
-        let (positive, negative) = self.arms(c)?;
-        Ok(expr::conditional(self.alloc, at, left, positive, negative)?)
+        match self.arms(c) {
+            Ok((positive, negative)) => {
+                Ok(expr::conditional(self.alloc, at, left, positive, negative)?)
+            }
+            Err(fault) => {
+                discard_expr(left);
+                Err(fault)
+            }
+        }
     }
 
     /// `conditional-expression: logical-OR-expression [ ? expression : conditional-expression ]` (C99 6.5.15),
@@ -121,6 +147,7 @@ impl<
             (spec.conditional_at (rules self.now.height) at left.tree) (self.now.height + 2) }
     {
         if left.rank > 13 {
+            discard_expr(left);
             return Err(ParseFault::Syntax(c.position.saturating_sub(1)));
         }
         self.choose(c, at, left)
@@ -134,8 +161,13 @@ impl<
         ensures { ReadsExpr self.now.source c.old c.new result
             (spec.member_of_at at left.tree) (self.now.height + 2) }
     {
-        let (member, _) = self.source.name(c)?;
-        Ok(expr::member(self.alloc, at, member, left)?)
+        match self.source.name(c) {
+            Ok((member, _)) => Ok(expr::member(self.alloc, at, member, left)?),
+            Err(fault) => {
+                discard_expr(left);
+                Err(fault)
+            }
+        }
     }
 
     /// `postfix-expression: postfix-expression -> identifier` (C99 6.5.2.3), after `->`.
@@ -145,8 +177,13 @@ impl<
         requires low_left { left.height ≤ self.now.height + 1 }
         ensures { ReadsExpr self.now.source c.old c.new result (spec.arrow_at at left.tree) (self.now.height + 2) }
     {
-        let (member, _) = self.source.name(c)?;
-        Ok(expr::arrow(self.alloc, at, member, left)?)
+        match self.source.name(c) {
+            Ok((member, _)) => Ok(expr::arrow(self.alloc, at, member, left)?),
+            Err(fault) => {
+                discard_expr(left);
+                Err(fault)
+            }
+        }
     }
 
     /// `assignment-expression: unary-expression assignment-operator assignment-expression` (C99 6.5.16), after the
@@ -166,10 +203,16 @@ impl<
             (spec.assign_at (rules self.now.height) at operator left.tree) (self.now.height + 2) }
     {
         if left.rank > 2 {
+            discard_expr(left);
             return Err(ParseFault::Syntax(c.position.saturating_sub(1)));
         }
-        let value = self.expr(c, 15)?;
-        Ok(expr::assign(self.alloc, at, operator, left, value)?)
+        match self.expr(c, 15) {
+            Ok(value) => Ok(expr::assign(self.alloc, at, operator, left, value)?),
+            Err(fault) => {
+                discard_expr(left);
+                Err(fault)
+            }
+        }
     }
 
     /// `expression: expression , assignment-expression` (C99 6.5.17), after `,`.
@@ -181,8 +224,13 @@ impl<
         ensures { ReadsExpr self.now.source c.old c.new result
             (spec.comma_at (rules self.now.height) at left.tree) (self.now.height + 2) }
     {
-        let right = self.expr(c, 15)?;
-        Ok(expr::comma(self.alloc, at, left, right)?)
+        match self.expr(c, 15) {
+            Ok(right) => Ok(expr::comma(self.alloc, at, left, right)?),
+            Err(fault) => {
+                discard_expr(left);
+                Err(fault)
+            }
+        }
     }
 
     /// After an operator between two operands.
@@ -200,7 +248,10 @@ impl<
             (spec.infix_at (rules self.now.height) at found left.tree) (self.now.height + 2) }
     {
         match found {
-            None => Err(ParseFault::Syntax(c.position)),
+            None => {
+                discard_expr(left);
+                Err(ParseFault::Syntax(c.position))
+            }
             Some(Infix::Binary(operator)) => self.binary(c, at, operator, left),
             Some(Infix::Assign(operator)) => self.assign(c, at, operator, left),
         }

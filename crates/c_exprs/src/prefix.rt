@@ -1,40 +1,18 @@
 //! Types in parentheses before an operand: casts and `sizeof` (C99 6.5.3.4, 6.5.4).
-ghost use Rattle.std.specs.Prelude.{◌≡◌, ◌<◌, ◌+◌};
+ghost use Rattle.std.specs.Prelude.{◌<◌, ◌+◌};
 ghost use Rattle.c_grammar.specs.Reading as spec;
 ghost use Rattle.c_grammar.specs.Reading.{rules};
 ghost use Rattle.c_exprs.specs.Below.{Reaches};
-ghost use Rattle.c_exprs.specs.Cursor.{here};
-ghost use Rattle.c_exprs.specs.Reads.{ReadsExpr, ReadsLow};
+ghost use Rattle.c_reading.specs.Reads.{ReadsLow};
+ghost use Rattle.c_exprs.specs.Reads.{ReadsExpr};
 
 use crate::below::Below;
-use crate::cursor::{Cursor, Source};
-use crate::fault::ParseFault;
 use c_grammar::DeclaratorPlace;
-use c_lexer::{Keyword, Punctuator, Token, TokenKind};
+use c_lexer::{Keyword, Punctuator, Token};
 use c_nodes::{FoundDeclarator, FoundExpr, FoundSpecifier, FoundType, expr};
+use c_reading::{Cursor, ParseFault};
 use c_scope::FileNames;
 use std::alloc::Global;
-
-impl<'a> Source<'a> {
-    /// Whether `(` and a type come next. The cursor ends where it began.
-    pub fn begins_typed(&self, c: &mut Cursor) -> bool
-        ensures typed { result ≡ spec.typed_in (here self.now c.old).0 (here self.now c.old).1 }
-        ensures same { here self.now c.new ≡ here self.now c.old }
-    {
-        match self.tokens.get(c.position) {
-            Some(token) => match &token.kind {
-                TokenKind::Punctuator(Punctuator::LeftParen) => {
-                    c.position += 1;
-                    let typed = self.specifies(c, false);
-                    c.position -= 1;
-                    typed
-                }
-                _ => false,
-            },
-            None => false,
-        }
-    }
-}
 
 impl<
     'a,

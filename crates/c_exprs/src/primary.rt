@@ -6,12 +6,12 @@ ghost use Rattle.c_exprs.specs.Below.{ReachesExpr};
 ghost use Rattle.c_exprs.specs.Reads.{ReadsExpr};
 
 use crate::below::Below;
-use crate::cursor::Cursor;
-use crate::fault::ParseFault;
+use crate::discarding::discard_expr;
 use bit_words::Bytes;
 use c_grammar::{DeclaratorPlace, operand_rank};
 use c_lexer::{Name, Punctuator, Token, TokenKind};
 use c_nodes::{FoundDeclarator, FoundExpr, FoundSpecifier, expr};
+use c_reading::{Cursor, ParseFault};
 use c_scope::FileNames;
 use plain_data::Shared;
 use std::alloc::Global;
@@ -38,8 +38,13 @@ impl<
             (spec.parenthesized_at (rules self.now.height) at) (self.now.height + 1) }
     {
         let inner = self.expr(c, 16)?;
-        self.source.expect(c, Punctuator::RightParen)?;
-        Ok(expr::parenthesized(self.alloc, at, inner)?)
+        match self.source.expect(c, Punctuator::RightParen) {
+            Ok(_) => Ok(expr::parenthesized(self.alloc, at, inner)?),
+            Err(fault) => {
+                discard_expr(inner);
+                Err(fault)
+            }
+        }
     }
 
     /// `primary-expression: string-literal { string-literal }` (C99 6.5.1, 5.1.1.2), after the first literal.
@@ -60,7 +65,7 @@ impl<
         requires taken { 0 < c.now.position }
         ensures { ReadsExpr self.now.source c.now c.now result (spec.identifier_at at name.now) 1 }
     {
-        if c.names.is_typedef(self.source.file, name.get().as_slice()) {
+        if self.source.is_typedef(c, name) {
             return Err(ParseFault::Syntax(c.position - 1));
         }
         Ok(expr::identifier(at, name.clone()?))

@@ -6,11 +6,10 @@ ghost use Rattle.c_exprs.specs.Below.{Reaches, ReachesExpr};
 ghost use Rattle.c_exprs.specs.Reads.{ReadsExpr};
 
 use crate::below::Below;
-use crate::cursor::Cursor;
-use crate::fault::ParseFault;
 use c_grammar::DeclaratorPlace;
 use c_lexer::{Keyword, Token};
 use c_nodes::{FoundDeclarator, FoundExpr, FoundSpecifier};
+use c_reading::{Cursor, ParseFault};
 use c_scope::FileNames;
 use std::alloc::Global;
 

@@ -7,11 +7,10 @@ ghost use Rattle.c_exprs.specs.Below.{Reaches};
 ghost use Rattle.c_exprs.specs.Reads.{ReadsSpecifier};
 
 use crate::below::Below;
-use crate::cursor::Cursor;
-use crate::fault::ParseFault;
 use c_grammar::{DeclaratorPlace, aggregate_of, class_of, qualifier_of, type_word_of};
 use c_lexer::{Keyword, Token, TokenKind};
 use c_nodes::{FoundDeclarator, FoundExpr, FoundSpecifier, specifier};
+use c_reading::{Cursor, ParseFault};
 use c_scope::FileNames;
 use std::alloc::Global;
 

@@ -4,14 +4,13 @@ ghost use Rattle.c_grammar.specs.Reading as spec;
 ghost use Rattle.c_grammar.specs.Reading.{rules};
 ghost use Rattle.c_grammar.specs.TypeWords as words;
 ghost use Rattle.c_exprs.specs.Below.{Reaches, ReachesSpecifier};
-ghost use Rattle.c_exprs.specs.Reads.{ReadsLow};
+ghost use Rattle.c_reading.specs.Reads.{ReadsLow};
 
 use crate::below::Below;
-use crate::cursor::Cursor;
-use crate::fault::ParseFault;
 use c_grammar::{DeclaratorPlace, TypeKind};
 use c_lexer::Token;
 use c_nodes::{FoundDeclarator, FoundExpr, FoundSpecifier, FoundSpecifiers, FoundType, specifier};
+use c_reading::{Cursor, ParseFault};
 use c_scope::FileNames;
 use std::alloc::Global;
 

@@ -6,12 +6,11 @@ ghost use Rattle.c_exprs.specs.Below.{Reaches, ReachesDeclarator};
 ghost use Rattle.c_exprs.specs.Reads.{ReadsDeclarator};
 
 use crate::below::Below;
-use crate::cursor::Cursor;
-use crate::fault::ParseFault;
-use crate::scopes::may_omit;
+use crate::discarding::discard_declarator;
 use c_grammar::DeclaratorPlace;
 use c_lexer::{Name, Punctuator, Token, TokenKind};
 use c_nodes::{FoundDeclarator, FoundExpr, FoundSpecifier, declarator};
+use c_reading::{Cursor, ParseFault, may_omit};
 use c_scope::FileNames;
 use std::alloc::Global;
 
@@ -97,9 +96,15 @@ impl<
                     c.position += 1;
                     self.function(c, place, token.start, before)
                 }
-                _ => Err(ParseFault::Syntax(c.position)),
+                _ => {
+                    discard_declarator(before);
+                    Err(ParseFault::Syntax(c.position))
+                }
             },
-            None => Err(ParseFault::Syntax(c.position)),
+            None => {
+                discard_declarator(before);
+                Err(ParseFault::Syntax(c.position))
+            }
         }
     }
 
@@ -126,9 +131,11 @@ impl<
             }
             all = self.suffix(c, place, all)?;
             if all.height > self.height + 1 {
+                discard_declarator(all);
                 return Err(ParseFault::TooDeep(c.position));
             }
         }
+        discard_declarator(all);
         Err(ParseFault::Syntax(c.position))
     }
 

@@ -1,14 +1,13 @@
 //! Trees of at most a height, in which expressions, specifiers and declarators stand in one another.
 ghost use Rattle.std.specs.Prelude.{◌≤◌};
 ghost use Rattle.c_grammar.specs.Reading.{rules, specification_at};
-ghost use Rattle.c_exprs.specs.Reads.{Reads};
+ghost use Rattle.c_reading.specs.Reads.{Reads};
 
 use crate::below::Below;
-use crate::cursor::{Cursor, Source};
-use crate::fault::ParseFault;
 use crate::knot::{declarator_of, expr_of, specifier_of};
 use c_grammar::DeclaratorPlace;
 use c_nodes::{FoundDeclarator, FoundExpr, FoundSpecifiers};
+use c_reading::{Cursor, ParseFault, Source};
 use std::alloc::Global;
 
 /// The trees of at most a height that a source has.

@@ -5,10 +5,10 @@ use Rattle.c_tree.specs.declared.unit.Stmt.{Stmt}
 use Rattle.c_grammar.specs.Parts.{State}
 use Rattle.c_grammar.specs.Reading.{Reading, ◌>>=◌, begins}
 use Rattle.c_grammar.specs.UnitReading.{Turn, block_items_at}
-use Rattle.c_exprs.specs.declared.fault.ParseFault.{ParseFault}
-use Rattle.c_exprs.specs.declared.fault.ParseFault.TheVariants as fault
-use Rattle.c_exprs.specs.Cursor.{Fails, after}
-use Rattle.c_exprs.proofs.Lists.{turned, stopped, failed}
+use Rattle.c_reading.specs.declared.fault.ParseFault.{ParseFault}
+use Rattle.c_reading.specs.declared.fault.ParseFault.TheVariants as fault
+use Rattle.c_reading.specs.Cursor.{Fails, after}
+use Rattle.c_reading.proofs.Lists.{turned, stopped, failed}
 
 item_none : (turn : Turn) (m left : ℕ) (s : State) → left ≡ suc m → begins mark.RightBrace s ≡ true
     → block_items_at turn left s ≡ Some ([], s)

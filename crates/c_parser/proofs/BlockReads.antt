@@ -7,9 +7,9 @@ use Rattle.c_tree.specs.declared.unit.Body.TheVariants as body
 use Rattle.c_grammar.specs.Parts.{Scope}
 use Rattle.c_grammar.specs.Reading.{Reading}
 use Rattle.c_grammar.specs.UnitReading.{is_end}
-use Rattle.c_exprs.specs.declared.fault.ParseFault.{ParseFault}
-use Rattle.c_exprs.specs.declared.fault.ParseFault.TheVariants as fault
-use Rattle.c_exprs.specs.Cursor.{Fails, Gives}
+use Rattle.c_reading.specs.declared.fault.ParseFault.{ParseFault}
+use Rattle.c_reading.specs.declared.fault.ParseFault.TheVariants as fault
+use Rattle.c_reading.specs.Cursor.{Fails, Gives}
 use Rattle.c_parser.specs.Bodies.{body_of, found_by, unread_by}
 
 by_end : (at : ℕ) (x : Stmt) (ts : List Token) (scope : Scope)

@@ -35,7 +35,7 @@ use Rattle.c_lexer.specs.declared.token.Punctuator.{Punctuator}
 use Rattle.c_grammar.specs.Parts.{is_punctuator}
 use Rattle.c_grammar.specs.Units.{closer, closing}
 use Rattle.c_grammar.specs.UnitReading.{Cut, cut, cut_by, with_front}
-use Rattle.c_exprs.proofs.Lists.{append_nothing}
+use Rattle.c_reading.proofs.Lists.{append_nothing}
 use Rattle.c_parser.specs.Groups.{wants_none, wanted_by, wanted_behind, Changes, fronted}
 
 -- ---- a token of a list

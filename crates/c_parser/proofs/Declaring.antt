@@ -5,9 +5,9 @@ use Rattle.c_tree.specs.declared.unit.InitDeclarator.{InitDeclarator}
 use Rattle.c_grammar.specs.Parts.{State}
 use Rattle.c_grammar.specs.Reading.{Reading, Rules, ◌>>=◌, begins, expect}
 use Rattle.c_grammar.specs.UnitReading.{Inside, init_at, more_inits_at}
-use Rattle.c_exprs.specs.declared.fault.ParseFault.{ParseFault}
-use Rattle.c_exprs.specs.Cursor.{Fails, after}
-use Rattle.c_exprs.proofs.Lists.{stopped, failed, turned}
+use Rattle.c_reading.specs.declared.fault.ParseFault.{ParseFault}
+use Rattle.c_reading.specs.Cursor.{Fails, after}
+use Rattle.c_reading.proofs.Lists.{stopped, failed, turned}
 use Rattle.c_parser.proofs.Faults.{carried}
 
 no_comma : (r : Rules) (inside : Inside) (is_type : Bool) (m left : ℕ) (s : State) → left ≡ suc m

@@ -6,10 +6,10 @@ use Rattle.c_tree.specs.declared.unit.InitializerItem.{InitializerItem}
 use Rattle.c_grammar.specs.Parts.{State}
 use Rattle.c_grammar.specs.Reading.{Reading, Rules, ◌>>=◌, begins, expect}
 use Rattle.c_grammar.specs.UnitReading.{Inside, designated, designator_in, designators_at, item_at, more_items_at}
-use Rattle.c_exprs.specs.declared.fault.ParseFault.{ParseFault}
-use Rattle.c_exprs.specs.Cursor.{Fails, after, behind}
-use Rattle.c_exprs.proofs.Lists as lists
-use Rattle.c_exprs.proofs.Tails as tails
+use Rattle.c_reading.specs.declared.fault.ParseFault.{ParseFault}
+use Rattle.c_reading.specs.Cursor.{Fails, after, behind}
+use Rattle.c_reading.proofs.Lists as lists
+use Rattle.c_reading.proofs.Tails as tails
 use Rattle.c_parser.proofs.Faults.{carried}
 
 -- ---- designators

@@ -6,9 +6,9 @@ use Rattle.c_grammar.specs.Units.{derives}
 use Rattle.c_grammar.specs.UnitReading.{read_unit}
 use Rattle.c_grammar.proofs.UnitSound.{unit_sound}
 use Rattle.c_grammar.proofs.UnitComplete.{unit_unique, unit_none}
-use Rattle.c_exprs.specs.declared.fault.ParseFault.{ParseFault}
-use Rattle.c_exprs.specs.declared.fault.ParseFault.TheVariants as fault
-use Rattle.c_exprs.specs.Cursor.{Fails}
+use Rattle.c_reading.specs.declared.fault.ParseFault.{ParseFault}
+use Rattle.c_reading.specs.declared.fault.ParseFault.TheVariants as fault
+use Rattle.c_reading.specs.Cursor.{Fails}
 use Rattle.c_parser.specs.Parsing.{IsOnly, Refuses}
 
 pub is_derived : (tokens : List Token) (unit : List External) → read_unit tokens ≡ Some unit → derives tokens unit

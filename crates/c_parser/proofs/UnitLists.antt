@@ -22,9 +22,9 @@ use Rattle.c_tree.specs.declared.unit.External.{External}
 use Rattle.c_grammar.specs.Parts.{State}
 use Rattle.c_grammar.specs.Reading.{Reading, ◌>>=◌}
 use Rattle.c_grammar.specs.UnitReading.{is_end, external_at, externals_at}
-use Rattle.c_exprs.specs.declared.fault.ParseFault.{ParseFault}
-use Rattle.c_exprs.specs.Cursor.{Fails}
-use Rattle.c_exprs.proofs.Lists.{append_nothing}
+use Rattle.c_reading.specs.declared.fault.ParseFault.{ParseFault}
+use Rattle.c_reading.specs.Cursor.{Fails}
+use Rattle.c_reading.proofs.Lists.{append_nothing}
 use Rattle.c_parser.proofs.Faults.{carried}
 
 -- what was read, with these before it

@@ -5,8 +5,8 @@ use Rattle.c_tree.specs.declared.unit.Body.{Body}
 use Rattle.c_tree.specs.declared.unit.Body.TheVariants as body
 use Rattle.c_grammar.specs.Reading.{Reading}
 use Rattle.c_grammar.specs.UnitReading.{whole}
-use Rattle.c_exprs.specs.declared.fault.ParseFault.{ParseFault}
-use Rattle.c_exprs.specs.declared.fault.ParseFault.TheVariants as fault
+use Rattle.c_reading.specs.declared.fault.ParseFault.{ParseFault}
+use Rattle.c_reading.specs.declared.fault.ParseFault.TheVariants as fault
 
 -- the whole of a brace group as a block, if it is one
 unfoldable pub body_of : ℕ → Reading Stmt → Body

@@ -6,10 +6,10 @@ use Rattle.c_lexer.specs.declared.token.Token.{Token}
 use Rattle.c_tree.specs.declared.unit.Initializer.{Initializer}
 use Rattle.c_grammar.specs.Parts.{Frame}
 use Rattle.c_grammar.specs.UnitReading.{initializer_at}
-use Rattle.c_exprs.specs.declared.cursor.Cursor.{Cursor}
-use Rattle.c_exprs.specs.declared.fault.ParseFault.{ParseFault}
+use Rattle.c_reading.specs.declared.cursor.Cursor.{Cursor}
+use Rattle.c_reading.specs.declared.fault.ParseFault.{ParseFault}
 use Rattle.c_exprs.specs.Below.{Reader}
-use Rattle.c_exprs.specs.Reads.{Reads}
+use Rattle.c_reading.specs.Reads.{Reads}
 use Rattle.c_parser.specs.declared.initializers.Inside.{Inside}
 
 abbrev pub InitializerArguments : Type 0

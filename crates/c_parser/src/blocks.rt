@@ -3,14 +3,13 @@ ghost use Rattle.std.specs.Prelude.{◌≤◌, length, suc};
 ghost use Rattle.c_grammar.specs.Reading.{rules};
 ghost use Rattle.c_grammar.specs.UnitReading as spec;
 ghost use Rattle.c_grammar.specs.UnitReading.{stmt_at};
-ghost use Rattle.c_exprs.specs.Reads.{Reads};
+ghost use Rattle.c_reading.specs.Reads.{Reads};
 ghost use Rattle.c_parser.specs.Turns.{ReachesStatement};
 
-use crate::scopes::leave;
 use crate::shared::expr;
 use crate::turns::Turns;
-use c_exprs::{Cursor, ParseFault};
 use c_lexer::{Keyword, Punctuator, Token};
+use c_reading::{Cursor, ParseFault};
 use c_scope::FileNames;
 use c_tree::Stmt;
 use plain_data::{Items, Shared};
@@ -49,7 +48,7 @@ impl<
     {
         self.trees.source.enter(c)?;
         let items = self.block_items(c)?;
-        leave(&self.trees.source, c);
+        self.trees.source.leave(c);
         self.trees.source.expect(c, Punctuator::RightBrace)?;
         Ok(Stmt::Block { at, items })
     }
@@ -105,7 +104,7 @@ impl<
     {
         self.trees.source.enter(c)?;
         let body = self.statement(c, 0)?;
-        leave(&self.trees.source, c);
+        self.trees.source.leave(c);
         Ok(Shared::new(self.trees.alloc, body)?)
     }
 

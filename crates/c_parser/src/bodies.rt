@@ -1,58 +1,19 @@
 //! Function bodies (C99 6.9.1).
-ghost use Rattle.std.specs.Prelude.{◌≡◌, ◌≤◌, Some, drop, take, length, IfOk};
+ghost use Rattle.std.specs.Prelude.{◌≡◌, Some, IfOk};
 ghost use Rattle.c_grammar.specs.UnitReading as spec;
 ghost use Rattle.c_scope.specs.Local.{scope_of};
-ghost use Rattle.c_exprs.specs.Cursor.{state_of, Gives};
-ghost use Rattle.c_exprs.specs.Reads.{Reads};
+ghost use Rattle.c_reading.specs.Cursor.{state_of, Gives};
+ghost use Rattle.c_reading.specs.Reads.{Reads};
 ghost use Rattle.c_parser.specs.Bodies.{body_of, found_by, unread_by};
 
 use crate::groups::{Extent, group};
 use crate::statements::statement;
-use c_exprs::{Cursor, ParseFault, Source};
 use c_lexer::Token;
+use c_reading::{Cursor, ParseFault, Source, front, is_at_end, most_height, rest, start_of};
 use c_scope::{FileNames, Names};
 use c_tree::{Body, Stmt};
 use plain_data::Shared;
 use std::alloc::{AllocError, Global};
-
-/// The tokens from a position on.
-fn rest(tokens: &[Token], position: usize) -> &[Token]
-    ensures { result.now ≡ drop position tokens.now }
-{
-    if position < tokens.len() {
-        &tokens[position..]
-    } else {
-        &[]
-    }
-}
-
-/// The first tokens.
-fn front(tokens: &[Token], count: usize) -> &[Token]
-    requires { count ≤ length tokens.now }
-    ensures { result.now ≡ take count tokens.now }
-{
-    &tokens[..count]
-}
-
-/// The offset of the first token.
-fn start_of(tokens: &[Token]) -> u32
-    ensures { result ≡ spec.start_of tokens.now }
-{
-    match tokens {
-        [first, ..] => first.start,
-        [] => 0,
-    }
-}
-
-/// Whether no token is left.
-pub fn is_at_end(tokens: &[Token], c: &Cursor) -> bool
-    ensures { result ≡ spec.is_end (drop c.now.position tokens.now) }
-{
-    match tokens.get(c.position) {
-        Some(_) => false,
-        None => true,
-    }
-}
 
 /// A block as a body, where it is the whole of its brace group. It fails for want of memory alone.
 fn found(alloc: Global, block: Stmt, is_whole: bool, at: u32) -> Result<Body, AllocError>
@@ -89,7 +50,7 @@ fn read_block(
     ensures { Gives (λ body. body) result
         (Some (body_of at (spec.stmt_at 256 0 (state_of group.now file.now c.old)))) }
 {
-    match statement(alloc, group, file, c, 256, 0) {
+    match statement(alloc, group, file, c, most_height(), 0) {
         Ok(block) => Ok(found(alloc, block, is_at_end(group, c), at)?),
         Err(fault) => unread(fault, at),
     }

@@ -3,15 +3,14 @@ ghost use Rattle.std.specs.Prelude.{◌≤◌};
 ghost use Rattle.c_grammar.specs.Reading.{rules};
 ghost use Rattle.c_grammar.specs.UnitReading as spec;
 ghost use Rattle.c_grammar.specs.UnitReading.{stmt_at};
-ghost use Rattle.c_exprs.specs.Reads.{Reads};
+ghost use Rattle.c_reading.specs.Reads.{Reads};
 ghost use Rattle.c_parser.specs.Control.{branches_at};
 ghost use Rattle.c_parser.specs.Turns.{ReachesStatement};
 
 use crate::jumps::condition;
-use crate::scopes::leave;
 use crate::turns::Turns;
-use c_exprs::{Cursor, ParseFault};
 use c_lexer::{Keyword, Punctuator, Token};
+use c_reading::{Cursor, ParseFault};
 use c_scope::FileNames;
 use c_tree::Stmt;
 use plain_data::Shared;
@@ -44,7 +43,7 @@ impl<
         self.trees.source.enter(c)?;
         let condition = condition(&self.trees, c)?;
         let (positive, negative) = self.branches(c)?;
-        leave(&self.trees.source, c);
+        self.trees.source.leave(c);
         Ok(Stmt::If {
             at,
             condition,
@@ -64,7 +63,7 @@ impl<
         self.trees.source.enter(c)?;
         let value = condition(&self.trees, c)?;
         let body = self.substatement(c)?;
-        leave(&self.trees.source, c);
+        self.trees.source.leave(c);
         Ok(Stmt::Switch { at, value, body })
     }
 
@@ -79,7 +78,7 @@ impl<
         self.trees.source.enter(c)?;
         let condition = condition(&self.trees, c)?;
         let body = self.substatement(c)?;
-        leave(&self.trees.source, c);
+        self.trees.source.leave(c);
         Ok(Stmt::While {
             at,
             condition,
@@ -100,7 +99,7 @@ impl<
         self.trees.source.expect_keyword(c, Keyword::While)?;
         let condition = condition(&self.trees, c)?;
         self.trees.source.expect(c, Punctuator::Semicolon)?;
-        leave(&self.trees.source, c);
+        self.trees.source.leave(c);
         Ok(Stmt::Do {
             at,
             body,

@@ -4,15 +4,16 @@ ghost use Rattle.c_grammar.specs.Reading.{rules};
 ghost use Rattle.c_grammar.specs.Units as units;
 ghost use Rattle.c_grammar.specs.UnitReading as spec;
 ghost use Rattle.c_grammar.specs.UnitReading.{initializer_at, declaration_at};
-ghost use Rattle.c_exprs.specs.Cursor.{after};
-ghost use Rattle.c_exprs.specs.Reads.{Reads};
+ghost use Rattle.c_reading.specs.Cursor.{after};
+ghost use Rattle.c_reading.specs.Reads.{Reads};
 
 use crate::initializers::initializer;
-use crate::scopes::{declare, forget};
+use crate::scopes::declare;
 use bit_words::Bytes;
-use c_exprs::{Cursor, ParseFault, Source, Trees};
+use c_exprs::Trees;
 use c_grammar::DeclaratorPlace;
 use c_lexer::{Keyword, Punctuator};
+use c_reading::{Cursor, ParseFault, Source};
 use c_tree::{Declaration, Declarator, InitDeclarator, Initializer, Specifier, StorageClass};
 use plain_data::{Items, Shared};
 use std::alloc::Global;
@@ -45,7 +46,7 @@ pub fn declaring(trees: &Trees<'_>, c: &mut Cursor, is_type: bool) -> Result<Dec
     requires small { trees.now.height ≤ 256 }
     ensures { Reads (λ d. d) trees.now.source c.old c.new result (spec.declaring_at (rules trees.now.height) is_type) }
 {
-    forget(&trees.source, c);
+    trees.source.forget(c);
     let found = trees.declarator(c, DeclaratorPlace::Declaration)?;
     declare(trees.alloc, &trees.source, c, &found, is_type)?;
     Ok(found.tree)

@@ -2,12 +2,13 @@
 ghost use Rattle.std.specs.Prelude.{◌≡◌, ◌≤◌, length, suc};
 ghost use Rattle.c_grammar.specs.Reading.{rules};
 ghost use Rattle.c_grammar.specs.UnitReading as spec;
-ghost use Rattle.c_exprs.specs.Cursor.{here};
-ghost use Rattle.c_exprs.specs.Reads.{Reads};
+ghost use Rattle.c_reading.specs.Cursor.{here};
+ghost use Rattle.c_reading.specs.Reads.{Reads};
 
 use crate::shared::expr;
-use c_exprs::{Cursor, ParseFault, Source, Trees};
+use c_exprs::Trees;
 use c_lexer::{Punctuator, TokenKind};
+use c_reading::{Cursor, ParseFault, Source};
 use c_tree::Designator;
 use plain_data::Items;
 

@@ -1,13 +1,14 @@
 //! External declarations (C99 6.9).
 ghost use Rattle.std.specs.Prelude.{◌≡◌, drop, length, suc};
 ghost use Rattle.c_grammar.specs.UnitReading as spec;
-ghost use Rattle.c_exprs.specs.Cursor.{state_of, Gives};
-ghost use Rattle.c_exprs.specs.Reads.{Reads};
+ghost use Rattle.c_reading.specs.Cursor.{state_of, Gives};
+ghost use Rattle.c_reading.specs.Reads.{Reads};
 
-use crate::bodies::{body, is_at_end};
+use crate::bodies::body;
 use crate::declarations::{declaration_behind, declaring, makes_types};
-use c_exprs::{Cursor, ParseFault, Source, Trees};
+use c_exprs::Trees;
 use c_lexer::{Punctuator, Token};
+use c_reading::{Cursor, ParseFault, Source, is_at_end, most_height};
 use c_scope::{FileNames, Names};
 use c_tree::{Declaration, Declarator, External, Specifier};
 use plain_data::{Items, Shared};
@@ -67,7 +68,7 @@ fn external(alloc: Global, source: &Source<'_>, c: &mut Cursor) -> Result<Extern
     let trees = Trees {
         alloc,
         source: *source,
-        height: 256,
+        height: most_height(),
     };
     declared_external(&trees, c)
 }

@@ -3,16 +3,16 @@ ghost use Rattle.std.specs.Prelude.{◌≤◌};
 ghost use Rattle.c_grammar.specs.Reading.{rules};
 ghost use Rattle.c_grammar.specs.UnitReading as spec;
 ghost use Rattle.c_grammar.specs.UnitReading.{stmt_at, initializer_at};
-ghost use Rattle.c_exprs.specs.Reads.{Reads};
+ghost use Rattle.c_reading.specs.Reads.{Reads};
 ghost use Rattle.c_parser.specs.Control.{turning_at, heading_at};
 ghost use Rattle.c_parser.specs.Turns.{ReachesStatement};
 
 use crate::declarations::declaration;
 use crate::jumps::optional;
-use crate::scopes::leave;
 use crate::turns::Turns;
-use c_exprs::{Cursor, ParseFault, Trees};
+use c_exprs::Trees;
 use c_lexer::{Punctuator, Token};
+use c_reading::{Cursor, ParseFault};
 use c_scope::FileNames;
 use c_tree::{Expr, ForStart, Stmt};
 use plain_data::Shared;
@@ -102,7 +102,7 @@ impl<
         self.trees.source.enter(c)?;
         let (start, condition, step) = heading(&self.trees, c)?;
         let body = self.substatement(c)?;
-        leave(&self.trees.source, c);
+        self.trees.source.leave(c);
         Ok(Stmt::For {
             at,
             start,

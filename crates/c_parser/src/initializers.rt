@@ -4,14 +4,15 @@ ghost use Rattle.std.specs.Prelude.{◌≤◌, length, suc};
 ghost use Rattle.c_grammar.specs.Reading.{rules};
 ghost use Rattle.c_grammar.specs.UnitReading as spec;
 ghost use Rattle.c_grammar.specs.UnitReading.{initializer_at};
-ghost use Rattle.c_exprs.specs.Cursor.{behind, source_of};
-ghost use Rattle.c_exprs.specs.Reads.{Reads};
+ghost use Rattle.c_reading.specs.Cursor.{behind, source_of};
+ghost use Rattle.c_reading.specs.Reads.{Reads};
 ghost use Rattle.c_parser.specs.Inside.{ReachesInitializer};
 
 use crate::designators::{designators, is_designated};
 use crate::shared::expr;
-use c_exprs::{Cursor, ParseFault, Source, Trees};
+use c_exprs::Trees;
 use c_lexer::{Punctuator, Token};
+use c_reading::{Cursor, ParseFault, Source};
 use c_scope::FileNames;
 use c_tree::{Initializer, InitializerItem};
 use plain_data::{Items, Shared};

@@ -18,5 +18,5 @@ mod statements;
 mod turns;
 pub mod unit;
 
-pub use c_exprs::ParseFault;
+pub use c_reading::ParseFault;
 pub use unit::parse;

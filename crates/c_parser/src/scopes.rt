@@ -1,21 +1,14 @@
 //! Names and blocks of names at declarations and statements (C99 6.2.1).
 ghost use Rattle.std.specs.Prelude.{◌≡◌, OnOk};
-ghost use Rattle.c_grammar.specs.Parts.{declared, forgetting, left};
+ghost use Rattle.c_grammar.specs.Parts.{declared};
 ghost use Rattle.c_grammar.specs.Grammar.{form};
 ghost use Rattle.c_grammar.specs.Units.{name_of};
-ghost use Rattle.c_exprs.specs.Cursor.{here};
+ghost use Rattle.c_reading.specs.Cursor.{here};
 
-use c_exprs::{Cursor, Source};
 use c_nodes::FoundDeclarator;
+use c_reading::{Cursor, Source};
 use plain_data::{Items, Shared};
 use std::alloc::{AllocError, Global};
-
-/// Forgets the parameters of the function whose declarator was read last.
-pub fn forget(source: &Source<'_>, c: &mut Cursor)
-    ensures { here source.now c.new ≡ ((here source.now c.old).0, forgetting (here source.now c.old).1) }
-{
-    c.names.forget();
-}
 
 /// Declares the name of a declarator, as a typedef name or as another. It fails for want of memory alone.
 pub fn declare(
@@ -34,11 +27,4 @@ pub fn declare(
             .names
             .declare(&Shared::new(alloc, Items::new(alloc))?, is_type),
     }
-}
-
-/// Leaves the innermost block of names.
-pub fn leave(source: &Source<'_>, c: &mut Cursor)
-    ensures { here source.now c.new ≡ ((here source.now c.old).0, left (here source.now c.old).1) }
-{
-    c.names.leave();
 }

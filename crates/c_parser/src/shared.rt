@@ -1,9 +1,10 @@
 //! Expressions that statements, initializers and designators share with what is made of them.
 ghost use Rattle.std.specs.Prelude.{◌≤◌};
 ghost use Rattle.c_grammar.specs.Reading.{rules};
-ghost use Rattle.c_exprs.specs.Reads.{Reads};
+ghost use Rattle.c_reading.specs.Reads.{Reads};
 
-use c_exprs::{Cursor, ParseFault, Trees};
+use c_exprs::Trees;
+use c_reading::{Cursor, ParseFault};
 use c_tree::Expr;
 use plain_data::Shared;
 

@@ -1,12 +1,13 @@
 //! Statements (C99 6.8).
 ghost use Rattle.std.specs.Prelude.{◌≤◌};
 ghost use Rattle.c_grammar.specs.UnitReading.{stmt_at};
-ghost use Rattle.c_exprs.specs.Cursor.{source_of};
-ghost use Rattle.c_exprs.specs.Reads.{Reads};
+ghost use Rattle.c_reading.specs.Cursor.{source_of};
+ghost use Rattle.c_reading.specs.Reads.{Reads};
 
 use crate::turns::Turns;
-use c_exprs::{Cursor, ParseFault, Source, Trees};
+use c_exprs::Trees;
 use c_lexer::Token;
+use c_reading::{Cursor, ParseFault, Source};
 use c_scope::FileNames;
 use c_tree::Stmt;
 use std::alloc::Global;

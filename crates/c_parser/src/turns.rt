@@ -2,11 +2,12 @@
 //! stands in one place, and each rule is a function by itself.
 ghost use Rattle.std.specs.Prelude.{◌≤◌};
 ghost use Rattle.c_grammar.specs.UnitReading.{stmt_at};
-ghost use Rattle.c_exprs.specs.Reads.{Reads};
+ghost use Rattle.c_reading.specs.Reads.{Reads};
 ghost use Rattle.c_parser.specs.Turns.{ReachesStatement};
 
-use c_exprs::{Cursor, ParseFault, Trees};
+use c_exprs::Trees;
 use c_lexer::Token;
+use c_reading::{Cursor, ParseFault};
 use c_scope::FileNames;
 use c_tree::Stmt;
 use std::alloc::Global;

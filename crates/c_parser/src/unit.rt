@@ -6,8 +6,8 @@ ghost use Rattle.c_tree.specs.PlaceTables.{places_of, AreFound};
 ghost use Rattle.c_parser.specs.Parsing.{Refuses, IsOnly};
 
 use crate::externals::read_unit;
-use c_exprs::ParseFault;
 use c_lexer::Tokens;
+use c_reading::ParseFault;
 use c_tree::{Places, Unit};
 use plain_data::Shared;
 use std::alloc::Global;

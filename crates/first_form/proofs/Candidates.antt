@@ -5,9 +5,9 @@ use Rattle.bit_words.specs.Worlds.{WorldTables, value_at}
 use Rattle.bit_words.specs.declared.fact.Fact.{Fact}
 use Rattle.bit_words.specs.declared.run.Run.{Run}
 use Rattle.first_form.specs.Among.{Among}
-use Rattle.first_form.specs.Programs.{Program}
-use Rattle.first_form.specs.Meaning.{answers_of, run_of}
-use Rattle.first_form.specs.Paths.{taken, paths_of}
+use Rattle.first_runs.specs.Programs.{Program}
+use Rattle.first_runs.specs.Meaning.{answers_of, run_of}
+use Rattle.first_runs.specs.Paths.{taken, paths_of}
 use Rattle.first_form.specs.Facts.{facts_shown}
 use Rattle.first_form.specs.Verdicts.{words_of}
 use Rattle.first_form.specs.Candidates.{IsCandidate, PathFits, PathHolds, IsOfPath, GivesCandidate, AreCandidates}

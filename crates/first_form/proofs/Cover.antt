@@ -2,13 +2,13 @@
 use Rattle.std.proofs.Common.{◌≡◌, ◌≢◌, ◌<◌, ◌≤◌, ◌+◌, ℕ, ℤ, Bool, true, false, List, [], ◌∷◌, ◌++◌, Some, refl, sym, ap, ◌∙◌, subst, arith, inl, inr, ◌⊎◌}
 use Rattle.std.specs.Prelude.{map, ◌==◌, ◌||◌, if◌then◌else◌, is_some}
 use Rattle.std.proofs.lemmas.Bool.Decides.{nat_tests}
-use Rattle.first_form.specs.declared.tree.Stmt.{Stmt}
+use Rattle.first_runs.specs.declared.tree.Stmt.{Stmt}
 use Rattle.first_form.specs.Among.{Among}
-use Rattle.first_form.specs.Programs.{Program}
-use Rattle.first_form.specs.Meaning.{Answers, Meaning, Paths, meaning, running, in_turn, rooms, all_literals, nothing, choice, tests, prints, text_of, and_place, ways_in_turn, all_going, all_returned, call_room, first_place, at_start, ending, run_of}
-use Rattle.first_form.specs.Paths.{taken, paths_of}
-use Rattle.first_form.specs.declared.meaning.Standing.{Standing}
-use Rattle.first_form.proofs.Cases.{Each, induct, meaning-empty, meaning-block, meaning-if, meaning-if_else, meaning-print, meaning-return}
+use Rattle.first_runs.specs.Programs.{Program}
+use Rattle.first_runs.specs.Meaning.{Answers, Meaning, Paths, meaning, running, in_turn, rooms, all_literals, nothing, choice, tests, prints, text_of, and_place, ways_in_turn, all_going, all_returned, call_room, first_place, at_start, ending, run_of}
+use Rattle.first_runs.specs.Paths.{taken, paths_of}
+use Rattle.first_runs.specs.declared.meaning.Standing.{Standing}
+use Rattle.first_runs.proofs.Cases.{Each, induct, meaning-empty, meaning-block, meaning-if, meaning-if_else, meaning-print, meaning-return}
 
 -- ---- elements
 

@@ -1,6 +1,4 @@
 pub mod Collected
-pub mod Cases
-pub mod Ways
 pub mod Cover
 mod LogLines
 mod FactOrder

@@ -6,7 +6,7 @@ use mathlib.Core.Bool.{beq}
 use Rattle.std.specs.Prelude.{not, slice_get, remove}
 use Rattle.bit_words.specs.declared.fact.Fact.{Fact}
 use Rattle.first_form.specs.Among.{Among}
-use Rattle.first_form.specs.Programs.{Program}
+use Rattle.first_runs.specs.Programs.{Program}
 use Rattle.first_form.specs.Candidates.{Answers, IsFirstWith, Finds, AreCandidates, Grows, FindsListed, Moves}
 use Rattle.first_form.specs.declared.candidate.Candidate.{Candidate}
 use Rattle.first_form.specs.declared.listing.Listing.{Listing}

@@ -2,7 +2,7 @@
 use Rattle.std.proofs.Common.{◌≡◌, ℕ, List, [], ◌∷◌, refl, ◌⊎◌, inl, inr, ◌++◌, append_assoc}
 use Rattle.bit_words.specs.declared.fact.Fact.{Fact}
 use Rattle.c_tree.specs.PlaceTables.{PlaceTable}
-use Rattle.first_form.specs.declared.verdict.Verdict.{Verdict}
+use Rattle.first_runs.specs.declared.verdict.Verdict.{Verdict}
 use Rattle.first_form.specs.Reports.{fact_lines}
 
 pub no_lines : (places : PlaceTable) (number : ℕ) (facts : List Fact) (verdicts : List Verdict) → (facts ≡ []) ⊎ (verdicts ≡ []) → fact_lines places number facts verdicts ≡ []

@@ -11,8 +11,8 @@ use Rattle.c_tree.specs.PlaceTables.{PlaceTable}
 use Rattle.first_form.specs.Lines.{line_of}
 use Rattle.first_form.specs.Facts.{shown_at_end}
 use Rattle.first_form.specs.Reports.{Text, count_text, total_text, found_lines}
-use Rattle.first_form.specs.declared.verdict.Verdict.TheVariants.{Must, MustNot, May}
-use Rattle.first_form.specs.declared.verdict.Findings.{Findings}
+use Rattle.first_runs.specs.declared.verdict.Verdict.TheVariants.{Must, MustNot, May}
+use Rattle.first_runs.specs.declared.verdict.Findings.{Findings}
 
 abbrev four_lines : Text
 four_lines = codes "ab\nabab\n\nc"

@@ -5,14 +5,15 @@ use Rattle.std.specs.List.{AllZip}
 use Rattle.bit_words.specs.Worlds.{WorldTables}
 use Rattle.bit_words.specs.declared.fact.Fact.{Fact}
 use Rattle.first_form.specs.Among.{Among}
-use Rattle.first_form.specs.Programs.{Program}
+use Rattle.first_runs.specs.Programs.{Program}
 use Rattle.first_form.specs.Verdicts.{Words, words_of, Fits, Holds, IsFirst, IsJust, AreJust}
 use Rattle.first_form.specs.Facts.{facts_of}
-use Rattle.first_form.specs.Candidates.{IsFirstWith, AreCandidates, IsListing, Grows, FindsListed, Moves, worlds_of, IsJustFrom, AreJustFrom, GivesVerdict}
+use Rattle.first_form.specs.Candidates.{IsFirstWith, AreCandidates, IsListing, Grows, FindsListed, Moves, worlds_of, IsJustFrom, AreJustFrom}
+use Rattle.first_runs.specs.Judging.{GivesVerdict}
 use Rattle.first_form.specs.declared.candidate.Candidate.{Candidate}
 use Rattle.first_form.specs.declared.listing.Listing.{Listing}
-use Rattle.first_form.specs.declared.verdict.Verdict.{Verdict}
-use Rattle.first_form.specs.declared.verdict.Verdict.TheVariants.{Must, MustNot, May}
+use Rattle.first_runs.specs.declared.verdict.Verdict.{Verdict}
+use Rattle.first_runs.specs.declared.verdict.Verdict.TheVariants.{Must, MustNot, May}
 use Rattle.first_form.proofs.Cover.{among_left}
 use Rattle.first_form.proofs.Listings.{get-append, get_within, among_at, some_is, grows_both}
 use Rattle.std.proofs.lemmas.List.{take_more}

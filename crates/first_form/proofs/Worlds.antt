@@ -3,9 +3,9 @@ use Rattle.std.proofs.Common.{◌≡◌, ◌≢◌, ◌%◌, ◌^◌, ℕ, Bool,
 use Rattle.std.specs.Prelude.{map, ◌==◌, not, if◌then◌else◌}
 use Rattle.std.proofs.lemmas.Bool.Decides.{nat_tests}
 use Rattle.bit_words.specs.Worlds.{Table, value_at, Sets}
-use Rattle.first_form.specs.Programs.{Program}
-use Rattle.first_form.specs.Meaning.{Answers, answers_of, run_of, ending, meaning, first_place, at_start, and_place}
-use Rattle.first_form.specs.Paths.{taken}
+use Rattle.first_runs.specs.Programs.{Program}
+use Rattle.first_runs.specs.Meaning.{Answers, answers_of, run_of, ending, meaning, first_place, at_start, and_place}
+use Rattle.first_runs.specs.Paths.{taken}
 use Rattle.first_form.proofs.Cover.{frames-turn, all_sound, taken-other, taken-here}
 
 -- the word at each place along a path

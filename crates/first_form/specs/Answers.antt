@@ -1,16 +1,12 @@
 -- What the calls of this crate answer.
 use Rattle.std.specs.Prelude.{◌≡◌, ℕ, List, Bool, true, false}
-use Rattle.first_form.specs.declared.tree.Unit.{Unit as UnitType}
-use Rattle.first_form.specs.Programs.{Program}
+use Rattle.first_runs.specs.declared.tree.Unit.{Unit as UnitType}
+use Rattle.first_runs.specs.Programs.{program_in}
 use Rattle.first_form.specs.Verdicts.{Diagnoses}
 use Rattle.first_form.specs.Reports.{report_of}
-use Rattle.first_form.specs.declared.verdict.Diagnosis.{Diagnosis}
-use Rattle.first_form.specs.declared.verdict.Diagnosis.TheVariants.{Found, Nothing}
+use Rattle.first_runs.specs.declared.verdict.Diagnosis.{Diagnosis}
+use Rattle.first_runs.specs.declared.verdict.Diagnosis.TheVariants.{Found, Nothing}
 use Rattle.first_form.specs.declared.diagnose.Answer.{Answer}
-
--- the program of a unit
-abbrev pub program_in : UnitType → Program
-program_in unit = record { functions = unit.functions; body = unit.body }
 
 abbrev pub is_found : Diagnosis → Bool
 is_found (Found findings) = true

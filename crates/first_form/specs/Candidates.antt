@@ -4,13 +4,13 @@ use Rattle.std.specs.List.{AllZip}
 use Rattle.bit_words.specs.Worlds.{WorldTables}
 use Rattle.bit_words.specs.declared.fact.Fact.{Fact}
 use Rattle.first_form.specs.Among.{Among}
-use Rattle.first_form.specs.Programs.{Program}
-use Rattle.first_form.specs.Meaning.{run_of}
-use Rattle.first_form.specs.Paths.{taken}
+use Rattle.first_runs.specs.Programs.{Program}
+use Rattle.first_runs.specs.Meaning.{run_of}
+use Rattle.first_runs.specs.Paths.{taken}
 use Rattle.first_form.specs.Facts.{facts_shown}
 use Rattle.first_form.specs.Verdicts.{Words, words_of, Fits, Holds, IsJust}
-use Rattle.first_form.specs.declared.verdict.Verdict.{Verdict}
-use Rattle.first_form.specs.declared.verdict.Verdict.TheVariants.{Must, MustNot, May}
+use Rattle.first_runs.specs.declared.verdict.Verdict.{Verdict}
+use Rattle.first_runs.specs.declared.verdict.Verdict.TheVariants.{Must, MustNot, May}
 use Rattle.first_form.specs.declared.candidate.Candidate.{Candidate}
 use Rattle.first_form.specs.declared.listing.Listing.{Listing}
 
@@ -95,9 +95,3 @@ IsJustFrom old new fact verdict = (p : Program) (log : List ℕ) → IsListing p
 
 abbrev pub AreJustFrom : Listing → Listing → List Fact → List Verdict → Type 0
 AreJustFrom old new facts verdicts = (p : Program) (log : List ℕ) → IsListing p log old → AllZip (IsJust p log (worlds_of new.listed)) facts verdicts
-
--- must where none lacks the fact, mustnot where none has it, and else may by the first of each
-abbrev pub GivesVerdict : Option ℕ → Option ℕ → Verdict → Type 0
-GivesVerdict having None verdict = verdict ≡ Must
-GivesVerdict None (Some lacking) verdict = verdict ≡ MustNot
-GivesVerdict (Some having) (Some lacking) verdict = verdict ≡ May (having + 1) (lacking + 1)

@@ -8,10 +8,10 @@ use Rattle.bit_words.specs.declared.run.Finish.TheVariants as finish
 use Rattle.bit_words.specs.declared.run.Run.{Run}
 use Rattle.bit_words.specs.declared.fact.Fact.{Fact}
 use Rattle.bit_words.specs.declared.fact.Fact.TheVariants as fact
-use Rattle.first_form.specs.declared.tree.Stmt.{Stmt, fold-Stmt}
-use Rattle.first_form.specs.declared.tree.Stmt.TheOpen.{Stmt-F, Empty, Block, If, Print, Return}
-use Rattle.first_form.specs.Programs.{Program}
-use Rattle.first_form.specs.Meaning.{text_of}
+use Rattle.first_runs.specs.declared.tree.Stmt.{Stmt, fold-Stmt}
+use Rattle.first_runs.specs.declared.tree.Stmt.TheOpen.{Stmt-F, Empty, Block, If, Print, Return}
+use Rattle.first_runs.specs.Programs.{Program}
+use Rattle.first_runs.specs.Meaning.{text_of}
 use Rattle.first_form.specs.Lines.{line_of, lines_with}
 
 abbrev pub joined : List (List Fact) → List Fact

@@ -27,11 +27,12 @@ use Rattle.c_tree.specs.declared.unit.Body.{Body}
 use Rattle.c_tree.specs.declared.unit.Body.TheVariants as body
 use Rattle.c_tree.specs.declared.unit.External.{External}
 use Rattle.c_tree.specs.declared.unit.External.TheVariants as external
-use Rattle.first_form.specs.declared.tree.Stmt.{Stmt, fold-Stmt as fold}
-use Rattle.first_form.specs.declared.tree.Stmt.TheVariants as stmt
-use Rattle.first_form.specs.declared.tree.Stmt.TheOpen as open_
-use Rattle.first_form.specs.declared.tree.Declaration.{Declaration}
-use Rattle.first_form.specs.Programs.{Program}
+use Rattle.first_runs.specs.declared.tree.Stmt.{Stmt, fold-Stmt as fold}
+use Rattle.first_runs.specs.declared.tree.Stmt.TheVariants as stmt
+use Rattle.first_runs.specs.declared.tree.Stmt.TheOpen as open_
+use Rattle.first_runs.specs.declared.tree.Declaration.{Declaration}
+use Rattle.first_runs.specs.Programs.{Program}
+use Rattle.first_runs.specs.Names.{is_printf, is_main, is_left_out, is_declared, is_outside}
 use Rattle.first_form.specs.declared.form.FormFault.{FormFault}
 use Rattle.first_form.specs.declared.form.FormFault.TheVariants as fault
 use Rattle.first_form.specs.declared.form.Size.{Size}
@@ -68,25 +69,6 @@ DeclaratorLayer = syntax.Declarator-F Declarator Expr Field Specifier Enumerator
 
 abbrev pub ParameterLayer : Type 0
 ParameterLayer = syntax.Parameter-F Declarator Expr Field Specifier Enumerator MemberDeclaration Parameter TypeName
-
--- ---- names
-
-abbrev pub is_printf : List ℕ → Bool
-is_printf name = bytes_eq name (codes "printf")
-
-abbrev pub is_main : List ℕ → Bool
-is_main name = bytes_eq name (codes "main")
-
--- functions to which C gives a meaning that this form leaves out
-abbrev pub is_left_out : List ℕ → Bool
-is_left_out name = bytes_eq name (codes "fprintf") || bytes_eq name (codes "puts") || bytes_eq name (codes "fputs") || bytes_eq name (codes "gettext")
-
-abbrev pub is_declared : List Declaration → List ℕ → Bool
-is_declared functions name = list_any (λ one. bytes_eq one.name name) functions
-
--- a declared function other than `printf`
-abbrev pub is_outside : List Declaration → List ℕ → Bool
-is_outside functions name = not (is_printf name) && is_declared functions name
 
 -- ---- expressions (C99 6.5)
 

@@ -1,7 +1,4 @@
-pub mod Programs
 pub mod Form
-pub mod Meaning
-pub mod Paths
 pub mod Lines
 pub mod LineTable
 pub mod Facts

@@ -12,16 +12,17 @@ use Rattle.bit_words.specs.declared.fact.Fact.{Fact}
 use Rattle.bit_words.specs.declared.fact.Fact.TheVariants as fact
 use Rattle.c_lexer.specs.declared.token.Place.{Place}
 use Rattle.c_tree.specs.PlaceTables.{PlaceTable, place_at, file_at}
-use Rattle.first_form.specs.declared.tree.Stmt.{Stmt, fold-Stmt}
-use Rattle.first_form.specs.declared.tree.Stmt.TheOpen.{Stmt-F, Empty, Block, If, Print, Return}
-use Rattle.first_form.specs.Programs.{Program}
+use Rattle.first_runs.specs.declared.tree.Stmt.{Stmt, fold-Stmt}
+use Rattle.first_runs.specs.declared.tree.Stmt.TheOpen.{Stmt-F, Empty, Block, If, Print, Return}
+use Rattle.first_runs.specs.Programs.{Program}
+use Rattle.first_runs.specs.Judging.{verdict_text}
 use Rattle.first_form.specs.Lines.{line_count}
 use Rattle.first_form.specs.Facts.{facts_of}
-use Rattle.first_form.specs.declared.verdict.Verdict.{Verdict}
-use Rattle.first_form.specs.declared.verdict.Verdict.TheVariants.{Must, MustNot, May}
-use Rattle.first_form.specs.declared.verdict.Findings.{Findings}
-use Rattle.first_form.specs.declared.verdict.Diagnosis.{Diagnosis}
-use Rattle.first_form.specs.declared.verdict.Diagnosis.TheVariants.{Found, Nothing}
+use Rattle.first_runs.specs.declared.verdict.Verdict.{Verdict}
+use Rattle.first_runs.specs.declared.verdict.Verdict.TheVariants.{Must, MustNot, May}
+use Rattle.first_runs.specs.declared.verdict.Findings.{Findings}
+use Rattle.first_runs.specs.declared.verdict.Diagnosis.{Diagnosis}
+use Rattle.first_runs.specs.declared.verdict.Diagnosis.TheVariants.{Found, Nothing}
 
 abbrev pub Text : Type 0
 Text = List ℕ
@@ -45,11 +46,6 @@ fact_text places (fact.Branch at side) = codes "branch " ++ (at_text places at +
 fact_text places (fact.Call at) = codes "call " ++ at_text places at
 fact_text places (fact.Print at line) = codes "print " ++ (at_text places at ++ (codes " line " ++ decimal line))
 fact_text places _ = codes "return"
-
-abbrev pub verdict_text : Verdict → Text
-verdict_text Must = codes "must "
-verdict_text MustNot = codes "mustnot "
-verdict_text (May having lacking) = codes "may " ++ (decimal having ++ (codes " " ++ (decimal lacking ++ codes " ")))
 
 abbrev pub fact_line : PlaceTable → ℕ → Fact → Verdict → Text
 fact_line places number fact verdict = codes "fact " ++ (decimal number ++ (codes " " ++ (verdict_text verdict ++ (fact_text places fact ++ codes "\n"))))

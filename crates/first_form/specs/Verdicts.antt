@@ -4,14 +4,14 @@ use Rattle.std.specs.List.{AllZip}
 use Rattle.bit_words.specs.Worlds.{WorldTables, value_at}
 use Rattle.bit_words.specs.declared.fact.Fact.{Fact}
 use Rattle.first_form.specs.Among.{Among}
-use Rattle.first_form.specs.Programs.{Program}
-use Rattle.first_form.specs.Meaning.{answers_of, run_of}
+use Rattle.first_runs.specs.Programs.{Program}
+use Rattle.first_runs.specs.Meaning.{answers_of, run_of}
 use Rattle.first_form.specs.Facts.{facts_of, facts_shown}
-use Rattle.first_form.specs.declared.verdict.Verdict.{Verdict}
-use Rattle.first_form.specs.declared.verdict.Verdict.TheVariants.{Must, MustNot, May}
-use Rattle.first_form.specs.declared.verdict.Findings.{Findings}
-use Rattle.first_form.specs.declared.verdict.Diagnosis.{Diagnosis}
-use Rattle.first_form.specs.declared.verdict.Diagnosis.TheVariants.{Found, Nothing}
+use Rattle.first_runs.specs.declared.verdict.Verdict.{Verdict}
+use Rattle.first_runs.specs.declared.verdict.Verdict.TheVariants.{Must, MustNot, May}
+use Rattle.first_runs.specs.declared.verdict.Findings.{Findings}
+use Rattle.first_runs.specs.declared.verdict.Diagnosis.{Diagnosis}
+use Rattle.first_runs.specs.declared.verdict.Diagnosis.TheVariants.{Found, Nothing}
 
 -- the words of a world by place; no more of a world matters to this form
 abbrev pub Words : Type 0

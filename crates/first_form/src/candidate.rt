@@ -1,17 +1,15 @@
 //! Worlds that fit, each with the facts that hold over it.
 ghost use Rattle.std.specs.Prelude.{◌≡◌, ◌++◌, IfOk, OnOk, ℕ, option_to_list};
 ghost use Rattle.first_form.specs.Candidates.{GivesCandidate, AreCandidates};
-ghost use Rattle.first_form.specs.Meaning.{answers_of};
-ghost use Rattle.first_form.specs.Paths.{taken};
+ghost use Rattle.first_runs.specs.Meaning.{answers_of};
+ghost use Rattle.first_runs.specs.Paths.{taken};
 ghost use Rattle.first_form.specs.Verdicts.{words_of};
-ghost use Rattle.first_form.specs.Answers.{program_in};
+ghost use Rattle.first_runs.specs.Programs.{program_in};
 
 use crate::lines::LogLines;
-use crate::meaning::run_of;
-use crate::paths::{Path, list_paths};
 use crate::shown::{FactSet, shown};
-use crate::tree::Unit;
 use bit_words::{World, WorldFault};
+use first_runs::{Path, Unit, fits, list_paths, run_of};
 use plain_data::Items;
 use std::alloc::{AllocError, Global};
 
@@ -47,7 +45,7 @@ fn of_path(
 {
     let world = world_of(alloc, path)?;
     let run = run_of(alloc, unit, &world)?;
-    if run.printed.as_slice() != lines.log() {
+    if !fits(run.printed.as_slice(), lines.log()) {
         return Ok(None);
     }
     let facts = shown(alloc, &run, lines)?;

@@ -6,10 +6,9 @@ ghost use Rattle.first_form.specs.Answers as spec;
 use crate::facts::facts_of;
 use crate::lines::LogLines;
 use crate::report::report;
-use crate::tree::Unit;
-use crate::verdict::Diagnosis;
 use crate::weigh::weigh;
 use bit_words::Bytes;
+use first_runs::{Diagnosis, Unit};
 use std::alloc::{AllocError, Global};
 
 /// A report, and whether a world was found that fits.

@@ -5,9 +5,8 @@ ghost use Rattle.first_form.specs.Facts as spec;
 ghost use Rattle.first_form.specs.Facts.{stmt_facts, joined};
 
 use crate::lines::LogLines;
-use crate::meaning::text_of;
-use crate::tree::Stmt;
 use bit_words::{Fact, Side};
+use first_runs::{Stmt, text_of};
 use plain_data::{Items, Shared};
 use std::alloc::{AllocError, Global};
 

@@ -3,12 +3,14 @@ ghost use Rattle.std.specs.Prelude.{◌≡◌, IfSome, IfOk, MatchOption, map, [
 ghost use Rattle.first_form.specs.Form as spec;
 ghost use Rattle.first_form.specs.Form.{Gives};
 
-use crate::tree::{Declaration, Stmt, Unit};
 use bit_words::Bytes;
 use c_lexer::{IntegerConstant, IntegerType};
 use c_tree::{
     Body, Declarator, Expr, External, InitDeclarator, Parameter, Qualifier, Specifier,
     Stmt as Source, TypeWord,
+};
+use first_runs::{
+    Declaration, Stmt, Unit, is_declared, is_left_out, is_main, is_outside, is_printf,
 };
 use plain_data::{Items, Shared};
 use std::alloc::{AllocError, Global};
@@ -49,42 +51,6 @@ const MAX_CHOICES: u64 = 12;
 
 /// The greatest int.
 const MAX_INT: u64 = 2_147_483_647;
-
-fn is_printf(name: &[u8]) -> bool
-    ensures { result ≡ spec.is_printf name.now }
-{
-    name == b"printf".as_slice()
-}
-
-fn is_main(name: &[u8]) -> bool
-    ensures { result ≡ spec.is_main name.now }
-{
-    name == b"main".as_slice()
-}
-
-/// Whether C gives the function a meaning that this form leaves out.
-fn is_left_out(name: &[u8]) -> bool
-    ensures { result ≡ spec.is_left_out name.now }
-{
-    name == b"fprintf".as_slice()
-        || name == b"puts".as_slice()
-        || name == b"fputs".as_slice()
-        || name == b"gettext".as_slice()
-}
-
-fn is_declared(functions: &[Declaration], name: &[u8]) -> bool
-    ensures { result ≡ spec.is_declared functions.now name.now }
-{
-    functions
-        .iter()
-        .any(|one| one.name.get().as_slice() == name)
-}
-
-fn is_outside(functions: &[Declaration], name: &[u8]) -> bool
-    ensures { result ≡ spec.is_outside functions.now name.now }
-{
-    !is_printf(name) && is_declared(functions, name)
-}
 
 /// A name, with its place in the source.
 #[tactic(auto, unfolding(crate::specs::Form::name_of))]

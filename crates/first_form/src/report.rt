@@ -1,15 +1,13 @@
 //! The report on a source and a log, as bytes.
 ghost use Rattle.std.specs.Prelude.{◌≡◌, ◌++◌, map, codes, count_by, IfOk};
 ghost use Rattle.std.specs.List.{flat_map};
-ghost use Rattle.first_form.specs.Answers.{program_in};
+ghost use Rattle.first_runs.specs.Programs.{program_in};
 ghost use Rattle.first_form.specs.Reports as spec;
 
 use crate::lines::line_count;
-use crate::text::put_number;
-use crate::tree::{Stmt, Unit};
-use crate::verdict::{Diagnosis, Findings, Verdict};
 use bit_words::{Bytes, Fact, Side, World};
 use c_lexer::Name;
+use first_runs::{Diagnosis, Findings, Stmt, Unit, Verdict, put_number, put_verdict};
 use plain_data::{Items, Shared};
 use std::alloc::{AllocError, Global};
 use std::collections::BTreeSet;
@@ -55,22 +53,6 @@ fn put_fact(text: &mut Bytes, unit: &Unit, fact: &Fact) -> Result<(), AllocError
             put_number(text, u64::from(*line))
         }
         _ => text.extend_from_slice(b"return"),
-    }
-}
-
-fn put_verdict(text: &mut Bytes, verdict: &Verdict) -> Result<(), AllocError>
-    ensures { IfOk result (λ _. text.new ≡ text.old ++ spec.verdict_text verdict.now) }
-{
-    match verdict {
-        Verdict::Must => text.extend_from_slice(b"must "),
-        Verdict::MustNot => text.extend_from_slice(b"mustnot "),
-        Verdict::May { having, lacking } => {
-            text.extend_from_slice(b"may ")?;
-            put_number(text, u64::from(*having))?;
-            text.push(b' ')?;
-            put_number(text, u64::from(*lacking))?;
-            text.push(b' ')
-        }
     }
 }
 

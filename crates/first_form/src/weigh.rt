@@ -1,45 +1,17 @@
 //! Verdicts, taken from the candidates of all paths.
-ghost use Rattle.std.specs.Prelude.{◌≡◌, ◌+◌, ◌<◌, length, slice_get, Some, OnOk, IfOk};
-ghost use Rattle.first_form.specs.Candidates.{Grows, IsJustFrom, AreJustFrom, FindsListed, worlds_of, GivesVerdict};
+ghost use Rattle.std.specs.Prelude.{◌≡◌, ◌<◌, length, slice_get, Some, OnOk, IfOk};
+ghost use Rattle.first_form.specs.Candidates.{Grows, IsJustFrom, AreJustFrom, FindsListed, worlds_of};
 ghost use Rattle.first_form.specs.Facts as spec;
 ghost use Rattle.first_form.specs.Verdicts.{Diagnoses};
-ghost use Rattle.first_form.specs.Answers.{program_in};
+ghost use Rattle.first_runs.specs.Programs.{program_in};
 
 use crate::candidate::{Candidate, all_candidates};
 use crate::lines::LogLines;
 use crate::listing::{Listing, find, move_up};
-use crate::tree::Unit;
-use crate::verdict::{Diagnosis, Findings, Verdict};
 use bit_words::{Fact, World};
+use first_runs::{Diagnosis, Findings, Unit, Verdict, verdict_from};
 use plain_data::Items;
 use std::alloc::{AllocError, Global};
-
-/// The number of a world, from 1.
-fn number(index: usize) -> Result<u32, AllocError>
-    ensures { IfOk result (λ n. n ≡ index + 1) }
-{
-    if index < u32::MAX as usize {
-        Ok(index as u32 + 1)
-    } else {
-        Err(AllocError)
-    }
-}
-
-/// The verdict where the first listed worlds that have a fact and that lack it are these.
-fn verdict_from(having: Option<usize>, lacking: Option<usize>) -> Result<Verdict, AllocError>
-    ensures { IfOk result (λ verdict. GivesVerdict having lacking verdict) }
-{
-    match lacking {
-        None => Ok(Verdict::Must),
-        Some(lacking) => match having {
-            None => Ok(Verdict::MustNot),
-            Some(having) => Ok(Verdict::May {
-                having: number(having)?,
-                lacking: number(lacking)?,
-            }),
-        },
-    }
-}
 
 /// The verdict on a fact, for which worlds are listed as they are wanted.
 fn weigh_fact(listing: &mut Listing, fact: &Fact) -> Result<Verdict, AllocError>

@@ -5,7 +5,7 @@ use cnf_core::Formula;
 use proof_check::{Checker, Refutation, StepFault, Steps};
 use std::alloc::Global;
 use std::rt::Clock;
-use std::time::Instant;
+use std::time::{Duration, Instant};
 
 /// A formula, and on the lines after it the steps of a refutation.
 fn read_instance(alloc: Global, text: &str) -> Result<(Formula, Refutation)> {
@@ -25,11 +25,37 @@ fn said(alloc: Global, verdict: Result<(), StepFault>) -> Result<String> {
     }
 }
 
+/// What the checker says of a refutation of a formula.
+fn judged(alloc: Global, formula: &Formula, refutation: &Refutation) -> Result<String> {
+    let mut checker = Checker::with_room(alloc, formula, refutation)?;
+    said(alloc, checker.check(formula, refutation))
+}
+
 /// The answer to a row.
 pub fn answer(alloc: Global, row: &str) -> Result<String> {
     let (formula, refutation) = read_instance(alloc, row)?;
-    let mut checker = Checker::with_room(alloc, &formula, &refutation)?;
-    said(alloc, checker.check(&formula, &refutation))
+    judged(alloc, &formula, &refutation)
+}
+
+/// What the checker says of an instance, and when that was known.
+fn judged_by(
+    rt: &impl Clock,
+    alloc: Global,
+    start: Instant,
+    formula: &Formula,
+    refutation: &Refutation,
+) -> Result<(String, Duration)> {
+    let answer = judged(alloc, formula, refutation)?;
+    Ok((answer, start.elapsed(rt)?))
+}
+
+/// The answer to a formula and a refutation, and how long parsing took, and that with checking.
+fn timed(rt: &impl Clock, alloc: Global, text: &str) -> Result<(String, Duration, Duration)> {
+    let start = Instant::now(rt)?;
+    let (formula, refutation) = read_instance(alloc, text)?;
+    let parsed = start.elapsed(rt)?;
+    let (answer, checked) = judged_by(rt, alloc, start, &formula, &refutation)?;
+    Ok((answer, parsed, checked))
 }
 
 /// Prints the answer to a formula and a refutation, and on standard error, where it is asked for, how long that took.
@@ -39,13 +65,7 @@ pub fn check(
     text: &str,
     times: bool,
 ) -> Result<()> {
-    let start = Instant::now(rt)?;
-    let (formula, refutation) = read_instance(alloc, text)?;
-    let parsed = start.elapsed(rt)?;
-    let mut checker = Checker::with_room(alloc, &formula, &refutation)?;
-    let verdict = checker.check(&formula, &refutation);
-    let checked = start.elapsed(rt)?;
-    let answer = said(alloc, verdict)?;
+    let (answer, parsed, checked) = timed(rt, alloc, text)?;
     print!(rt; "{answer}")?;
     if times {
         let (parsed, checked) = (parsed.as_micros(), checked.as_micros());

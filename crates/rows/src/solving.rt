@@ -115,12 +115,36 @@ fn asked(
     examined(alloc, formula, &whole, answer)
 }
 
+/// The answers of a solver to all questions, in order.
+fn ask_all(
+    alloc: Global,
+    solver: &mut Solver,
+    formula: &Formula,
+    questions: &[Question],
+) -> Result<Vec<Verdict>> {
+    let mut verdicts = Vec::new(alloc);
+    for question in questions {
+        verdicts.push(asked(alloc, solver, formula, question)?)?;
+    }
+    Ok(verdicts)
+}
+
+/// The answers of one solver to all questions about a formula.
+fn examine_all(alloc: Global, formula: &Formula, questions: &[Question]) -> Result<Vec<Verdict>> {
+    let mut solver = solver_of(alloc, formula)?;
+    ask_all(alloc, &mut solver, formula, questions)
+}
+
+/// The answers to a text's questions about its formula.
+fn verdicts_of(alloc: Global, text: &str, usual: u32) -> Result<Vec<Verdict>> {
+    let (formula, questions) = read_questions(alloc, text, usual)?;
+    examine_all(alloc, &formula, &questions)
+}
+
 /// Prints the answers of one solver to all questions, in order: `sat`, or `unsat` or `spent` with the number of steps.
 pub fn solve(rt: &impl Print, alloc: Global, text: &str, conflicts: u32) -> Result<()> {
-    let (formula, questions) = read_questions(alloc, text, conflicts)?;
-    let mut solver = solver_of(alloc, &formula)?;
-    for question in &questions {
-        match asked(alloc, &mut solver, &formula, question)? {
+    for verdict in &verdicts_of(alloc, text, conflicts)? {
+        match verdict {
             Verdict::Sat => println!(rt; "sat")?,
             Verdict::Unsat(steps) => println!(rt; "unsat {steps}")?,
             Verdict::Spent(trail) => println!(rt; "spent {}", trail.steps().len())?,
@@ -141,20 +165,25 @@ fn are_different(steps: &Steps) -> bool {
     true
 }
 
-/// The answers to a table's row: `sat`, `unsat`, or `spent` with the number of steps, of which no two are the same.
-pub fn answer(alloc: Global, row: &str) -> Result<String> {
-    let (formula, questions) = read_questions(alloc, row, 0)?;
-    let mut solver = solver_of(alloc, &formula)?;
-    let mut out = String::new(alloc);
-    for question in &questions {
-        match asked(alloc, &mut solver, &formula, question)? {
-            Verdict::Sat => writeln!(&mut out, "sat")?,
-            Verdict::Unsat(_) => writeln!(&mut out, "unsat")?,
-            Verdict::Spent(trail) => {
-                ensure!(are_different(trail.steps()), "a clause is learnt twice");
-                writeln!(&mut out, "spent {}", trail.steps().len())?;
-            }
+/// Puts a row's answer at the end: `sat`, `unsat`, or `spent` with the number of steps, of which no two are the same.
+fn put_verdict(out: &mut String, verdict: &Verdict) -> Result<()> {
+    match verdict {
+        Verdict::Sat => out.push_str("sat\n")?,
+        Verdict::Unsat(_) => out.push_str("unsat\n")?,
+        Verdict::Spent(trail) => {
+            ensure!(are_different(trail.steps()), "a clause is learnt twice");
+            writeln!(out, "spent {}", trail.steps().len())?;
         }
+    }
+    Ok(())
+}
+
+/// The answers to a table's row.
+pub fn answer(alloc: Global, row: &str) -> Result<String> {
+    let verdicts = verdicts_of(alloc, row, 0)?;
+    let mut out = String::new(alloc);
+    for verdict in &verdicts {
+        put_verdict(&mut out, verdict)?;
     }
     Ok(out)
 }

@@ -1,22 +1,12 @@
 //! sherlog: what a failed program must have done, may have done and can't have done, from its source and
-//! its log. This crate has the top call `run` and the program around it.
+//! its log. This crate is the program around the top call, `run` of the crate `command`.
 #![tactic(auto)]
 
-pub mod call;
-pub mod files;
-pub mod refusal;
-pub mod serving;
-pub mod source;
-pub mod streams;
-pub mod words;
-
-use call::run;
-use files::FileShelf;
-use refusal::{tell_memory, tell_usage};
+use command::{run, tell_memory, tell_usage};
+use sl_io::{FileShelf, StreamSink};
 use std::env;
 use std::io::ErrorKind;
 use std::process::ExitCode;
-use streams::StreamSink;
 
 /// Why there are no words.
 #[derive(Clone, Copy, Debug, PartialEq, Eq)]

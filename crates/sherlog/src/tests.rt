@@ -1,5 +1,5 @@
 //! Runs over files and sinks in memory that fail on demand. What the files of the system show stands in `checks/`.
-use crate::call::run;
+use command::run;
 use plain_data::Items;
 use sl_io::{FailShelf, FailSink, FailedWrite, MemShelf, MemSink};
 use std::alloc::Global;

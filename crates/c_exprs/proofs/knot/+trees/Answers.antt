@@ -1,5 +1,5 @@
 use Rattle.std.proofs.Common.{◌≡◌, ◌≤◌, ◌+◌, ◌-◌, IfOk, arith, subst}
-use Rattle.c_exprs.specs.Cursor.{state_of}
+use Rattle.c_reading.specs.Cursor.{state_of}
 use Rattle.c_exprs.proofs.Heights.{no_expr, no_specifier, no_declarator, next_expr, next_specifier, next_declarator}
 use Rattle.c_exprs.proofs.knot.+trees.Goals as goal
 

@@ -3,7 +3,7 @@ use Rattle.std.proofs.lemmas.Result.{err_from_is_err_and}
 use Rattle.c_lexer.specs.declared.token.Punctuator.TheVariants as mark
 use Rattle.c_grammar.specs.Reading as spec
 use Rattle.c_grammar.specs.UnitReading.{initializer_at}
-use Rattle.c_exprs.specs.Cursor.{here}
+use Rattle.c_reading.specs.Cursor.{here}
 use Rattle.c_parser.proofs.Declaring.{inits_next, inits_fail, inits_stop, inits_out}
 use Rattle.c_parser.proofs.declarations.more_inits.Goals as goal
 

@@ -1,7 +1,7 @@
 use Rattle.std.proofs.Common.{◌≡◌, length, suc}
 use Rattle.c_grammar.specs.Reading.{rules}
 use Rattle.c_grammar.specs.UnitReading.{initializer_at, more_inits_at}
-use Rattle.c_exprs.specs.Cursor.{here, after}
+use Rattle.c_reading.specs.Cursor.{here, after}
 use Rattle.c_parser.proofs.declarations.more_inits.Given as goal
 
 abbrev pub invariant-inits : goal.invariant-inits

@@ -2,7 +2,7 @@ use Rattle.std.proofs.Common.{◌≡◌, ◌-◌, true, false, arith, rules}
 use Rattle.std.proofs.lemmas.Result.{err_from_is_err_and}
 use Rattle.c_grammar.specs.Reading as spec
 use Rattle.c_grammar.specs.UnitReading.{designated}
-use Rattle.c_exprs.specs.Cursor.{here}
+use Rattle.c_reading.specs.Cursor.{here}
 use Rattle.c_parser.proofs.Initializing.{designators_next, designators_fail, designators_stop, designators_out}
 use Rattle.c_parser.proofs.designators.designators.Goals as goal
 

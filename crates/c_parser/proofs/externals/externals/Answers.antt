@@ -1,7 +1,7 @@
 use Rattle.std.proofs.Common.{◌≡◌, ◌-◌, true, false, arith, rules}
 use Rattle.std.proofs.lemmas.Result.{err_from_is_err_and}
 use Rattle.c_grammar.specs.UnitReading as spec
-use Rattle.c_exprs.specs.Cursor.{state_of}
+use Rattle.c_reading.specs.Cursor.{state_of}
 use Rattle.c_parser.proofs.UnitLists.{externals_next, externals_fail, externals_stop, externals_out}
 use Rattle.c_parser.proofs.externals.externals.Goals as goal
 

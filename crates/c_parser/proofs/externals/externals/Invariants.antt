@@ -1,6 +1,6 @@
 use Rattle.std.proofs.Common.{◌≡◌, length, drop, suc}
 use Rattle.c_grammar.specs.UnitReading.{externals_at}
-use Rattle.c_exprs.specs.Cursor.{state_of}
+use Rattle.c_reading.specs.Cursor.{state_of}
 use Rattle.c_parser.proofs.UnitLists.{added}
 use Rattle.c_parser.proofs.externals.externals.Given as goal
 

@@ -1,5 +1,5 @@
 use Rattle.std.proofs.Common.{◌-◌, arith}
-use Rattle.c_exprs.specs.Cursor.{state_of}
+use Rattle.c_reading.specs.Cursor.{state_of}
 use Rattle.c_parser.proofs.Levels.{at_zero, above}
 use Rattle.c_parser.proofs.statements.+statement.Goals as goal
 

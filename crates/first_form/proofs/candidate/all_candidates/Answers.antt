@@ -1,6 +1,6 @@
 use Rattle.std.proofs.Common.{◌≡◌, ◌+◌, ◌∷◌, ◌++◌, [], List, ℕ, take, ap, sym, ◌∙◌, subst}
 use Rattle.std.proofs.lemmas.List.{take_all, take_more}
-use Rattle.first_form.specs.Answers.{program_in}
+use Rattle.first_runs.specs.Programs.{program_in}
 use Rattle.first_form.specs.Candidates.{GivesCandidate}
 use Rattle.first_form.proofs.Candidates.{OfPaths, of_all, of_next}
 use Rattle.first_form.proofs.candidate.all_candidates.Goals as goal

@@ -1,5 +1,5 @@
 use Rattle.std.proofs.Common.{take}
-use Rattle.first_form.specs.Answers.{program_in}
+use Rattle.first_runs.specs.Programs.{program_in}
 use Rattle.first_form.proofs.Candidates.{OfPaths}
 use Rattle.first_form.proofs.candidate.all_candidates.Given as goal
 

@@ -1,5 +1,5 @@
 use Rattle.std.proofs.Common.{◌≡◌, rules}
-use Rattle.first_form.specs.Answers.{program_in}
+use Rattle.first_runs.specs.Programs.{program_in}
 use Rattle.first_form.proofs.Candidates.{of_path}
 use Rattle.first_form.proofs.candidate.of_path.Goals as goal
 

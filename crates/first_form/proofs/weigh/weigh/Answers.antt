@@ -1,4 +1,4 @@
-use Rattle.first_form.specs.Answers.{program_in}
+use Rattle.first_runs.specs.Programs.{program_in}
 use Rattle.first_form.proofs.Listings.{grows_moves}
 use Rattle.first_form.proofs.Weighs.{found}
 use Rattle.first_form.specs.declared.listing.Listing.{Listing}

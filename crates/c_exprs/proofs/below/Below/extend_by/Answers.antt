@@ -1,6 +1,6 @@
 use Rattle.std.proofs.Common.{◌≡◌, sym, ap, ◌∙◌}
 use Rattle.c_grammar.specs.Reading as spec
-use Rattle.c_exprs.specs.Cursor.{here}
+use Rattle.c_reading.specs.Cursor.{here}
 use Rattle.c_exprs.proofs.Extending.{others, gives_as}
 use Rattle.c_exprs.proofs.below.Below.extend_by.Goals as goal
 

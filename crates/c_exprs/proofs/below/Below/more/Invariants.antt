@@ -1,6 +1,6 @@
 use Rattle.std.proofs.Common.{◌≡◌, ◌≤◌, ◌+◌, length, suc}
 use Rattle.c_grammar.specs.Reading.{rules, more_at}
-use Rattle.c_exprs.specs.Cursor.{here}
+use Rattle.c_reading.specs.Cursor.{here}
 use Rattle.c_exprs.proofs.below.Below.more.Given as goal
 
 abbrev pub invariant-operators : goal.invariant-operators

@@ -1,6 +1,6 @@
 use Rattle.std.proofs.Common.{◌≡◌, ◌≤◌, length, suc}
 use Rattle.c_grammar.specs.Reading.{rules, more_arguments_at}
-use Rattle.c_exprs.specs.Cursor.{here, after}
+use Rattle.c_reading.specs.Cursor.{here, after}
 use Rattle.c_exprs.proofs.below.Below.more_arguments.Given as goal
 
 abbrev pub invariant-arguments : goal.invariant-arguments

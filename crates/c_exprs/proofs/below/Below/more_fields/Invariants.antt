@@ -1,6 +1,6 @@
 use Rattle.std.proofs.Common.{◌≡◌, ◌≤◌, length, suc}
 use Rattle.c_grammar.specs.Reading.{rules, more_fields_at}
-use Rattle.c_exprs.specs.Cursor.{here, after}
+use Rattle.c_reading.specs.Cursor.{here, after}
 use Rattle.c_exprs.proofs.below.Below.more_fields.Given as goal
 
 abbrev pub invariant-fields : goal.invariant-fields

@@ -1,6 +1,6 @@
 use Rattle.std.proofs.Common.{◌≡◌, ◌≤◌, length, suc, false}
 use Rattle.c_grammar.specs.Reading.{rules, more_parameters_at}
-use Rattle.c_exprs.specs.Cursor.{here, behind}
+use Rattle.c_reading.specs.Cursor.{here, behind}
 use Rattle.c_exprs.proofs.below.Below.more_parameters.Given as goal
 
 abbrev pub invariant-parameters : goal.invariant-parameters

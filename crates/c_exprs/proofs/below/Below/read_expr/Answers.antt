@@ -1,7 +1,7 @@
 use Rattle.std.proofs.Common.{◌≤◌, ◌<◌, suc, arith}
 use Rattle.std.proofs.lemmas.Result.{err_from_is_err_and}
 use Rattle.c_grammar.specs.Reading as spec
-use Rattle.c_exprs.specs.Cursor.{here}
+use Rattle.c_reading.specs.Cursor.{here}
 use Rattle.c_exprs.proofs.Climbing.{begins_not, ends, climbs, climbs_not}
 use Rattle.c_exprs.proofs.below.Below.read_expr.Goals as goal
 

@@ -1,6 +1,6 @@
 use Rattle.std.proofs.Common.{◌≡◌, ◌≤◌, ◌+◌, ◌-◌, suc, Some}
 use Rattle.c_grammar.specs.Reading.{rules, expr_by}
-use Rattle.c_exprs.specs.Cursor.{here}
+use Rattle.c_reading.specs.Cursor.{here}
 use Rattle.c_exprs.proofs.below.Below.read_expr.Given as goal
 
 abbrev pub invariant-ranks : goal.invariant-ranks

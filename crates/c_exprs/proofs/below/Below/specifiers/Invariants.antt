@@ -1,6 +1,6 @@
 use Rattle.std.proofs.Common.{◌≡◌, ◌≤◌, length, suc, false}
 use Rattle.c_grammar.specs.Reading.{rules, specifiers_at}
-use Rattle.c_exprs.specs.Cursor.{here, after}
+use Rattle.c_reading.specs.Cursor.{here, after}
 use Rattle.c_exprs.proofs.below.Below.specifiers.Given as goal
 
 abbrev pub invariant-specifiers : goal.invariant-specifiers

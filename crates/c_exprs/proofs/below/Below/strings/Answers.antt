@@ -1,6 +1,6 @@
 use Rattle.std.proofs.Common.{arith}
 use Rattle.std.proofs.lemmas.Result.{err_from_is_err_and}
-use Rattle.c_exprs.specs.Cursor.{here}
+use Rattle.c_reading.specs.Cursor.{here}
 use Rattle.c_exprs.proofs.Beginning.{literal_goes, literal_fails}
 use Rattle.c_exprs.proofs.below.Below.strings.Goals as goal
 

@@ -1,7 +1,7 @@
 use Rattle.std.proofs.Common.{◌≡◌, ◌-◌, ◌≤◌, ◌<◌, suc, true, false, arith, rules}
 use Rattle.std.proofs.lemmas.Result.{err_from_is_err_and}
 use Rattle.c_grammar.specs.Reading as spec
-use Rattle.c_exprs.specs.Cursor.{here}
+use Rattle.c_reading.specs.Cursor.{here}
 use Rattle.c_exprs.proofs.Suffixing.{suffixes_go, suffixes_high, suffixes_fail, suffixes_stop, suffixes_out}
 use Rattle.c_exprs.proofs.below.Below.suffixes.Goals as goal
 

@@ -1,6 +1,6 @@
 use Rattle.std.proofs.Common.{◌≡◌, ◌≤◌, ◌+◌, length, suc}
 use Rattle.c_grammar.specs.Reading.{rules, suffixes_at}
-use Rattle.c_exprs.specs.Cursor.{here}
+use Rattle.c_reading.specs.Cursor.{here}
 use Rattle.c_exprs.proofs.below.Below.suffixes.Given as goal
 
 abbrev pub invariant-suffixes : goal.invariant-suffixes

@@ -6,7 +6,7 @@ use Rattle.c_tree.specs.declared.unit.InitializerItem.{InitializerItem}
 use Rattle.c_grammar.specs.Parts.{State}
 use Rattle.c_grammar.specs.Reading.{Reading}
 use Rattle.c_grammar.specs.UnitReading.{initializer_at, more_items_at}
-use Rattle.c_exprs.specs.Cursor.{here, behind}
+use Rattle.c_reading.specs.Cursor.{here, behind}
 use Rattle.c_parser.proofs.Initializing.{items_next, items_fail, items_stop, items_close, items_out}
 use Rattle.c_parser.proofs.initializers.Inside.more_items.Goals as goal
 

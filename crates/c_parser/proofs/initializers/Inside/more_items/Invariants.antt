@@ -1,7 +1,7 @@
 use Rattle.std.proofs.Common.{◌≡◌, length, suc}
 use Rattle.c_grammar.specs.Reading.{rules}
 use Rattle.c_grammar.specs.UnitReading.{initializer_at, more_items_at}
-use Rattle.c_exprs.specs.Cursor.{here, behind}
+use Rattle.c_reading.specs.Cursor.{here, behind}
 use Rattle.c_parser.proofs.initializers.Inside.more_items.Given as goal
 
 abbrev pub invariant-items : goal.invariant-items

@@ -3,7 +3,7 @@ use Rattle.std.proofs.lemmas.Result.{err_from_is_err_and}
 use Rattle.c_lexer.specs.declared.token.Punctuator.TheVariants as mark
 use Rattle.c_grammar.specs.Reading.{begins}
 use Rattle.c_grammar.specs.UnitReading.{stmt_at, block_items_at}
-use Rattle.c_exprs.specs.Cursor.{here}
+use Rattle.c_reading.specs.Cursor.{here}
 use Rattle.c_parser.proofs.BlockItems.{items_stop, items_fail, items_next, items_out}
 use Rattle.c_parser.proofs.turns.Turns.block_items.Goals as goal
 

@@ -1,6 +1,6 @@
 use Rattle.std.proofs.Common.{◌≡◌, length, suc}
 use Rattle.c_grammar.specs.UnitReading.{stmt_at, block_items_at}
-use Rattle.c_exprs.specs.Cursor.{here, after}
+use Rattle.c_reading.specs.Cursor.{here, after}
 use Rattle.c_parser.proofs.turns.Turns.block_items.Given as goal
 
 abbrev pub invariant-items : goal.invariant-items

@@ -1,0 +1,5 @@
+pub mod Judging
+pub mod Meaning
+pub mod Names
+pub mod Paths
+pub mod Programs
