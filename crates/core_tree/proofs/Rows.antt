@@ -1,5 +1,5 @@
 -- Worked runs of small programs of the core, as they print and along a log.
-use Rattle.std.proofs.Common.{◌≡◌, ℕ, pos, negsuc, List, [], ◌∷◌, true, false, Option, Some, None, refl, ap, ◌∙◌}
+use Rattle.std.proofs.Common.{◌≡◌, ℕ, ◌+◌, ◌*◌, pos, List, [], ◌∷◌, true, false, Option, Some, None, refl, ap, ◌∙◌}
 use Rattle.bit_words.specs.declared.run.Event.{Event}
 use Rattle.bit_words.specs.declared.run.Finish.{Finish}
 use Rattle.bit_words.specs.declared.run.Finish.TheVariants as finish
@@ -32,7 +32,8 @@ use Rattle.core_tree.specs.States.{Done, Output, Taking, plain, along}
 use Rattle.core_tree.specs.Programs.{Machine, machine, measures_of, calls_of, end_of, nothing_left, ran, maybe_ran}
 use Rattle.core_tree.specs.Programs.{run_of, room_of, unrolled_size}
 use Rattle.core_tree.proofs.Scene.{OfExpr, OfCode, OfBody, number, local, load, operate, store, step, call, does}
-use Rattle.core_tree.proofs.Scene.{declare, block, nothing, when, loop, returns, function, core, given, is_given}
+use Rattle.core_tree.proofs.Scene.{declare, block, nothing, label, case, default, when, switch, loop, repeat, goto}
+use Rattle.core_tree.proofs.Scene.{continue, break, returns, function, core, given, is_given}
 
 -- ---- words of the programs
 
@@ -102,11 +103,206 @@ events_by (Some r) = r.events
 abbrev counts_to : ℕ → Machine Output
 counts_to n = given plain 0 (counting n) silent limits 1
 
+-- the run of the trees is that of what was written beside them
 pub row_counts :
-    run_of (core 0 (counting 2)) silent limits 1 ≡ maybe_ran (end_of (counts_to 2) nothing_left)
+    run_of (core {O = Output} 0 (counting 2)) silent limits 1 ≡ maybe_ran (end_of (counts_to 2) nothing_left)
 row_counts = ap (λ m. maybe_ran (end_of m nothing_left)) (is_given plain 0 (counting 2) silent limits 1)
 
 pub row_counts_printed :
     printed_by (maybe_ran (end_of (counts_to 2) nothing_left)) ≡ Some (48 ∷ 10 ∷ 49 ∷ 10 ∷ [])
 unfolding wrapped exact measures_of calls_of
 row_counts_printed = refl
+
+-- the branch before each turn, the call, and the print with the value of i
+pub row_counts_events :
+    events_by (maybe_ran (end_of (counts_to 1) nothing_left))
+    ≡ record { what = happening.Branch 30 side.Yes; printed = 0 }
+    ∷ record { what = happening.Call 40; printed = 0 }
+    ∷ record { what = happening.Print 40 2 (pos 0 ∷ []); printed = 0 }
+    ∷ record { what = happening.Branch 30 side.No; printed = 2 } ∷ []
+unfolding wrapped exact measures_of calls_of
+row_counts_events = refl
+
+-- eight turns and no more
+pub row_eight_turns : finish_by (maybe_ran (end_of (counts_to 8) nothing_left)) ≡ Some (finish.Return (pos 0))
+unfolding wrapped exact measures_of calls_of
+row_eight_turns = refl
+
+pub row_nine_turns : finish_by (maybe_ran (end_of (counts_to 9) nothing_left)) ≡ Some (finish.Left 30)
+unfolding wrapped exact measures_of calls_of
+row_nine_turns = refl
+
+-- one place for i, and four in each of nine turns
+pub row_room : room_of (counts_to 2) ≡ 37
+unfolding measures_of
+row_room = refl
+
+-- the block; `int i`; `i = 0;` with three expressions; `for`, and in each of nine turns three expressions of the test,
+-- two of the step, the block, and the statement with three expressions; `return` with one
+pub row_size : unrolled_size (counts_to 2) ≡ 1 + 1 + 4 + (1 + 9 * (3 + (1 + 4) + 2)) + 2
+unfolding measures_of
+row_size = refl
+
+-- ---- along a log
+
+abbrev out_of : Option (Done ℕ) → Option ℕ
+out_of None = None
+out_of (Some d) = Some d.out
+
+abbrev counts_along : ℕ → List ℕ → Machine ℕ
+counts_along n log = given (along log) 0 (counting n) silent limits 1
+
+-- the run ends at the log's end
+pub row_along : out_of (end_of (counts_along 2 (48 ∷ 10 ∷ 49 ∷ 10 ∷ [])) 0) ≡ Some 4
+unfolding wrapped exact measures_of calls_of
+row_along = refl
+
+-- what is printed stands in the log, which goes on
+pub row_before_the_end : out_of (end_of (counts_along 1 (48 ∷ 10 ∷ 49 ∷ 10 ∷ [])) 0) ≡ Some 2
+unfolding wrapped exact measures_of calls_of
+row_before_the_end = refl
+
+-- the second line is another one
+pub row_off_the_log : out_of (end_of (counts_along 2 (48 ∷ 10 ∷ 50 ∷ 10 ∷ [])) 0) ≡ None
+unfolding wrapped exact measures_of calls_of
+row_off_the_log = refl
+
+-- the log ends within a line
+pub row_past_the_log : out_of (end_of (counts_along 2 (48 ∷ 10 ∷ 49 ∷ [])) 0) ≡ None
+unfolding wrapped exact measures_of calls_of
+row_past_the_log = refl
+
+-- ---- int x = 2147483647; printf("a"); x = x + 1; printf("b");
+
+abbrev writes : {O : Type 0} → ℕ → OfCode O
+writes byte =
+    does (call 40 (number (pos 0) ∷ []) (callee.Log (piece.Literal (byte ∷ []) ∷ []) 1 (int ∷ []) []) a_word false)
+
+abbrev overflowing : {O : Type 0} → List (OfBody O)
+overflowing =
+    function 10 main' [] (
+    declare 20 4
+    ∷ does (store 22 i' (local 20) (number (pos 2147483647)))
+    ∷ writes 97
+    ∷ does (store 23 i' (local 20) (operate 24 (op.Numbers o.Add int) i (number (pos 1))))
+    ∷ writes 98 ∷ []) ∷ []
+
+abbrev overflows : Machine Output
+overflows = given plain 0 overflowing silent limits 1
+
+pub row_overflow : finish_by (maybe_ran (end_of overflows nothing_left)) ≡ Some (finish.Stopped undefined.Overflow 24)
+unfolding wrapped exact measures_of calls_of
+row_overflow = refl
+
+-- the first text alone
+pub row_overflow_printed : printed_by (maybe_ran (end_of overflows nothing_left)) ≡ Some (97 ∷ [])
+unfolding wrapped exact measures_of calls_of
+row_overflow_printed = refl
+
+-- ---- int f(int n) { if (n) return f(n - 1); return 7; } int main(void) { return f(2); }
+
+abbrev n' : Access
+n' = record { at = 51; stored = a_word; is_tested = false }
+
+abbrev calls_f : {O : Type 0} → ℕ → OfExpr O → OfExpr O
+calls_f at x = call at (x ∷ []) (callee.Body 1) a_word true
+
+abbrev recursing : {O : Type 0} → ℕ → List (OfBody O)
+recursing n =
+    function 10 main' [] (returns (Some (calls_f 60 (number (pos n)))) ∷ [])
+    ∷ function 49 (102 ∷ []) (record { at = 50; stored = a_word } ∷ []) (
+    when 52 (load n' (local 50))
+    (returns (Some (calls_f 55 (operate 54 (op.Numbers o.Subtract int) (load n' (local 50)) (number (pos 1))))))
+    nothing
+    ∷ returns (Some (number (pos 7))) ∷ [])
+    ∷ []
+
+abbrev recurses : ℕ → ℕ → Machine Output
+recurses n depth = given plain 0 (recursing n) silent limits depth
+
+pub row_depth : finish_by (maybe_ran (end_of (recurses 2 4) nothing_left)) ≡ Some (finish.Return (pos 7))
+unfolding wrapped exact measures_of calls_of
+row_depth = refl
+
+-- a level too many leaves the bounds at the callee's name
+pub row_too_deep : finish_by (maybe_ran (end_of (recurses 2 3) nothing_left)) ≡ Some (finish.Left 55)
+unfolding wrapped exact measures_of calls_of
+row_too_deep = refl
+
+-- each level has one place, for n
+pub row_depth_room : room_of (recurses 2 4) ≡ 3
+unfolding measures_of
+row_depth_room = refl
+
+-- ---- a missing value: int g(void) { } int main(void) { return g(); }
+
+abbrev missing : {O : Type 0} → List (OfBody O)
+missing =
+    function 10 main' [] (returns (Some (call 60 [] (callee.Body 1) a_word true)) ∷ [])
+    ∷ function 49 (103 ∷ []) [] [] ∷ []
+
+pub row_missing :
+    finish_by (maybe_ran (end_of (given plain 0 missing silent limits 2) nothing_left))
+    ≡ Some (finish.Stopped undefined.MissingValue 60)
+unfolding wrapped exact measures_of calls_of
+row_missing = refl
+
+-- ---- switch (x) { case 1: printf("%d\n", 1); default: printf("%d\n", 2); break; case 3: printf("%d\n", 3); }
+
+abbrev switching : {O : Type 0} → ℕ → List (OfBody O)
+switching x =
+    function 10 main' [] (
+    switch 30 int (pos 1 ∷ pos 3 ∷ []) (number (pos x)) (
+    case (pos 1) (number (pos 1)) (logs (number (pos 1)))
+    ∷ default (logs (number (pos 2)))
+    ∷ break
+    ∷ case (pos 3) (number (pos 3)) (logs (number (pos 3))) ∷ []) ∷ []) ∷ []
+
+abbrev switches : ℕ → Machine Output
+switches x = given plain 0 (switching x) silent limits 1
+
+pub row_first_case : printed_by (maybe_ran (end_of (switches 1) nothing_left)) ≡ Some (49 ∷ 10 ∷ 50 ∷ 10 ∷ [])
+unfolding wrapped exact measures_of calls_of
+row_first_case = refl
+
+pub row_default : printed_by (maybe_ran (end_of (switches 2) nothing_left)) ≡ Some (50 ∷ 10 ∷ [])
+unfolding wrapped exact measures_of calls_of
+row_default = refl
+
+pub row_last_case : printed_by (maybe_ran (end_of (switches 3) nothing_left)) ≡ Some (51 ∷ 10 ∷ [])
+unfolding wrapped exact measures_of calls_of
+row_last_case = refl
+
+-- ---- goto out of two loops: for (;;) { for (;;) { goto out; } } out: printf("%d\n", 1);
+
+abbrev out' : Name
+out' = 111 ∷ []
+
+abbrev leaving : {O : Type 0} → List (OfBody O)
+leaving =
+    function 10 main' [] (
+    loop 30 None None (block (loop 31 None None (block (goto out' ∷ [])) ∷ []))
+    ∷ logs (number (pos 0))
+    ∷ label out' (logs (number (pos 1))) ∷ []) ∷ []
+
+pub row_goto :
+    printed_by (maybe_ran (end_of (given plain 0 leaving silent limits 1) nothing_left)) ≡ Some (49 ∷ 10 ∷ [])
+unfolding wrapped exact measures_of calls_of
+row_goto = refl
+
+-- ---- do { if (i) continue; .. } while (0): a body, then the test
+
+abbrev repeating : {O : Type 0} → ℕ → List (OfBody O)
+repeating x =
+    function 10 main' [] (
+    repeat 30 (block (logs (number (pos 4)) ∷ continue ∷ logs (number (pos 5)) ∷ [])) (number (pos x)) ∷ []) ∷ []
+
+pub row_once :
+    printed_by (maybe_ran (end_of (given plain 0 (repeating 0) silent limits 1) nothing_left)) ≡ Some (52 ∷ 10 ∷ [])
+unfolding wrapped exact measures_of calls_of
+row_once = refl
+
+pub row_repeats_left :
+    finish_by (maybe_ran (end_of (given plain 0 (repeating 1) silent limits 1) nothing_left)) ≡ Some (finish.Left 30)
+unfolding wrapped exact measures_of calls_of
+row_repeats_left = refl
