@@ -2,5 +2,6 @@ pub mod Equations
 pub mod Induction
 pub mod Scene
 pub mod CutStates
+pub mod CutCalls
 pub mod CutValues
 mod Rows

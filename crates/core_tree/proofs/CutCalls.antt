@@ -1,0 +1,179 @@
+-- Cutting at a log and running: what calls do.
+use Rattle.std.proofs.Common.{◌≡◌, ℕ, zero, suc, ◌+◌, ◌-◌, ◌*◌, ℤ, pos, negsuc, List, [], ◌∷◌, ◌++◌, length, drop, Bool, true}
+use Rattle.std.proofs.Common.{false, cond, Option, Some, None, Ok, Err, refl, sym, ap, ap₂, ◌∙◌, subst, arith, length-append}
+use Rattle.std.proofs.lemmas.List.{append_assoc}
+use Rattle.bit_words.specs.declared.run.Finish.TheVariants as finish
+use Rattle.bit_words.specs.declared.run.Undefined.TheVariants as undefined
+use Rattle.printf_text.specs.declared.piece.Arg.{Arg}
+use Rattle.printf_text.specs.declared.piece.Form.{Form}
+use Rattle.printf_text.specs.declared.piece.Form.TheVariants as form
+use Rattle.printf_text.specs.declared.piece.Piece.{Piece}
+use Rattle.printf_text.specs.declared.piece.Piece.TheVariants as piece
+use Rattle.printf_text.specs.Texts.{piece_text, piece_kinds}
+use Rattle.std.specs.Prelude.{nat_lt, nat_eq, not, ◌&&◌, ◌%◌, ◌^◌}
+use Rattle.c_store.specs.Store.{Store, start}
+use Rattle.c_store.specs.Access.{can_access, can_write, can_free}
+use Rattle.c_means.specs.declared.kind.Kind.{Kind}
+use Rattle.c_means.specs.declared.kind.Kind.TheVariants as k
+use Rattle.c_means.specs.Parts.{Env, World, Limits}
+use Rattle.c_means.specs.Values.{address}
+use Rattle.c_runs.specs.Calls.{before_args, pointers_in, pointer_places}
+use Rattle.core_tree.specs.declared.expr.Callee.{Callee}
+use Rattle.core_tree.specs.declared.expr.Callee.TheVariants as callee
+use Rattle.core_tree.specs.declared.expr.Fill.{Fill}
+use Rattle.core_tree.specs.declared.expr.OutsideAnswer.{OutsideAnswer}
+use Rattle.core_tree.specs.declared.expr.OutsideAnswer.TheVariants as answer
+use Rattle.core_tree.specs.declared.expr.Pointee.{Pointee}
+use Rattle.core_tree.specs.declared.expr.Pointee.TheVariants as pointee
+use Rattle.core_tree.specs.declared.expr.Watched.{Watched}
+use Rattle.core_tree.specs.declared.types.ValueType.{ValueType}
+use Rattle.core_tree.specs.declared.types.WordType.{WordType}
+use Rattle.core_tree.specs.States.{Output, printing, plain, along, follows, Done, Outcome, found, Arrow, Calls, Level}
+use Rattle.core_tree.specs.States.{Measures, entered, finished, meet, meets, resumed, returned_in, returned, with_store}
+use Rattle.core_tree.specs.Callees.{Spoken, arguments_of, formed_arg, taken_then, says_all, print_noted, printed, prints}
+use Rattle.core_tree.specs.Callees.{seen_all, spoken, log_call, answers, answers_int, heap_object, freed, outside_answer}
+use Rattle.core_tree.specs.Callees.{outside_pointer, filled, filled_by, outside_call, value_or_zero, fill_count, body_call}
+use Rattle.core_tree.specs.Callees.{called, outside_object, fills_at, is_odd}
+use Rattle.core_tree.proofs.CutStates.{follows_joined, seen_as, Counted, where_on, CutsValue, CutsState, Runs, Goes}
+
+module _ (log : List ℕ) where
+  -- ---- levels that run on both ways
+
+  -- a call is cut where it was begun
+  abbrev pub CallsCut : Calls Output → Calls ℕ → Type 0
+  CallsCut c c' = (f : ℕ) (vs : List ℤ) (base : ℕ) (s : Store) (o : Output) → CutsState log o.count (c f vs base s o) (c' f vs base s o.count)
+
+  abbrev pub BothCut : Option (Calls Output) → Option (Calls ℕ) → Type 0
+  BothCut None None = Unit {0}
+  BothCut None (Some c') = ⊥
+  BothCut (Some c) None = ⊥
+  BothCut (Some c) (Some c') = CallsCut c c'
+
+  -- what a function runs in, as it prints and along the log
+  pub record Frames : Type 0 where
+    pub measures : Measures
+    pub world : World
+    pub limits : Limits
+    pub call : Option (Calls Output)
+    pub call_along : Option (Calls ℕ)
+    pub both : BothCut call call_along
+
+  abbrev pub plain_in : Frames → Level Output
+  plain_in p = record { measures = p.measures; taking = plain; world = p.world; limits = p.limits; call = p.call }
+
+  abbrev pub along_in : Frames → Level ℕ
+  along_in p = record { measures = p.measures; taking = along log; world = p.world; limits = p.limits; call = p.call_along }
+
+  -- ---- steps that print nothing
+
+  pub record Quiet (d x : Done Output) (y : Done ℕ) : Type 0 where
+    pub count : x.out.count ≡ d.out.count
+    pub printed : x.out.printed ≡ d.out.printed
+    pub seen : y ≡ seen_as log x
+
+  pub goes_quiet : (f : Done Output → Done Output) (g : Done ℕ → Done ℕ) → ((d : Done Output) → Quiet d (f d) (g (seen_as log d))) → Goes log (λ d. Some (f d)) (λ d. Some (g d))
+  goes_quiet f g h = record {
+    cuts = λ j d c. ((h d).count ∙ c ∙ ap (λ t. j + length t) (sym (h d).printed),
+        ap (λ a. where_on log j d.out (Some a)) (h d).seen
+        ∙ ap (λ t. cond (follows log j t) (Some (seen_as log (f d))) None) (sym (h d).printed));
+  }
+
+  pub quiet_test : (d x x' : Done Output) (y y' : Done ℕ) (b : Bool) → Quiet d x y → Quiet d x' y' → Quiet d (cond b x x') (cond b y y')
+  quiet_test d x x' y y' true h i = h
+  quiet_test d x x' y y' false h i = i
+
+  quiet_meets : (place n : ℕ) (d : Done Output) → Quiet d (meets plain place n d) (meets (along log) place n (seen_as log d))
+  quiet_meets place zero d = record { count = refl; printed = refl; seen = refl }
+  quiet_meets place (suc n) d =
+      let q = quiet_meets (suc place) n (meet plain place d) in record { count = q.count; printed = q.printed; seen = q.seen }
+
+  -- behind another one
+  quiet_behind : (d e x : Done Output) (f : Done ℕ) (g : Done ℕ → Done ℕ) → Quiet d e f → Quiet e x (g (seen_as log e)) → Quiet d x (g f)
+  quiet_behind d e x f g h i = record { count = i.count ∙ h.count; printed = i.printed ∙ h.printed; seen = ap g h.seen ∙ i.seen }
+
+  -- ---- calls by rule
+
+  heap_cut : (p : Frames) (at : ℕ) (type : ValueType) (n q : ℕ) (zeroes : Bool) (d : Done Output)
+      → Quiet d (heap_object (plain_in p) at type n q zeroes d) (heap_object (along_in p) at type n q zeroes (seen_as log d))
+  heap_cut p at type n q zeroes d =
+      quiet_test d _ _ _ _ (nat_lt p.limits.heap n) (record { count = refl; printed = refl; seen = refl })
+      (quiet_test d _ _ _ _ (nat_eq (p.world.word q % 2 ^ 64) 0) (record { count = refl; printed = refl; seen = refl })
+      (record { count = refl; printed = refl; seen = refl }))
+
+  freed_cut : (at a : ℕ) (d : Done Output) → Quiet d (freed at a d) (freed at a (seen_as log d))
+  freed_cut at a d =
+      quiet_test d _ _ _ _ (can_free d.store a)
+      (quiet_test d _ _ _ _ (nat_eq a 0) (record { count = refl; printed = refl; seen = refl }) (record { count = refl; printed = refl; seen = refl }))
+      (record { count = refl; printed = refl; seen = refl })
+
+  outside_answer_cut : (p : Frames) (type : ValueType) (x : OutsideAnswer) (q : ℕ) (d : Done Output)
+      → Quiet d (outside_answer (plain_in p) type x q d) (outside_answer (along_in p) type x q (seen_as log d))
+  outside_answer_cut p type answer.Nothing q d = record { count = refl; printed = refl; seen = refl }
+  outside_answer_cut p type answer.Number q d = record { count = refl; printed = refl; seen = refl }
+  outside_answer_cut p type (answer.Pointer never_null x) q d =
+      quiet_test d _ _ _ _ (nat_eq (p.world.word q % 2 ^ 64) 0 && not never_null) (record { count = refl; printed = refl; seen = refl })
+      (by_pointee x)
+    where
+      by_pointee : (x : Pointee) → Quiet d
+          (answers type (pos (start q)) (with_store (outside_object (plain_in p) x q d.store) (meet plain q d)))
+          (answers type (pos (start q)) (with_store (outside_object (along_in p) x q d.store) (seen_as log d)))
+      by_pointee pointee.Text = record { count = refl; printed = refl; seen = refl }
+      by_pointee (pointee.Bytes n) = record { count = refl; printed = refl; seen = refl }
+
+  filled_cut : (p : Frames) (at q a n : ℕ) (f : Done Output → Done Output) (g : Done ℕ → Done ℕ) (d : Done Output)
+      → ((e : Done Output) → Quiet e (f e) (g (seen_as log e)))
+      → Quiet d (filled (plain_in p) at q a n f d) (filled (along_in p) at q a n g (seen_as log d))
+  filled_cut p at q a n f g d h =
+      let r = h (with_store (fills_at p.world q a n d.store) d) in
+      quiet_test d _ _ _ _ (can_access d.store a n)
+      (quiet_test d _ _ _ _ (can_write d.store a n) (record { count = r.count; printed = r.printed; seen = r.seen })
+      (record { count = refl; printed = refl; seen = refl }))
+      (record { count = refl; printed = refl; seen = refl })
+
+  filled_by_cut : (counts : Bool) (p : Frames) (at : ℕ) (type : ValueType) (x : OutsideAnswer) (q a n : ℕ) (d : Done Output)
+      → Quiet d (filled_by counts (plain_in p) at type x q a n d) (filled_by counts (along_in p) at type x q a n (seen_as log d))
+  filled_by_cut false p at type x q a n d =
+      quiet_behind d (meets plain (q + 1) 2 d) _ (meets (along log) (q + 1) 2 (seen_as log d))
+      (filled (along_in p) at q a n (outside_answer (along_in p) type x q)) (quiet_meets (q + 1) 2 d)
+      (filled_cut p at q a n (outside_answer (plain_in p) type x q) (outside_answer (along_in p) type x q)
+      (meets plain (q + 1) 2 d) (outside_answer_cut p type x q))
+  filled_by_cut true p at type x q a n d =
+      quiet_test d _ _ _ _ (is_odd (p.world.word (q + 3) % 2 ^ 64)) (record { count = refl; printed = refl; seen = refl })
+      (quiet_behind d (meets plain (q + 1) 3 d) _ (meets (along log) (q + 1) 3 (seen_as log d))
+      (filled (along_in p) at q a n (answers type (pos n))) (quiet_meets (q + 1) 3 d)
+      (filled_cut p at q a n (answers type (pos n)) (answers type (pos n)) (meets plain (q + 1) 3 d)
+      (λ e. record { count = refl; printed = refl; seen = refl })))
+
+  outside_cut : (p : Frames) (at : ℕ) (type : ValueType) (x : OutsideAnswer) (f : Option Fill) (vs : List ℤ) (q : ℕ) (d : Done Output)
+      → Quiet d (outside_call (plain_in p) at type x f vs q d) (outside_call (along_in p) at type x f vs q (seen_as log d))
+  outside_cut p at type x None vs q d = outside_answer_cut p type x q d
+  outside_cut p at type x (Some f) vs q d =
+      filled_by_cut f.counts p at type x q (address (value_or_zero vs f.buffer))
+      (fill_count (plain_in p) q (address (value_or_zero vs f.length))) d
+
+  -- ---- log calls
+
+  -- pieces taken one by one
+  SaysCut : ℕ → Option Output → Option ℕ → Type 0
+  SaysCut j None r = r ≡ None
+  SaysCut j (Some o) r = Counted log j o × (r ≡ where_on log j o (Some o.count))
+
+  taken_where : (b e : Bool) (n : ℕ) (f : ℕ → Option ℕ) → cond b (taken_then (cond e (Some n) None) f) None ≡ cond (cond b e false) (f n) None
+  taken_where true true n f = refl
+  taken_where true false n f = refl
+  taken_where false e n f = refl
+
+  says_cut : (ps : List Piece) (xs : List Arg) (j : ℕ) (o : Output) → Counted log j o → SaysCut j (says_all plain ps xs o) (where_on log j o (says_all (along log) ps xs o.count))
+  unfolding SaysCut
+  says_cut [] xs j o c = (c, refl)
+  says_cut (p ∷ ps) xs j o c =
+      let text = piece_text p xs in
+      let rest = drop (length (piece_kinds p)) xs in
+      subst (λ r. SaysCut j (says_all plain ps rest (printing text o)) r)
+      (sym (taken_where (follows log j o.printed) (follows log o.count text) (o.count + length text) (says_all (along log) ps rest)
+      ∙ ap (λ n. cond (cond (follows log j o.printed) (follows log n text) false) (says_all (along log) ps rest (o.count + length text)) None) c
+      ∙ ap (λ b. cond b (says_all (along log) ps rest (o.count + length text)) None) (sym (follows_joined log j o.printed text))))
+      (says_cut ps rest j (printing text o) (counted text))
+    where
+      counted : (text : List ℕ) → o.count + length text ≡ j + length (o.printed ++ text)
+      counted text = omega (arith, c, length-append o.printed text)
