@@ -4,4 +4,5 @@ pub mod Scene
 pub mod CutStates
 pub mod CutCalls
 pub mod CutValues
+pub mod CutCodes
 mod Rows
