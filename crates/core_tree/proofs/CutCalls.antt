@@ -89,7 +89,7 @@ module _ (log : List ℕ) where
       let q = quiet_meets (suc place) n (meet plain place d) in record { count = q.count; printed = q.printed; seen = q.seen }
 
   -- behind another one
-  quiet_behind : (d e x : Done Output) (f : Done ℕ) (g : Done ℕ → Done ℕ) → Quiet d e f → Quiet e x (g (seen_as log e)) → Quiet d x (g f)
+  pub quiet_behind : (d e x : Done Output) (f : Done ℕ) (g : Done ℕ → Done ℕ) → Quiet d e f → Quiet e x (g (seen_as log e)) → Quiet d x (g f)
   quiet_behind d e x f g h i = record { count = i.count ∙ h.count; printed = i.printed ∙ h.printed; seen = ap g h.seen ∙ i.seen }
 
   -- ---- calls by rule
@@ -264,7 +264,7 @@ module _ (log : List ℕ) where
   begins o = grind arith
 
   -- a call by rule
-  entered_cut : (f : Arrow Output) (g : Arrow ℕ) (s : Store) (o : Output) → Goes log f g → CutsState log o.count (f (entered plain s o)) (g (entered (along log) s o.count))
+  pub entered_cut : (f : Arrow Output) (g : Arrow ℕ) (s : Store) (o : Output) → Goes log f g → CutsState log o.count (f (entered plain s o)) (g (entered (along log) s o.count))
   entered_cut f g s o h = h.cuts o.count (entered plain s o) (begins o)
 
   pub called_cut : (p : Frames) (c : Callee) (at : ℕ) (type : ValueType) (env : Env) (vs : List ℤ) (base : ℕ) (s : Store) (o : Output)

@@ -103,12 +103,12 @@ module _ (log : List ℕ) where
   SameItems (x ∷ xs) (y ∷ ys) = SameItem x y × SameItems xs ys
 
   -- a step that prints nothing, in front of others
-  goes_after : (f : Done Output → Done Output) (g : Done ℕ → Done ℕ) (f' : Arrow Output) (g' : Arrow ℕ)
+  pub goes_after : (f : Done Output → Done Output) (g : Done ℕ → Done ℕ) (f' : Arrow Output) (g' : Arrow ℕ)
       → ((d : Done Output) → Quiet log d (f d) (g (seen_as log d))) → Goes log f' g' → Goes log (λ d. f' (f d)) (λ d. g' (g d))
   goes_after f g f' g' q h = goes_onward log (goes_quiet log f g q) h
 
   -- and behind others
-  goes_before : (f : Arrow Output) (g : Arrow ℕ) (f' : Done Output → Done Output) (g' : Done ℕ → Done ℕ)
+  pub goes_before : (f : Arrow Output) (g : Arrow ℕ) (f' : Done Output → Done Output) (g' : Done ℕ → Done ℕ)
       → Goes log f g → ((d : Done Output) → Quiet log d (f' d) (g' (seen_as log d))) → Goes log (λ d. onward (f d) (λ r. Some (f' r))) (λ d. onward (g d) (λ r. Some (g' r)))
   goes_before f g f' g' h q = goes_onward log h (goes_quiet log f' g' q)
 
@@ -133,7 +133,7 @@ module _ (log : List ℕ) where
         (i.goes p env _ _ (room_behind log p base base' x.needs x'.needs e h.needs));
   }
 
-  in_turn_same : (xs : List (Item Output)) (ys : List (Item ℕ)) → SameItems xs ys → SameItem (in_turn xs) (in_turn ys)
+  pub in_turn_same : (xs : List (Item Output)) (ys : List (Item ℕ)) → SameItems xs ys → SameItem (in_turn xs) (in_turn ys)
   in_turn_same [] [] h = nothing_same
   in_turn_same [] (y ∷ ys) h = absurd h
   in_turn_same (x ∷ xs) [] h = absurd h
@@ -141,13 +141,13 @@ module _ (log : List ℕ) where
 
   -- ---- blocks
 
-  born_quiet : (ms : List Made) (d : Done Output) → Quiet log d (born plain ms d) (born (along log) ms (seen_as log d))
+  pub born_quiet : (ms : List Made) (d : Done Output) → Quiet log d (born plain ms d) (born (along log) ms (seen_as log d))
   born_quiet [] d = record { count = refl; printed = refl; seen = refl }
   born_quiet (m ∷ ms) d =
       let q = born_quiet ms (meet plain m.place (with_store (make m.place (record { kind = Automatic; size = m.size }) d.store) d)) in
       record { count = q.count; printed = q.printed; seen = q.seen }
 
-  dead_quiet : (ms : List Made) (d : Done Output) → Quiet log d (dead ms d) (dead ms (seen_as log d))
+  pub dead_quiet : (ms : List Made) (d : Done Output) → Quiet log d (dead ms d) (dead ms (seen_as log d))
   dead_quiet [] d = record { count = refl; printed = refl; seen = refl }
   dead_quiet (m ∷ ms) d =
       let q = dead_quiet ms (with_store (end m.place d.store) d) in record { count = q.count; printed = q.printed; seen = q.seen }
@@ -163,7 +163,7 @@ module _ (log : List ℕ) where
 
   -- ---- steps
 
-  arrive_quiet : (f : Kind → Kind) (d : Done Output) → Quiet log d (arrive f d) (arrive f (seen_as log d))
+  pub arrive_quiet : (f : Kind → Kind) (d : Done Output) → Quiet log d (arrive f d) (arrive f (seen_as log d))
   arrive_quiet f d = record { count = refl; printed = refl; seen = refl }
 
   evaluated_same : (is_node : Bool) (x : Value Output) (y : Value ℕ) → SameValue log x y → SameItem (evaluated is_node x) (evaluated is_node y)

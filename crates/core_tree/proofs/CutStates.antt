@@ -14,12 +14,12 @@ use Rattle.c_store.specs.Store.{Store}
 
 -- ---- texts
 
-prefix : List ℕ → List ℕ → Bool
+unfoldable pub prefix : List ℕ → List ℕ → Bool
 prefix [] log = true
 prefix (x ∷ xs) [] = false
 prefix (x ∷ xs) (y ∷ ys) = nat_eq x y && prefix xs ys
 
-starts_prefix : (log text : List ℕ) → starts_with nat_eq log text ≡ prefix text log
+pub starts_prefix : (log text : List ℕ) → starts_with nat_eq log text ≡ prefix text log
 unfolding prefix
 starts_prefix log [] = refl
 starts_prefix [] (x ∷ xs) = refl

@@ -5,4 +5,5 @@ pub mod CutStates
 pub mod CutCalls
 pub mod CutValues
 pub mod CutCodes
+pub mod Cut
 mod Rows

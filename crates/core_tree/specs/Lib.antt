@@ -5,3 +5,4 @@ pub mod Callees
 pub mod Values
 pub mod Codes
 pub mod Programs
+pub mod Fits
