@@ -302,12 +302,11 @@ module _ (log : List ℕ) where
         → Goes log (turns_from at t x s (plain_in log p) env n base) (turns_from at t' x' s' (along_in log p) env n base')
     turns_goes p env zero base base' e = tested_goes at t t' g p env base base' e _ _ (λ b. goes_one b _ _ _ _ (left_goes at) (goes_stay log))
     turns_goes p env (suc n) base base' e = tested_goes at t t' g p env base base' e _ _ (λ b. goes_one b _ _ _ _
-        (goes_onward log
         (goes_onward log (h.goes p env _ _ (room_behind log p base base' (test_needs t) (test_needs t') e (test_needs_same t t' g)))
-        (goes_after _ _ _ _ (arrive_quiet past_continue) (goes_running log _ _ (i.goes p env _ _
-        (room_behind log p base base' (one_behind (test_needs t) x.needs) (one_behind (test_needs t') x'.needs) e
-        (ap₂ one_behind (test_needs_same t t' g) h.needs))))))
-        (goes_running log _ _ (turns_goes p env n _ _ (room_behind log p base base' (turn_needs t x s) (turn_needs t' x' s') e turn_same))))
+        (goes_after _ _ _ _ (arrive_quiet past_continue) (goes_running log _ _ (goes_onward log
+        (i.goes p env _ _ (room_behind log p base base' (one_behind (test_needs t) x.needs) (one_behind (test_needs t') x'.needs) e
+        (ap₂ one_behind (test_needs_same t t' g) h.needs)))
+        (goes_running log _ _ (turns_goes p env n _ _ (room_behind log p base base' (turn_needs t x s) (turn_needs t' x' s') e turn_same)))))))
         (goes_stay log))
 
   looped_same : (at : ℕ) (t : Option (Value Output)) (t' : Option (Value ℕ)) (s : Option (Value Output)) (s' : Option (Value ℕ)) (x : Item Output) (x' : Item ℕ)

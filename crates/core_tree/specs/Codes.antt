@@ -230,11 +230,10 @@ turns_from at test body step l env zero base d =
     tested at test l env base (λ b. one_of b (left_at at) stay) d
 turns_from at test body step l env (suc n) base d =
     tested at test l env base (λ b. one_of b
-    (λ d. onward
-        (onward (body.run l env (base + (test_needs test).room l.measures) d) (λ r. running
-        (step.run l env (base + ((test_needs test).room l.measures + body.needs.room l.measures)))
+    (λ d. onward (body.run l env (base + (test_needs test).room l.measures) d) (λ r. running (λ r. onward
+        (step.run l env (base + ((test_needs test).room l.measures + body.needs.room l.measures)) r)
+        (running (turns_from at test body step l env n (base + (turn_needs test body step).room l.measures))))
         (arrive past_continue r)))
-    (running (turns_from at test body step l env n (base + (turn_needs test body step).room l.measures))))
     stay) d
 
 abbrev pub broken_out : {O : Type 0} → Option (Done O) → Option (Done O)
