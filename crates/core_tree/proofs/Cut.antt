@@ -1,15 +1,12 @@
 -- The run along a log is the run that prints, cut where it leaves the log: whole programs. So a run fits a log exactly
 -- where the run along it reaches its end.
-use Rattle.std.proofs.Common.{◌≡◌, ℕ, zero, suc, ◌+◌, ◌-◌, ◌*◌, ℤ, List, [], ◌∷◌, ◌++◌, map, length, drop, Bool, true, false, cond}
+use Rattle.std.proofs.Common.{◌≡◌, ℕ, zero, suc, ◌+◌, ◌-◌, ◌*◌, ℤ, List, [], ◌∷◌, map, length, Bool, true, false, cond}
 use Rattle.std.proofs.Common.{Option, Some, None, refl, sym, ap, ap₂, ◌∙◌, subst, arith, length-append, nat_eq, ◌&&◌}
 use Rattle.std.proofs.Math.Path.{fun_ext}
 use Rattle.std.specs.Prelude.{slice_get}
-use Rattle.std.specs.List.{starts_with}
 use Rattle.c_store.specs.Store.{Store, initial, start, write}
-use Rattle.c_means.specs.declared.kind.Kind.{Kind}
 use Rattle.c_means.specs.Parts.{World, Limits}
-use Rattle.c_runs.specs.Items.{Made, known}
-use Rattle.c_runs.specs.Runs.{comes_back}
+use Rattle.c_runs.specs.Items.{known}
 use Rattle.c_runs.specs.Statements.{no_env}
 use Rattle.core_tree.specs.declared.code.Code.{Code}
 use Rattle.core_tree.specs.declared.program.Core.{Core}
@@ -18,12 +15,11 @@ use Rattle.core_tree.specs.declared.program.LastingObject.{LastingObject}
 use Rattle.core_tree.specs.declared.program.LastingSetting.{LastingSetting}
 use Rattle.core_tree.specs.declared.program.Parameter.{Parameter}
 use Rattle.core_tree.specs.Memory.{stored}
-use Rattle.core_tree.specs.States.{Output, plain, along, follows, Done, Arrow, Calls, Level, Measures, Needs, entered, onward}
-use Rattle.core_tree.specs.States.{running, born, dead, meet, meets, arrive, with_store}
-use Rattle.core_tree.specs.Codes.{Item, code, in_turn, lived}
-use Rattle.core_tree.specs.Codes as codes
-use Rattle.core_tree.specs.Programs.{Body, body_of, body_size, body_room, frame, passed, back, by_body, Machine, maybe_body}
-use Rattle.core_tree.specs.Programs.{machine, size_by, room_by, measures_of, level_with, called_at, calls_of, level_of, makes}
+use Rattle.core_tree.specs.States.{Output, plain, along, follows, Done, Measures, Needs, onward}
+use Rattle.core_tree.specs.States.{running, born, dead, meet, meets, with_store}
+use Rattle.core_tree.specs.Codes.{code, in_turn, lived}
+use Rattle.core_tree.specs.Programs.{body_of, frame, passed, back, by_body, Machine, maybe_body}
+use Rattle.core_tree.specs.Programs.{machine, size_by, room_by, measures_of, called_at, calls_of, level_of, makes}
 use Rattle.core_tree.specs.Programs.{makes_all, meets_all, bare, sets_all, prepared, zeroes, outside_object, makes_strings}
 use Rattle.core_tree.specs.Programs.{points_to, makes_arguments, given_arguments, main_arguments, argument_count, entry_room}
 use Rattle.core_tree.specs.Programs.{behind, main_call, called_main, end_of, nothing_left, turns_in}
@@ -31,10 +27,10 @@ use Rattle.core_tree.specs.Fits.{is_within, same_bytes, has_printed, has_reached
 use Rattle.core_tree.proofs.Induction.{Each}
 use Rattle.core_tree.proofs.CutStates.{prefix, starts_prefix, follows_joined, seen_as, Counted, where_on, CutsState, Goes}
 use Rattle.core_tree.proofs.CutStates.{goes_onward, goes_running, goes_stay}
-use Rattle.core_tree.proofs.CutCalls.{Frames, plain_in, along_in, BothCut, CallsCut, Quiet, goes_quiet, quiet_meets, begins}
+use Rattle.core_tree.proofs.CutCalls.{Frames, plain_in, along_in, BothCut, Quiet, quiet_meets}
 use Rattle.core_tree.proofs.CutCalls.{entered_cut, quiet_behind}
-use Rattle.core_tree.proofs.CutCodes.{SameItem, SameItems, SameCode, code_same, codes_same, in_turn_same, lived_same}
-use Rattle.core_tree.proofs.CutCodes.{born_quiet, dead_quiet, arrive_quiet, goes_after, goes_before, sets_goes}
+use Rattle.core_tree.proofs.CutCodes.{SameItem, SameCode, code_same, codes_same, in_turn_same, lived_same}
+use Rattle.core_tree.proofs.CutCodes.{born_quiet, dead_quiet, goes_after, goes_before, sets_goes}
 
 module _ (log : List ℕ) where
   -- ---- functions
@@ -109,7 +105,7 @@ module _ (log : List ℕ) where
     called_same n h None vs base s o = refl
     called_same n h (Some f) vs base s o =
         subst (λ (m : Measures). CutsState log o.count (by_body (level_of prints n f) (body_of f) vs base s o)
-            (by_body (record (level_of follows_log n f) { measures = m }) (body_of f) vs base s o.count))
+        (by_body (record (level_of follows_log n f) { measures = m }) (body_of f) vs base s o.count))
         (measures_same n f) (body_goes (frames n h f) f vs base s o)
 
     pub calls_same : (n : ℕ) → BothCut log (calls_of prints n) (calls_of follows_log n)
@@ -196,11 +192,13 @@ module _ (log : List ℕ) where
         → CutsState log j (onward o (λ x. Some (behind plain d x))) (where_on log j d.out (onward r (λ x. Some (behind (along log) (seen_as log d) x))))
     behind_cut j d None r c e = where_none (follows log j d.out.printed) (onward r (λ x. Some (behind (along log) (seen_as log d) x)))
         (ap (λ q. onward q (λ x. Some (behind (along log) (seen_as log d) x))) e)
-    behind_cut j d (Some x) r c h = (omega (arith, c, h.0, length-append d.out.printed x.out.printed),
-        ap (λ q. where_on log j d.out (onward q (λ x. Some (behind (along log) (seen_as log d) x)))) h.1
-        ∙ behind_where (follows log j d.out.printed) (follows log d.out.count x.out.printed) (seen_as log d) (seen_as log x)
-        ∙ ap (λ n. cond (cond (follows log j d.out.printed) (follows log n x.out.printed) false) (Some (behind (along log) (seen_as log d) (seen_as log x))) None) c
-        ∙ ap (λ b. cond b (Some (behind (along log) (seen_as log d) (seen_as log x))) None) (sym (follows_joined log j d.out.printed x.out.printed)))
+    behind_cut j d (Some x) r c h = (
+      omega (arith, c, h.0, length-append d.out.printed x.out.printed),
+      ap (λ q. where_on log j d.out (onward q (λ x. Some (behind (along log) (seen_as log d) x)))) h.1
+          ∙ behind_where (follows log j d.out.printed) (follows log d.out.count x.out.printed) (seen_as log d) (seen_as log x)
+          ∙ ap (λ n. cond (cond (follows log j d.out.printed) (follows log n x.out.printed) false) (Some (behind (along log) (seen_as log d) (seen_as log x))) None) c
+          ∙ ap (λ b. cond b (Some (behind (along log) (seen_as log d) (seen_as log x))) None) (sym (follows_joined log j d.out.printed x.out.printed)),
+    )
 
     main_goes : (place : ℕ) → Goes log (main_call prints place) (main_call follows_log place)
     main_goes place = record {

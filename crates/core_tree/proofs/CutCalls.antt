@@ -1,9 +1,6 @@
 -- Cutting at a log and running: what calls do.
 use Rattle.std.proofs.Common.{◌≡◌, ℕ, zero, suc, ◌+◌, ◌-◌, ◌*◌, ℤ, pos, negsuc, List, [], ◌∷◌, ◌++◌, length, drop, Bool, true}
-use Rattle.std.proofs.Common.{false, cond, Option, Some, None, Ok, Err, refl, sym, ap, ap₂, ◌∙◌, subst, arith, length-append}
-use Rattle.std.proofs.lemmas.List.{append_assoc}
-use Rattle.bit_words.specs.declared.run.Finish.TheVariants as finish
-use Rattle.bit_words.specs.declared.run.Undefined.TheVariants as undefined
+use Rattle.std.proofs.Common.{false, cond, Option, Some, None, refl, sym, ap, ap₂, ◌∙◌, subst, arith, length-append}
 use Rattle.printf_text.specs.declared.piece.Arg.{Arg}
 use Rattle.printf_text.specs.declared.piece.Form.{Form}
 use Rattle.printf_text.specs.declared.piece.Form.TheVariants as form
@@ -28,14 +25,14 @@ use Rattle.core_tree.specs.declared.expr.Pointee.TheVariants as pointee
 use Rattle.core_tree.specs.declared.expr.Watched.{Watched}
 use Rattle.core_tree.specs.declared.types.ValueType.{ValueType}
 use Rattle.core_tree.specs.declared.types.WordType.{WordType}
-use Rattle.core_tree.specs.States.{Output, printing, plain, along, follows, Done, Outcome, found, Arrow, Calls, Level}
-use Rattle.core_tree.specs.States.{Measures, entered, finished, meet, meets, resumed, returned_in, returned, with_store}
+use Rattle.core_tree.specs.States.{Output, printing, plain, along, follows, Done, Arrow, Calls, Level}
+use Rattle.core_tree.specs.States.{Measures, entered, meet, meets, returned_in, returned, with_store}
 use Rattle.core_tree.specs.Callees.{Spoken, arguments_of, formed_arg, taken_then, says_all, print_noted, printed, prints}
 use Rattle.core_tree.specs.Callees.{seen_all, spoken, log_call, answers, answers_int, heap_object, freed, outside_answer}
-use Rattle.core_tree.specs.Callees.{outside_pointer, filled, filled_by, outside_call, value_or_zero, fill_count, body_call}
+use Rattle.core_tree.specs.Callees.{filled, filled_by, outside_call, value_or_zero, fill_count, body_call}
 use Rattle.core_tree.specs.Callees.{called, outside_object, fills_at, is_odd, behind_star, star_args, first_value}
 use Rattle.printf_text.specs.Texts.{size_of as size_in}
-use Rattle.core_tree.proofs.CutStates.{follows_joined, seen_as, Counted, where_on, CutsValue, CutsState, Runs, Goes}
+use Rattle.core_tree.proofs.CutStates.{follows_joined, seen_as, Counted, where_on, CutsValue, CutsState, Goes}
 
 module _ (log : List ℕ) where
   -- ---- levels that run on both ways
@@ -74,9 +71,11 @@ module _ (log : List ℕ) where
 
   pub goes_quiet : (f : Done Output → Done Output) (g : Done ℕ → Done ℕ) → ((d : Done Output) → Quiet d (f d) (g (seen_as log d))) → Goes log (λ d. Some (f d)) (λ d. Some (g d))
   goes_quiet f g h = record {
-    cuts = λ j d c. ((h d).count ∙ c ∙ ap (λ t. j + length t) (sym (h d).printed),
-        ap (λ a. where_on log j d.out (Some a)) (h d).seen
-        ∙ ap (λ t. cond (follows log j t) (Some (seen_as log (f d))) None) (sym (h d).printed));
+    cuts = λ j d c. (
+      (h d).count ∙ c ∙ ap (λ t. j + length t) (sym (h d).printed),
+      ap (λ a. where_on log j d.out (Some a)) (h d).seen
+          ∙ ap (λ t. cond (follows log j t) (Some (seen_as log (f d))) None) (sym (h d).printed),
+    );
   }
 
   pub quiet_test : (d x x' : Done Output) (y y' : Done ℕ) (b : Bool) → Quiet d x y → Quiet d x' y' → Quiet d (cond b x x') (cond b y y')
@@ -202,11 +201,12 @@ module _ (log : List ℕ) where
   unfolding SaysCut
   printed_cut at type shown j d None r e =
       where_printed (follows log j d.out.printed) at type shown (seen_as log d) r ∙ ap (printed (along log) at type shown (seen_as log d)) e
-  printed_cut at type shown j d (Some o) r p =
-      (p.0,
-      where_printed (follows log j d.out.printed) at type shown (seen_as log d) r ∙ ap (printed (along log) at type shown (seen_as log d)) p.1
-      ∙ printed_where (follows log j o.printed) at type shown (seen_as log d) o.count
-      ∙ ap (λ s. where_on log j o (Some s)) (sym (print_seen at (o.count - d.out.count) (o.count - d.out.count) type shown d o)))
+  printed_cut at type shown j d (Some o) r p = (
+    p.0,
+    where_printed (follows log j d.out.printed) at type shown (seen_as log d) r ∙ ap (printed (along log) at type shown (seen_as log d)) p.1
+        ∙ printed_where (follows log j o.printed) at type shown (seen_as log d) o.count
+        ∙ ap (λ s. where_on log j o (Some s)) (sym (print_seen at (o.count - d.out.count) (o.count - d.out.count) type shown d o)),
+  )
 
   prints_cut : (at : ℕ) (type : ValueType) (ps : List Piece) (shown : List ℤ) (xs : Option (List Arg)) → Goes log (prints plain at type ps shown xs) (prints (along log) at type ps shown xs)
   prints_cut at type ps shown None = record { cuts = λ j d c. (c, refl) }
@@ -251,7 +251,7 @@ module _ (log : List ℕ) where
         let shown = seen_all env d.store watched in
         let xs = arguments_of (plain_in p) ps (drop before (spoken ts vs)) (base + 4) d.store in
         subst (λ a. CutsState log j (prints plain at type ps shown xs e)
-            (where_on log j d.out (prints (along log) at type ps shown a (meets (along log) (base + 4) n (seen_as log d)))))
+        (where_on log j d.out (prints (along log) at type ps shown a (meets (along log) (base + 4) n (seen_as log d)))))
         (arguments_same p ps (drop before (spoken ts vs)) (base + 4) d.store)
         (quiet_then j d e (meets (along log) (base + 4) n (seen_as log d)) (prints plain at type ps shown xs e)
         (prints (along log) at type ps shown xs) q

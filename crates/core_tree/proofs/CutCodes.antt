@@ -1,6 +1,6 @@
 -- Cutting at a log and running: each expression, and all code.
-use Rattle.std.proofs.Common.{◌≡◌, ℕ, zero, suc, ◌+◌, ◌*◌, ℤ, List, [], ◌∷◌, ◌++◌, map, length, Bool, true, false, cond}
-use Rattle.std.proofs.Common.{Option, Some, None, refl, sym, ap, ap₂, ◌∙◌, subst}
+use Rattle.std.proofs.Common.{◌≡◌, ℕ, zero, suc, ◌+◌, ℤ, List, [], ◌∷◌, ◌++◌, map, Bool, true, false}
+use Rattle.std.proofs.Common.{Option, Some, None, refl, ap, ap₂, ◌∙◌, subst}
 use Rattle.std.proofs.Math.Path.{fun_ext}
 use Rattle.std.specs.Prelude.{option_map, unsigned_abs}
 use Rattle.bit_words.specs.declared.run.Happening.TheVariants as happening
@@ -9,7 +9,6 @@ use Rattle.c_type_terms.specs.Integers.{is_zero}
 use Rattle.c_store.specs.declared.object.ObjectKind.TheVariants.{Automatic}
 use Rattle.c_store.specs.Store.{start, make, end, lay}
 use Rattle.c_runs.specs.Initials.{text_byte}
-use Rattle.c_says.specs.Scopes.{Name}
 use Rattle.c_means.specs.declared.kind.Kind.{Kind}
 use Rattle.c_means.specs.declared.kind.Kind.TheVariants as k
 use Rattle.c_means.specs.Parts.{Env}
@@ -22,19 +21,19 @@ use Rattle.core_tree.specs.declared.expr.Expr.{Expr}
 use Rattle.core_tree.specs.declared.expr.Expr.TheVariants as expr
 use Rattle.core_tree.specs.declared.types.WordType.{WordType}
 use Rattle.core_tree.specs.Numbers.{wrapped}
-use Rattle.core_tree.specs.Memory.{load, stored}
-use Rattle.core_tree.specs.States.{Output, plain, along, Done, Outcome, found, or_stop, Arrow, Acts, Level, Measures, Needs}
-use Rattle.core_tree.specs.States.{onward, running, arrive, become, note, on_branch, one_of, born, dead, meet, stay}
-use Rattle.core_tree.specs.States.{with_value, with_store}
+use Rattle.core_tree.specs.Memory.{stored}
+use Rattle.core_tree.specs.States.{Output, plain, along, Done, Arrow, Acts, Measures, Needs}
+use Rattle.core_tree.specs.States.{onward, arrive, become, note, on_branch, one_of, born, dead, meet}
+use Rattle.core_tree.specs.States.{with_store}
 use Rattle.core_tree.specs.Values.{Value, value}
 use Rattle.core_tree.specs.Codes.{Item, acting, nothing, followed, in_turn, lived, evaluated, maybe_evaluated, return_of}
-use Rattle.core_tree.specs.Codes.{setting_needs, all_needs, sets, sets_all, zeroed_if, declared, block, arrived, if_of}
-use Rattle.core_tree.specs.Codes.{if_runs, chosen_at, switch_runs, switch_of, left_at, tested, test_needs, each_turn}
-use Rattle.core_tree.specs.Codes.{turn_needs, turns_from, broken_out, looped, rounds_from, repeated, node_size}
-use Rattle.core_tree.specs.Codes.{static_needs, as_node, none, one_behind, returns, value_of, code, jump, empty, no_more}
+use Rattle.core_tree.specs.Codes.{setting_needs, all_needs, sets, sets_all, zeroed_if, declared, arrived, if_of}
+use Rattle.core_tree.specs.Codes.{chosen_at, switch_of, left_at, tested, test_needs, each_turn}
+use Rattle.core_tree.specs.Codes.{turn_needs, turns_from, looped, rounds_from, repeated}
+use Rattle.core_tree.specs.Codes.{static_needs, as_node, one_behind, code, jump}
 use Rattle.core_tree.proofs.Equations as eq
 use Rattle.core_tree.proofs.Induction.{Each, ExprSteps, CodeSteps, of_expr, of_code}
-use Rattle.core_tree.proofs.CutStates.{seen_as, Counted, Runs, Goes, goes_onward, goes_with, goes_running, goes_stay, test_goes}
+use Rattle.core_tree.proofs.CutStates.{seen_as, Goes, goes_onward, goes_with, goes_running, goes_stay, test_goes}
 use Rattle.core_tree.proofs.CutCalls.{Frames, plain_in, along_in, Quiet, goes_quiet}
 use Rattle.core_tree.proofs.CutValues.{SameValue, SameAll, room_behind, constant_same, local_same, node_same, between_same}
 use Rattle.core_tree.proofs.CutValues.{operate_same, both_same, either_same, comma_same, store_same, update_same, step_same}
@@ -156,7 +155,7 @@ module _ (log : List ℕ) where
       → Goes log (lived x (plain_in log p) env base) (lived y (along_in log p) env base')
   lived_same x y h p env base base' e =
       subst (λ (ms : List Made). Goes log (lived x (plain_in log p) env base)
-          (λ d. onward (y.run (along_in log p) (known ms env) base' (born (along log) ms d)) (λ r. Some (dead ms r))))
+      (λ d. onward (y.run (along_in log p) (known ms env) base' (born (along log) ms d)) (λ r. Some (dead ms r))))
       (ap₂ (λ (f : Measures → ℕ → List Made) b. f p.measures b) h.objects e)
       (goes_before _ _ _ _ (goes_after _ _ _ _ (born_quiet (x.objects p.measures base)) (h.goes p (known (x.objects p.measures base) env) base base' e))
       (dead_quiet (x.objects p.measures base)))

@@ -1,14 +1,14 @@
 -- A run along a log is the run that prints, cut where it leaves the log: what that is to say of states, and how it goes
 -- through composition.
-use Rattle.std.proofs.Common.{◌≡◌, ℕ, zero, suc, ◌+◌, ℤ, List, [], ◌∷◌, ◌++◌, length, drop, Bool, true, false, cond, Option}
-use Rattle.std.proofs.Common.{Some, None, Result, Ok, Err, refl, sym, ap, ◌∙◌, subst, arith, length-append, ◌&&◌, nat_eq}
+use Rattle.std.proofs.Common.{◌≡◌, ℕ, ◌+◌, ℤ, List, [], ◌∷◌, ◌++◌, length, drop, Bool, true, false, cond, Option}
+use Rattle.std.proofs.Common.{Some, None, Ok, Err, refl, sym, ap, ◌∙◌, subst, ◌&&◌, nat_eq}
 use Rattle.std.proofs.lemmas.List.{drop-drop}
 use Rattle.std.specs.List.{starts_with}
 use Rattle.bit_words.specs.declared.run.Undefined.{Undefined}
 use Rattle.c_type_terms.specs.Operators.{Answer}
 use Rattle.c_means.specs.declared.kind.Kind.{Kind}
 use Rattle.c_means.specs.declared.kind.Kind.TheVariants as k
-use Rattle.core_tree.specs.States.{Output, plain, along, follows, Done, Outcome, ◌>>=◌, found, stop, or_stop, Arrow, onward}
+use Rattle.core_tree.specs.States.{Output, follows, Done, Outcome, ◌>>=◌, found, stop, or_stop, Arrow, onward}
 use Rattle.core_tree.specs.States.{with_value, with_store, running, where_running}
 use Rattle.c_store.specs.Store.{Store}
 
@@ -145,10 +145,12 @@ module _ (log : List ℕ) where
       → ((d : Done Output) → g (seen_as d) ≡ seen_as (f d))
       → Runs (λ d. found (x d) (f d)) (λ d. found (y d) (g d))
   runs_found x y f g same out seen = record {
-    cuts = λ j d c. (subst (λ (o : Output). Counted j o) (sym (out d)) c,
-        ap (λ a. where_on j d.out (found a (g (seen_as d)))) (same d)
-        ∙ ap (λ a. where_on j d.out (found (x d) a)) (seen d)
-        ∙ ap (λ (o : Output). where_on j o (found (x d) (seen_as (f d)))) (sym (out d)));
+    cuts = λ j d c. (
+      subst (λ (o : Output). Counted j o) (sym (out d)) c,
+      ap (λ a. where_on j d.out (found a (g (seen_as d)))) (same d)
+          ∙ ap (λ a. where_on j d.out (found (x d) a)) (seen d)
+          ∙ ap (λ (o : Output). where_on j o (found (x d) (seen_as (f d)))) (sym (out d)),
+    );
   }
 
   -- by a test of what both know
@@ -183,9 +185,11 @@ module _ (log : List ℕ) where
       → ((d : Done Output) → (f d).out.count ≡ d.out.count) → ((d : Done Output) → (f d).out.printed ≡ d.out.printed)
       → ((d : Done Output) → g (seen_as d) ≡ seen_as (f d)) → Goes (λ d. Some (f d)) (λ d. Some (g d))
   goes_some f g count printed seen = record {
-    cuts = λ j d c. (count d ∙ c ∙ ap (λ t. j + length t) (sym (printed d)),
-        ap (λ a. where_on j d.out (Some a)) (seen d)
-        ∙ ap (λ t. cond (follows log j t) (Some (seen_as (f d))) None) (sym (printed d)));
+    cuts = λ j d c. (
+      count d ∙ c ∙ ap (λ t. j + length t) (sym (printed d)),
+      ap (λ a. where_on j d.out (Some a)) (seen d)
+          ∙ ap (λ t. cond (follows log j t) (Some (seen_as (f d))) None) (sym (printed d)),
+    );
   }
 
   pub goes_stay : Goes (λ d. Some d) (λ d. Some d)

@@ -1,14 +1,13 @@
 -- Cutting at a log and running: expressions.
-use Rattle.std.proofs.Common.{◌≡◌, ℕ, zero, suc, ◌+◌, ℤ, pos, negsuc, List, [], ◌∷◌, ◌++◌, map, length, drop, Bool, true}
-use Rattle.std.proofs.Common.{false, cond, Option, Some, None, Ok, Err, refl, sym, ap, ap₂, ◌∙◌, subst}
+use Rattle.std.proofs.Common.{◌≡◌, ℕ, suc, ◌+◌, ℤ, pos, negsuc, List, [], ◌∷◌, Bool, true}
+use Rattle.std.proofs.Common.{false, Option, Some, None, refl, ap, ap₂, ◌∙◌, subst}
 use Rattle.std.proofs.Math.Path.{fun_ext}
 use Rattle.std.specs.Prelude.{not, ◌||◌, neg_ℤ, ◌+ℤ◌, ◌-ℤ◌, ◌*ℤ◌, unsigned_abs}
-use Rattle.bit_words.specs.declared.run.Happening.{Happening}
 use Rattle.bit_words.specs.declared.run.Happening.TheVariants as happening
 use Rattle.bit_words.specs.declared.run.Side.TheVariants as side
 use Rattle.c_type_terms.specs.Integers.{is_zero, number_of}
 use Rattle.c_store.specs.Access.{can_access, can_write, in_one_object}
-use Rattle.c_means.specs.Parts.{Env, World, Limits}
+use Rattle.c_means.specs.Parts.{Env}
 use Rattle.c_means.specs.Values.{address}
 use Rattle.c_means.specs.Pointers.{elements_in}
 use Rattle.c_store.specs.Store.{read, write, start}
@@ -19,20 +18,18 @@ use Rattle.core_tree.specs.declared.types.Answered.{Answered}
 use Rattle.core_tree.specs.declared.types.Operator.{Operator}
 use Rattle.core_tree.specs.declared.types.Operator.TheVariants as op
 use Rattle.core_tree.specs.declared.types.Relation.{Relation}
-use Rattle.core_tree.specs.declared.types.Turning.{Turning}
 use Rattle.core_tree.specs.declared.types.ValueType.{ValueType}
 use Rattle.core_tree.specs.declared.types.ValueType.TheVariants as v
-use Rattle.core_tree.specs.declared.types.WordType.{WordType}
 use Rattle.core_tree.specs.Numbers.{size_of, value_of_bytes, bytes_of_value, converted_to, worked, in_order}
 use Rattle.core_tree.specs.Memory.{load, put, moved_to, apart, ordered, operated}
-use Rattle.core_tree.specs.States.{Output, plain, along, follows, Done, Outcome, ◌>>=◌, found, stop, note, on_branch, Calls}
-use Rattle.core_tree.specs.States.{Level, Measures, Needs}
-use Rattle.core_tree.specs.Values.{Value, alone, constant, fixed, local, on_value, operate, truth_of, and_then, or_else}
+use Rattle.core_tree.specs.States.{Output, plain, along, Done, Outcome, found, note, on_branch}
+use Rattle.core_tree.specs.States.{Measures, Needs}
+use Rattle.core_tree.specs.Values.{Value, constant, local, on_value, operate, truth_of, and_then, or_else}
 use Rattle.core_tree.specs.Values.{both, either, one_run, choose, comma, store, update, step, either_value, over_one}
 use Rattle.core_tree.specs.Values.{over_both, over_three, all_sizes, all_rooms, arguments, needed, acting, call}
 use Rattle.core_tree.specs.Callees.{callee_size, callee_room}
 use Rattle.core_tree.proofs.CutCalls.{Frames, plain_in, along_in, returned_cut, called_cut}
-use Rattle.core_tree.proofs.CutStates.{seen_as, Counted, where_on, CutsValue, CutsState, Runs, Goes, runs_bind}
+use Rattle.core_tree.proofs.CutStates.{Runs, runs_bind}
 use Rattle.core_tree.proofs.CutStates.{runs_or_stop, test_cut, found_or_stop, else_stop}
 
 abbrev the_needs : (Measures → ℕ) → (Measures → ℕ) → Needs

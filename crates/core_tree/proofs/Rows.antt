@@ -1,5 +1,5 @@
 -- Worked runs of small programs of the core, as they print and along a log.
-use Rattle.std.proofs.Common.{◌≡◌, ℕ, ◌+◌, ◌*◌, pos, List, [], ◌∷◌, true, false, Option, Some, None, refl, ap, ◌∙◌}
+use Rattle.std.proofs.Common.{◌≡◌, ℕ, ◌+◌, ◌*◌, pos, List, [], ◌∷◌, true, false, Option, Some, None, refl, ap}
 use Rattle.bit_words.specs.declared.run.Event.{Event}
 use Rattle.bit_words.specs.declared.run.Finish.{Finish}
 use Rattle.bit_words.specs.declared.run.Finish.TheVariants as finish
@@ -14,22 +14,18 @@ use Rattle.printf_text.specs.declared.piece.Piece.TheVariants as piece
 use Rattle.printf_text.specs.declared.piece.Size.TheVariants as size
 use Rattle.c_says.specs.Scopes.{Name}
 use Rattle.c_means.specs.Parts.{World, Limits}
-use Rattle.c_means.specs.declared.kind.Kind.TheVariants as k
-use Rattle.c_runs.specs.Runs.{finish_of}
-use Rattle.core_tree.specs.declared.expr.Callee.{Callee}
 use Rattle.core_tree.specs.declared.expr.Callee.TheVariants as callee
 use Rattle.core_tree.specs.declared.expr.Holder.TheVariants as holder
 use Rattle.core_tree.specs.declared.expr.Watched.{Watched}
 use Rattle.core_tree.specs.declared.types.Access.{Access}
 use Rattle.core_tree.specs.declared.types.Answered.TheVariants as answered
 use Rattle.core_tree.specs.declared.types.Arithmetic.TheVariants as o
-use Rattle.core_tree.specs.declared.types.Operator.{Operator}
 use Rattle.core_tree.specs.declared.types.Operator.TheVariants as op
 use Rattle.core_tree.specs.declared.types.ValueType.{ValueType}
 use Rattle.core_tree.specs.declared.types.ValueType.TheVariants as v
 use Rattle.core_tree.specs.Numbers.{int, wrapped, exact}
-use Rattle.core_tree.specs.States.{Done, Output, Taking, plain, along}
-use Rattle.core_tree.specs.Programs.{Machine, machine, measures_of, calls_of, end_of, nothing_left, ran, maybe_ran}
+use Rattle.core_tree.specs.States.{Done, Output, plain, along}
+use Rattle.core_tree.specs.Programs.{Machine, measures_of, calls_of, end_of, nothing_left, maybe_ran}
 use Rattle.core_tree.specs.Programs.{run_of, room_of, unrolled_size}
 use Rattle.core_tree.proofs.Scene.{OfExpr, OfCode, OfBody, number, local, load, operate, store, step, call, does}
 use Rattle.core_tree.proofs.Scene.{declare, block, nothing, label, case, default, when, switch, loop, repeat, goto}

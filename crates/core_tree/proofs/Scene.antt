@@ -1,14 +1,12 @@
 -- Expressions, code and functions, each with what it is worth, so that worked rows compute and speak of trees.
-use Rattle.std.proofs.Common.{◌≡◌, ℕ, zero, suc, ℤ, List, [], ◌∷◌, Bool, true, false, Option, Some, None, refl, sym, ap, ap₂, ◌∙◌}
+use Rattle.std.proofs.Common.{◌≡◌, ℕ, zero, suc, ℤ, List, [], ◌∷◌, Bool, true, false, Option, Some, None, refl, ap, ap₂, ◌∙◌}
 use Rattle.std.proofs.Math.Path.{fun_ext}
 use Rattle.std.specs.Prelude.{map, option_map, slice_get}
-use Rattle.bit_words.specs.declared.width.Width.TheVariants as width
 use Rattle.c_means.specs.Parts.{World, Limits}
 use Rattle.c_says.specs.Scopes.{Name}
 use Rattle.core_tree.specs.declared.code.Code.{Code}
 use Rattle.core_tree.specs.declared.code.Code.TheOpen as code_open
 use Rattle.core_tree.specs.declared.code.Code.TheVariants as tree
-use Rattle.core_tree.specs.declared.code.Setting.{Setting}
 use Rattle.core_tree.specs.declared.expr.Callee.{Callee}
 use Rattle.core_tree.specs.declared.expr.Expr.{Expr}
 use Rattle.core_tree.specs.declared.expr.Expr.TheOpen as expr_open
@@ -20,15 +18,13 @@ use Rattle.core_tree.specs.declared.types.Access.{Access}
 use Rattle.core_tree.specs.declared.types.Answered.{Answered}
 use Rattle.core_tree.specs.declared.types.Operator.{Operator}
 use Rattle.core_tree.specs.declared.types.ValueType.{ValueType}
-use Rattle.core_tree.specs.declared.types.ValueType.TheVariants as v
 use Rattle.core_tree.specs.declared.types.WordType.{WordType}
-use Rattle.core_tree.specs.Numbers.{int}
-use Rattle.core_tree.specs.States.{Taking, Done}
+use Rattle.core_tree.specs.States.{Taking}
 use Rattle.core_tree.specs.Values.{Value, value, value_step}
 use Rattle.c_runs.specs.Items.{at_case}
 use Rattle.core_tree.specs.Codes.{Item, code, code_step, in_turn, evaluated, arrived, if_of, switch_of, looped}
 use Rattle.core_tree.specs.Codes.{repeated, return_of}
-use Rattle.core_tree.specs.Programs.{Body, body_of, maybe_body, Machine, machine, end_of}
+use Rattle.core_tree.specs.Programs.{Body, body_of, maybe_body, Machine, machine}
 use Rattle.core_tree.proofs.Equations as eq
 
 pub record OfExpr (O : Type 0) : Type 0 where

@@ -8,7 +8,6 @@ use Rattle.std.specs.Prelude.{unwrap_or}
 use Rattle.bit_words.specs.declared.run.Finish.TheVariants as finish
 use Rattle.bit_words.specs.declared.run.Happening.TheVariants as happening
 use Rattle.bit_words.specs.declared.run.Undefined.TheVariants as undefined
-use Rattle.bit_words.specs.declared.width.Width.TheVariants as width
 use Rattle.bit_words.specs.Words.{word}
 use Rattle.printf_text.specs.declared.piece.Arg.{Arg}
 use Rattle.printf_text.specs.declared.piece.Arg.TheVariants as arg
@@ -21,7 +20,6 @@ use Rattle.printf_text.specs.declared.piece.Size.TheVariants as size
 use Rattle.printf_text.specs.Texts.{piece_text, piece_kinds}
 use Rattle.printf_text.specs.Texts.{size_of as size_in}
 use Rattle.c_type_terms.specs.Integers.{is_zero}
-use Rattle.c_store.specs.declared.object.ObjectKind.{ObjectKind}
 use Rattle.c_store.specs.declared.object.ObjectKind.TheVariants as object
 use Rattle.c_store.specs.Store.{Store, start, object_of, make, end, zero_range, lay, read}
 use Rattle.c_store.specs.Access.{can_access, can_write, can_free}
@@ -42,7 +40,7 @@ use Rattle.core_tree.specs.declared.types.ValueType.{ValueType}
 use Rattle.core_tree.specs.declared.types.WordType.{WordType}
 use Rattle.core_tree.specs.Numbers.{int, wrapped, size_of, converted_to, value_of_bytes}
 use Rattle.core_tree.specs.States.{Taking, Done, Arrow, Calls, Level, Measures, entered, note, meet, meets, with_store}
-use Rattle.core_tree.specs.States.{finished, onward}
+use Rattle.core_tree.specs.States.{finished}
 
 -- ---- answers
 

@@ -1,14 +1,13 @@
 -- What statements and declarations of the core do: one function a node, over what stands in it. All control is
 -- composition of arrows of states: a step acts where the run is running, a label and a case also where the run looks
 -- for them, and every other state passes. `code` is the fold.
-use Rattle.std.specs.Prelude.{ℕ, zero, suc, ◌+◌, ◌*◌, ℤ, Bool, true, false, cond, ◌||◌, List, [], ◌∷◌, ◌++◌, length, map}
+use Rattle.std.specs.Prelude.{ℕ, zero, suc, ◌+◌, ◌*◌, ℤ, Bool, true, false, cond, ◌||◌, List, [], ◌∷◌, ◌++◌, map}
 use Rattle.std.specs.Prelude.{option_map, Option, Some, None}
 use Rattle.bit_words.specs.declared.run.Finish.TheVariants as finish
 use Rattle.bit_words.specs.declared.run.Happening.TheVariants as happening
 use Rattle.bit_words.specs.declared.run.Side.{Side}
 use Rattle.bit_words.specs.declared.run.Side.TheVariants as side
 use Rattle.c_store.specs.Store.{start, zero_range, lay}
-use Rattle.c_says.specs.Scopes.{Name}
 use Rattle.c_means.specs.declared.kind.Kind.{Kind}
 use Rattle.c_means.specs.declared.kind.Kind.TheVariants as k
 use Rattle.c_means.specs.Parts.{Env}
@@ -19,7 +18,6 @@ use Rattle.core_tree.specs.declared.code.Code.TheOpen as open_
 use Rattle.core_tree.specs.declared.code.Setting.{Setting}
 use Rattle.core_tree.specs.declared.code.Setting.TheVariants as setting
 use Rattle.core_tree.specs.declared.expr.Expr.{Expr}
-use Rattle.core_tree.specs.declared.types.ValueType.{ValueType}
 use Rattle.core_tree.specs.declared.types.WordType.{WordType}
 use Rattle.core_tree.specs.Numbers.{wrapped}
 use Rattle.core_tree.specs.Memory.{stored}
@@ -231,9 +229,9 @@ turns_from at test body step l env zero base d =
 turns_from at test body step l env (suc n) base d =
     tested at test l env base (λ b. one_of b
     (λ d. onward (body.run l env (base + (test_needs test).room l.measures) d) (λ r. running (λ r. onward
-        (step.run l env (base + ((test_needs test).room l.measures + body.needs.room l.measures)) r)
-        (running (turns_from at test body step l env n (base + (turn_needs test body step).room l.measures))))
-        (arrive past_continue r)))
+    (step.run l env (base + ((test_needs test).room l.measures + body.needs.room l.measures)) r)
+    (running (turns_from at test body step l env n (base + (turn_needs test body step).room l.measures))))
+    (arrive past_continue r)))
     stay) d
 
 abbrev pub broken_out : {O : Type 0} → Option (Done O) → Option (Done O)

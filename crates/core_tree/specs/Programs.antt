@@ -2,13 +2,10 @@
 -- is called; and the run, for any way of taking what it prints.
 use Rattle.std.specs.Prelude.{ℕ, zero, suc, ◌+◌, ◌-◌, ◌*◌, ◌%◌, ℤ, pos, Bool, true, false, cond, List, [], ◌∷◌, length, map, ◌^◌}
 use Rattle.std.specs.Prelude.{Option, Some, None, slice_get}
-use Rattle.bit_words.specs.declared.run.Finish.{Finish}
 use Rattle.bit_words.specs.declared.run.Run.{Run}
-use Rattle.c_store.specs.declared.object.ObjectKind.{ObjectKind}
 use Rattle.c_store.specs.declared.object.ObjectKind.TheVariants as object
 use Rattle.c_store.specs.Store.{Store, initial, start, make, zero_range, lay, write}
-use Rattle.c_means.specs.declared.kind.Kind.{Kind}
-use Rattle.c_means.specs.Parts.{Env, World, Limits}
+use Rattle.c_means.specs.Parts.{World, Limits}
 use Rattle.c_runs.specs.Initials.{text_byte}
 use Rattle.c_runs.specs.Items.{Made, known}
 use Rattle.c_runs.specs.Runs.{comes_back, finish_of}

@@ -1,7 +1,7 @@
 -- What expressions of the core are worth: one function a node, over what stands in it, from left to right. `value` is
 -- the fold.
-use Rattle.std.specs.Prelude.{ℕ, suc, ◌+◌, ℤ, pos, Bool, true, false, not, List, [], ◌∷◌, map, Option, Some, None}
-use Rattle.std.specs.Prelude.{unwrap_or, unsigned_abs}
+use Rattle.std.specs.Prelude.{ℕ, suc, ◌+◌, ℤ, pos, Bool, true, false, not, List, [], ◌∷◌, Option, Some, None}
+use Rattle.std.specs.Prelude.{unsigned_abs}
 use Rattle.bit_words.specs.declared.run.Happening.TheVariants as happening
 use Rattle.bit_words.specs.declared.run.Undefined.TheVariants.{MissingValue}
 use Rattle.c_type_terms.specs.Integers.{is_zero, number_of}

@@ -16,7 +16,11 @@ pub enum Setting {
         value: Shared<Expr>,
     },
     /// The bytes of a literal in so many bytes, and 0 behind them.
-    Text { offset: u64, size: u64, bytes: Bytes },
+    Text {
+        offset: u64,
+        size: u64,
+        bytes: Bytes,
+    },
 }
 
 /// A statement or declaration of the core. `at` is the byte offset of a token in the source. `is_node` tells whether

@@ -53,7 +53,9 @@ pub struct Fill {
 #[derive(Drop)]
 pub enum Callee {
     /// The function of this number, by its body.
-    Body { function: u32 },
+    Body {
+        function: u32,
+    },
     /// A log call: the pieces of its format, how many arguments stand before those of the format, the integer types of
     /// all arguments (of another argument any), and the variables that are shown, in order.
     Log {
@@ -63,7 +65,9 @@ pub enum Callee {
         watched: Items<Watched>,
     },
     /// Its argument of this index is answered.
-    Identity { index: u32 },
+    Identity {
+        index: u32,
+    },
     Exit,
     Abort,
     Malloc,

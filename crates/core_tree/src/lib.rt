@@ -9,6 +9,4 @@ mod types;
 pub use code::{Code, Setting};
 pub use expr::{Callee, Expr, Fill, Holder, OutsideAnswer, Pointee, Watched};
 pub use program::{Contents, Core, Function, LastingObject, LastingSetting, Parameter};
-pub use types::{
-    Access, Answered, Arithmetic, Operator, Relation, Turning, ValueType, WordType,
-};
+pub use types::{Access, Answered, Arithmetic, Operator, Relation, Turning, ValueType, WordType};
