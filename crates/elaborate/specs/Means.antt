@@ -46,9 +46,9 @@ pub record Like (static : ℕ → ℕ) (l : c.Level) (k : Level Output) : Type 0
 
 -- ---- expressions
 
-pub record Does (static : ℕ → ℕ) (x : Value Output) (size room : c.Level → ℕ) (run : c.Level → c.Run ℤ) : Type 0 where
-  pub size : (l : c.Level) (k : Level Output) → Like static l k → x.needs.size k.measures ≡ size l
-  pub room : (l : c.Level) (k : Level Output) → Like static l k → x.needs.room k.measures ≡ room l
+pub record Does (static : ℕ → ℕ) (x : Value Output) (nodes places : c.Level → ℕ) (run : c.Level → c.Run ℤ) : Type 0 where
+  pub size : (l : c.Level) (k : Level Output) → Like static l k → x.needs.size k.measures ≡ nodes l
+  pub room : (l : c.Level) (k : Level Output) → Like static l k → x.needs.room k.measures ≡ places l
   pub runs : (l : c.Level) (k : Level Output) → Like static l k → (env : Env) (base : ℕ) (d : State)
       → x.run k env base (as_done d) ≡ as_found (run l env base d)
 
