@@ -20,7 +20,7 @@ use Rattle.core_tree.specs.declared.types.Arithmetic.{Arithmetic}
 use Rattle.core_tree.specs.declared.types.Arithmetic.TheVariants as a
 use Rattle.core_tree.specs.declared.types.Turning.TheVariants as turn
 use Rattle.core_tree.specs.Numbers as core
-use Rattle.elaborate.specs.Types.{word_type, integer_type, arithmetic}
+use Rattle.elaborate.specs.Types.{word_type, integer_type, arithmetic, working}
 
 -- the operator that is given
 abbrev given : Option Arithmetic → Arithmetic
@@ -159,3 +159,186 @@ module _ (kind : IntegerKind) (h : is_bool kind ≡ false) where
 
   pub complement_same : (z : ℤ) → core.turned turn.Complement (word_type kind) z ≡ says.turned u.Complement kind z
   complement_same z = ap (λ (w : ℤ → ℤ). Ok (w (negsuc 0 -ℤ z))) wrap
+
+-- ---- no operator works in `_Bool`
+
+pub promoted_word : (a : IntegerKind) → is_bool (integers.promoted a) ≡ false
+promoted_word k.Bool = refl
+promoted_word k.Char = refl
+promoted_word k.SignedChar = refl
+promoted_word k.UnsignedChar = refl
+promoted_word k.Short = refl
+promoted_word k.UnsignedShort = refl
+promoted_word k.Int = refl
+promoted_word k.UnsignedInt = refl
+promoted_word k.Long = refl
+promoted_word k.UnsignedLong = refl
+promoted_word k.LongLong = refl
+promoted_word k.UnsignedLongLong = refl
+
+-- the usual conversions give the promoted type of one of the two, or an unsigned one
+pub usual_word : (a b : IntegerKind) → is_bool (integers.usual a b) ≡ false
+usual_word k.Bool k.Bool = refl
+usual_word k.Bool k.Char = refl
+usual_word k.Bool k.SignedChar = refl
+usual_word k.Bool k.UnsignedChar = refl
+usual_word k.Bool k.Short = refl
+usual_word k.Bool k.UnsignedShort = refl
+usual_word k.Bool k.Int = refl
+usual_word k.Bool k.UnsignedInt = refl
+usual_word k.Bool k.Long = refl
+usual_word k.Bool k.UnsignedLong = refl
+usual_word k.Bool k.LongLong = refl
+usual_word k.Bool k.UnsignedLongLong = refl
+usual_word k.Char k.Bool = refl
+usual_word k.Char k.Char = refl
+usual_word k.Char k.SignedChar = refl
+usual_word k.Char k.UnsignedChar = refl
+usual_word k.Char k.Short = refl
+usual_word k.Char k.UnsignedShort = refl
+usual_word k.Char k.Int = refl
+usual_word k.Char k.UnsignedInt = refl
+usual_word k.Char k.Long = refl
+usual_word k.Char k.UnsignedLong = refl
+usual_word k.Char k.LongLong = refl
+usual_word k.Char k.UnsignedLongLong = refl
+usual_word k.SignedChar k.Bool = refl
+usual_word k.SignedChar k.Char = refl
+usual_word k.SignedChar k.SignedChar = refl
+usual_word k.SignedChar k.UnsignedChar = refl
+usual_word k.SignedChar k.Short = refl
+usual_word k.SignedChar k.UnsignedShort = refl
+usual_word k.SignedChar k.Int = refl
+usual_word k.SignedChar k.UnsignedInt = refl
+usual_word k.SignedChar k.Long = refl
+usual_word k.SignedChar k.UnsignedLong = refl
+usual_word k.SignedChar k.LongLong = refl
+usual_word k.SignedChar k.UnsignedLongLong = refl
+usual_word k.UnsignedChar k.Bool = refl
+usual_word k.UnsignedChar k.Char = refl
+usual_word k.UnsignedChar k.SignedChar = refl
+usual_word k.UnsignedChar k.UnsignedChar = refl
+usual_word k.UnsignedChar k.Short = refl
+usual_word k.UnsignedChar k.UnsignedShort = refl
+usual_word k.UnsignedChar k.Int = refl
+usual_word k.UnsignedChar k.UnsignedInt = refl
+usual_word k.UnsignedChar k.Long = refl
+usual_word k.UnsignedChar k.UnsignedLong = refl
+usual_word k.UnsignedChar k.LongLong = refl
+usual_word k.UnsignedChar k.UnsignedLongLong = refl
+usual_word k.Short k.Bool = refl
+usual_word k.Short k.Char = refl
+usual_word k.Short k.SignedChar = refl
+usual_word k.Short k.UnsignedChar = refl
+usual_word k.Short k.Short = refl
+usual_word k.Short k.UnsignedShort = refl
+usual_word k.Short k.Int = refl
+usual_word k.Short k.UnsignedInt = refl
+usual_word k.Short k.Long = refl
+usual_word k.Short k.UnsignedLong = refl
+usual_word k.Short k.LongLong = refl
+usual_word k.Short k.UnsignedLongLong = refl
+usual_word k.UnsignedShort k.Bool = refl
+usual_word k.UnsignedShort k.Char = refl
+usual_word k.UnsignedShort k.SignedChar = refl
+usual_word k.UnsignedShort k.UnsignedChar = refl
+usual_word k.UnsignedShort k.Short = refl
+usual_word k.UnsignedShort k.UnsignedShort = refl
+usual_word k.UnsignedShort k.Int = refl
+usual_word k.UnsignedShort k.UnsignedInt = refl
+usual_word k.UnsignedShort k.Long = refl
+usual_word k.UnsignedShort k.UnsignedLong = refl
+usual_word k.UnsignedShort k.LongLong = refl
+usual_word k.UnsignedShort k.UnsignedLongLong = refl
+usual_word k.Int k.Bool = refl
+usual_word k.Int k.Char = refl
+usual_word k.Int k.SignedChar = refl
+usual_word k.Int k.UnsignedChar = refl
+usual_word k.Int k.Short = refl
+usual_word k.Int k.UnsignedShort = refl
+usual_word k.Int k.Int = refl
+usual_word k.Int k.UnsignedInt = refl
+usual_word k.Int k.Long = refl
+usual_word k.Int k.UnsignedLong = refl
+usual_word k.Int k.LongLong = refl
+usual_word k.Int k.UnsignedLongLong = refl
+usual_word k.UnsignedInt k.Bool = refl
+usual_word k.UnsignedInt k.Char = refl
+usual_word k.UnsignedInt k.SignedChar = refl
+usual_word k.UnsignedInt k.UnsignedChar = refl
+usual_word k.UnsignedInt k.Short = refl
+usual_word k.UnsignedInt k.UnsignedShort = refl
+usual_word k.UnsignedInt k.Int = refl
+usual_word k.UnsignedInt k.UnsignedInt = refl
+usual_word k.UnsignedInt k.Long = refl
+usual_word k.UnsignedInt k.UnsignedLong = refl
+usual_word k.UnsignedInt k.LongLong = refl
+usual_word k.UnsignedInt k.UnsignedLongLong = refl
+usual_word k.Long k.Bool = refl
+usual_word k.Long k.Char = refl
+usual_word k.Long k.SignedChar = refl
+usual_word k.Long k.UnsignedChar = refl
+usual_word k.Long k.Short = refl
+usual_word k.Long k.UnsignedShort = refl
+usual_word k.Long k.Int = refl
+usual_word k.Long k.UnsignedInt = refl
+usual_word k.Long k.Long = refl
+usual_word k.Long k.UnsignedLong = refl
+usual_word k.Long k.LongLong = refl
+usual_word k.Long k.UnsignedLongLong = refl
+usual_word k.UnsignedLong k.Bool = refl
+usual_word k.UnsignedLong k.Char = refl
+usual_word k.UnsignedLong k.SignedChar = refl
+usual_word k.UnsignedLong k.UnsignedChar = refl
+usual_word k.UnsignedLong k.Short = refl
+usual_word k.UnsignedLong k.UnsignedShort = refl
+usual_word k.UnsignedLong k.Int = refl
+usual_word k.UnsignedLong k.UnsignedInt = refl
+usual_word k.UnsignedLong k.Long = refl
+usual_word k.UnsignedLong k.UnsignedLong = refl
+usual_word k.UnsignedLong k.LongLong = refl
+usual_word k.UnsignedLong k.UnsignedLongLong = refl
+usual_word k.LongLong k.Bool = refl
+usual_word k.LongLong k.Char = refl
+usual_word k.LongLong k.SignedChar = refl
+usual_word k.LongLong k.UnsignedChar = refl
+usual_word k.LongLong k.Short = refl
+usual_word k.LongLong k.UnsignedShort = refl
+usual_word k.LongLong k.Int = refl
+usual_word k.LongLong k.UnsignedInt = refl
+usual_word k.LongLong k.Long = refl
+usual_word k.LongLong k.UnsignedLong = refl
+usual_word k.LongLong k.LongLong = refl
+usual_word k.LongLong k.UnsignedLongLong = refl
+usual_word k.UnsignedLongLong k.Bool = refl
+usual_word k.UnsignedLongLong k.Char = refl
+usual_word k.UnsignedLongLong k.SignedChar = refl
+usual_word k.UnsignedLongLong k.UnsignedChar = refl
+usual_word k.UnsignedLongLong k.Short = refl
+usual_word k.UnsignedLongLong k.UnsignedShort = refl
+usual_word k.UnsignedLongLong k.Int = refl
+usual_word k.UnsignedLongLong k.UnsignedInt = refl
+usual_word k.UnsignedLongLong k.Long = refl
+usual_word k.UnsignedLongLong k.UnsignedLong = refl
+usual_word k.UnsignedLongLong k.LongLong = refl
+usual_word k.UnsignedLongLong k.UnsignedLongLong = refl
+
+pub working_word : (op : BinaryOperator) (a b : IntegerKind) → is_bool (working op a b) ≡ false
+working_word o.Multiply a b = usual_word a b
+working_word o.Divide a b = usual_word a b
+working_word o.Remainder a b = usual_word a b
+working_word o.Add a b = usual_word a b
+working_word o.Subtract a b = usual_word a b
+working_word o.ShiftLeft a b = promoted_word a
+working_word o.ShiftRight a b = promoted_word a
+working_word o.Less a b = usual_word a b
+working_word o.Greater a b = usual_word a b
+working_word o.LessEqual a b = usual_word a b
+working_word o.GreaterEqual a b = usual_word a b
+working_word o.Equal a b = usual_word a b
+working_word o.NotEqual a b = usual_word a b
+working_word o.BitAnd a b = usual_word a b
+working_word o.BitXor a b = usual_word a b
+working_word o.BitOr a b = usual_word a b
+working_word o.LogicalAnd a b = usual_word a b
+working_word o.LogicalOr a b = usual_word a b

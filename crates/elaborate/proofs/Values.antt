@@ -4,7 +4,10 @@ use Rattle.std.proofs.Common.{Err, refl, sym, ap, ap₂, ◌∙◌}
 use Rattle.std.specs.Prelude.{unsigned_abs, not, ◌||◌}
 use Rattle.c_tree.specs.declared.expr.BinaryOperator.{BinaryOperator}
 use Rattle.c_tree.specs.declared.expr.BinaryOperator.TheVariants as o
+use Rattle.c_tree.specs.declared.expr.UnaryOperator.{UnaryOperator}
 use Rattle.c_tree.specs.declared.expr.UnaryOperator.TheVariants as u
+use Rattle.core_tree.specs.declared.types.Turning.{Turning}
+use Rattle.c_says.specs.Typing as says
 use Rattle.c_type_terms.specs.declared.class.Class.{Class}
 use Rattle.c_type_terms.specs.declared.class.Class.TheVariants as class
 use Rattle.c_type_terms.specs.declared.ctype.IntegerKind.{IntegerKind}
@@ -15,7 +18,7 @@ use Rattle.c_says.specs.declared.scope.Duration.TheVariants as duration
 use Rattle.c_says.specs.Typing.{Typed, type_of}
 use Rattle.c_means.specs.Parts.{State, Env, Part}
 use Rattle.c_means.specs.Parts as c
-use Rattle.c_means.specs.Values.{class_in}
+use Rattle.c_means.specs.Values.{class_in, address}
 use Rattle.c_means.specs.Operators.{value_type, kind_in}
 use Rattle.c_means.specs.Operators as c_operators
 use Rattle.c_means.specs.Expressions as forms
@@ -28,19 +31,38 @@ use Rattle.core_tree.specs.declared.types.Operator.TheVariants as op
 use Rattle.core_tree.specs.declared.types.Turning.TheVariants as turn
 use Rattle.core_tree.specs.declared.types.ValueType.{ValueType}
 use Rattle.core_tree.specs.Numbers as numbers
-use Rattle.core_tree.specs.States.{Output, Done, Outcome, Level, ◌>>=◌, found}
-use Rattle.core_tree.specs.Values.{Value, value, on_value, over_one}
+use Rattle.core_tree.specs.States.{Output, Done, Outcome, Level, ◌>>=◌, found, or_stop}
+use Rattle.core_tree.specs.Values.{Value, value, on_value, over_one, over_both}
 use Rattle.core_tree.specs.Values as core
 use Rattle.core_tree.proofs.Equations as eq
 use Rattle.elaborate.specs.Means.{as_done, as_found, as_value, Like, Does, IsValueOf, IsAddressOf, IsEffectOf}
 use Rattle.elaborate.specs.Types.{word_type, arithmetic}
-use Rattle.elaborate.proofs.Numbers.{worked_same, plus_same, minus_same, complement_same}
+use Rattle.elaborate.proofs.Numbers.{worked_same, plus_same, minus_same, complement_same, promoted_word, working_word}
 use Rattle.elaborate.proofs.States.{then_same, or_stop_same, test_same, branch_same}
+
+-- ---- addresses as values
+
+addressed : {A : Type 0} (o : c.Outcome ℕ) (g : ℤ → State → c.Outcome A) → c.◌>>=◌ (as_value o) (λ v. g v.0 v.1) ≡ c.◌>>=◌ o (λ a. g (pos a.0) a.1)
+addressed (Ok x) g = refl
+addressed (Err d) g = refl
+
+as_value_then : {A : Type 0} (o : c.Outcome A) (f : A × State → c.Outcome ℕ) → as_value (c.◌>>=◌ o f) ≡ c.◌>>=◌ o (λ v. as_value (f v))
+as_value_then (Ok x) f = refl
+as_value_then (Err d) f = refl
 
 module _ (static : ℕ → ℕ) where
   -- what is said of a tree by what it is worth
   by_worth : (e : Expr) (x : Value Output) (nodes places : c.Level → ℕ) (run : c.Level → c.Run ℤ) → value e ≡ x → Does static x nodes places run → Does static (value e) nodes places run
   by_worth e x nodes places run f h = rw f h
+
+  -- the same told otherwise
+  rerun : (x : Value Output) (n r : c.Level → ℕ) (run run' : c.Level → c.Run ℤ) → Does static x n r run
+      → ((l : c.Level) (env : Env) (base : ℕ) (d : State) → run l env base d ≡ run' l env base d) → Does static x n r run'
+  rerun x n r run run' h same = record {
+    size = h.size;
+    room = h.room;
+    runs = λ l k like env base d. h.runs l k like env base d ∙ ap as_found (same l env base d);
+  }
 
   -- ---- forms without parts
 
@@ -102,3 +124,73 @@ module _ (static : ℕ → ℕ) where
   pub not_value : (e : Expr) (at : ℕ) (p : Part) → IsValueOf static e p → IsValueOf static (expr.Not e) (forms.unary at u.Not p)
   not_value e at p h = by_worth _ _ _ _ _ (eq.worth-Not e)
       (node_does (value e) p.size p.room p.run _ (λ z d. c_operators.negated (c_operators.operand p.typed.after.tables p.typed z) d) h (λ z d. refl))
+
+  -- `+`, `-` and `~`, in the promoted type
+  module _ (e : Expr) (at : ℕ) (is_constant : Bool) (kind : IntegerKind) (p : Part) (h : IsValueOf static e p) (typed : kind_in (value_type p.typed) ≡ Some kind) where
+    turned_by : (op : UnaryOperator) (t : Turning) (z : ℤ) (d : State) → numbers.turned t (word_type (promoted kind)) z ≡ says.turned op (promoted kind) z
+        → or_stop at (numbers.turned t (word_type (promoted kind)) z) (as_done d)
+        ≡ as_found (c_operators.turned_value at op (c_operators.operand p.typed.after.tables p.typed z) d)
+    turned_by op t z d same =
+        ap (λ a. or_stop at a (as_done d)) same ∙ or_stop_same at (says.turned op (promoted kind) z) d
+        ∙ ap (λ k. as_found (c_operators.turned_of at op k z d)) (sym typed)
+
+    pub minus_value : IsValueOf static (expr.Turn at turn.Minus (word_type (promoted kind)) is_constant e) (forms.unary at u.Minus p)
+    minus_value = by_worth _ _ _ _ _ (eq.worth-Turn at turn.Minus (word_type (promoted kind)) is_constant e)
+        (node_does (value e) p.size p.room p.run _ (λ z d. c_operators.turned_value at u.Minus (c_operators.operand p.typed.after.tables p.typed z) d) h
+        (λ z d. turned_by u.Minus turn.Minus z d (minus_same (promoted kind) (promoted_word kind) z)))
+
+    pub plus_value : IsValueOf static (expr.Turn at turn.Plus (word_type (promoted kind)) is_constant e) (forms.unary at u.Plus p)
+    plus_value = by_worth _ _ _ _ _ (eq.worth-Turn at turn.Plus (word_type (promoted kind)) is_constant e)
+        (node_does (value e) p.size p.room p.run _ (λ z d. c_operators.turned_value at u.Plus (c_operators.operand p.typed.after.tables p.typed z) d) h
+        (λ z d. turned_by u.Plus turn.Plus z d (plus_same (promoted kind) (promoted_word kind) z)))
+
+    pub complement_value : IsValueOf static (expr.Turn at turn.Complement (word_type (promoted kind)) is_constant e) (forms.unary at u.Complement p)
+    complement_value = by_worth _ _ _ _ _ (eq.worth-Turn at turn.Complement (word_type (promoted kind)) is_constant e)
+        (node_does (value e) p.size p.room p.run _ (λ z d. c_operators.turned_value at u.Complement (c_operators.operand p.typed.after.tables p.typed z) d) h
+        (λ z d. turned_by u.Complement turn.Complement z d (complement_same (promoted kind) (promoted_word kind) z)))
+
+  -- ---- addresses
+
+  -- `&`: the address as a value
+  pub pointer_value : (e : Expr) (at : ℕ) (p : Part) → IsAddressOf static e p → IsValueOf static (expr.Pointer e) (forms.unary at u.Address p)
+  pointer_value e at p h = by_worth _ _ _ _ _ (eq.worth-Pointer e) (rerun _ _ _ _ _
+      (node_does (value e) p.size p.room (λ l env base d. as_value (p.reach l env base d)) _ (λ z d. Ok (z, d)) h (λ z d. refl))
+      (λ l env base d. addressed (p.reach l env base d) (λ z d. Ok (z, d))))
+
+  -- `*`: the pointer's value as an address
+  pub target_address : (e : Expr) (at : ℕ) (p : Part) → IsValueOf static e p → IsAddressOf static (expr.Target e) (forms.unary at u.Indirection p)
+  target_address e at p h = by_worth _ _ _ _ _ (eq.worth-Target e) (rerun _ _ _ _ _
+      (node_does (value e) p.size p.room p.run _ (λ z d. Ok (pos (address z), d)) h (λ z d. refl))
+      (λ l env base d. sym (as_value_then (p.run l env base d) (λ v. Ok (address v.0, v.1)))))
+
+  -- ---- forms over two values
+
+  -- the second part, behind the first
+  two_does : (x y : Value Output) (n m : c.Level → ℕ) (r s : c.Level → ℕ) (run run' : c.Level → c.Run ℤ)
+      (f : ℤ → ℤ → Done Output → Outcome Output ℤ) (g : ℤ → ℤ → State → c.Outcome ℤ)
+      → Does static x n r run → Does static y m s run' → ((v w : ℤ) (d : State) → f v w (as_done d) ≡ as_found (g v w d))
+      → Does static (record {
+        needs = over_both x.needs y.needs;
+        run = λ k env base d. x.run k env base d >>= (λ v. y.run k env (base + x.needs.room k.measures) v.1 >>= (λ w. f v.0 w.0 w.1));
+      }) (λ l. suc (n l + m l)) (λ l. r l + s l)
+      (λ l env base d. c.◌>>=◌ (run l env base d) (λ v. c.◌>>=◌ (run' l env (base + r l) v.1) (λ w. g v.0 w.0 w.1)))
+  two_does x y n m r s run run' f g h i same = record {
+    size = λ l k like. ap₂ (λ a b. suc (a + b)) (h.size l k like) (i.size l k like);
+    room = λ l k like. ap₂ (λ a b. a + b) (h.room l k like) (i.room l k like);
+    runs = λ l k like env base d.
+        ap (λ o. o >>= (λ v. y.run k env (base + x.needs.room k.measures) v.1 >>= (λ w. f v.0 w.0 w.1))) (h.runs l k like env base d)
+        ∙ then_same (run l env base d) (λ v. c.◌>>=◌ (run' l env (base + r l) v.1) (λ w. g v.0 w.0 w.1))
+        (λ v. y.run k env (base + x.needs.room k.measures) v.1 >>= (λ w. f v.0 w.0 w.1))
+        (λ v d. ap (λ b. y.run k env (base + b) (as_done d) >>= (λ w. f v w.0 w.1)) (h.room l k like)
+        ∙ ap (λ o. o >>= (λ w. f v w.0 w.1)) (i.runs l k like env (base + r l) d)
+        ∙ then_same (run' l env (base + r l) d) (λ w. g v w.0 w.1) (λ w. f v w.0 w.1) (same v));
+  }
+
+  -- two operands, and what is done with both
+  paired : {A B C : Type 0} (o : c.Outcome A) (f : State → c.Outcome B) (g : (A × B) × State → c.Outcome C)
+      → c.◌>>=◌ (c.◌>>=◌ o (λ v. c.◌>>=◌ (f v.1) (λ w. Ok ((v.0, w.0), w.1)))) g ≡ c.◌>>=◌ o (λ v. c.◌>>=◌ (f v.1) (λ w. g ((v.0, w.0), w.1)))
+  paired {A = A} {B = B} {C = C} (Ok x) f g = inner (f x.1) where
+    inner : (p : c.Outcome B) → c.◌>>=◌ (c.◌>>=◌ p (λ w. Ok ((x.0, w.0), w.1))) g ≡ c.◌>>=◌ p (λ w. g ((x.0, w.0), w.1))
+    inner (Ok y) = refl
+    inner (Err d) = refl
+  paired (Err d) f g = refl

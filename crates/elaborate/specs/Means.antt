@@ -1,14 +1,21 @@
 -- What it is to be the core of a part of a program: in all levels, environments, places and states it does what the part
 -- does, takes as many places, and counts as many nodes. The states are the same, but that the core keeps apart what a
 -- run leaves outside.
-use Rattle.std.specs.Prelude.{◌≡◌, ℕ, ℤ, pos, Option, Some, Ok, Err}
-use Rattle.c_store.specs.Store.{start}
+use Rattle.std.specs.Prelude.{◌≡◌, ℕ, ℤ, pos, Bool, true, Option, Some, Ok, Err}
+use Rattle.c_type_terms.specs.declared.class.Class.{Class}
+use Rattle.c_type_terms.specs.declared.tables.Tables.{Tables}
+use Rattle.c_store.specs.Store.{Store, read}
+use Rattle.c_says.specs.Typing.{Typed, type_of}
+use Rattle.c_means.specs.Values as values
+use Rattle.c_means.specs.Objects as objects
 use Rattle.c_means.specs.Parts.{State, Env, Part}
 use Rattle.c_means.specs.Parts as c
 use Rattle.c_runs.specs.Items.{Made}
 use Rattle.c_runs.specs.Items as runs
 use Rattle.core_tree.specs.declared.code.Code.{Code}
 use Rattle.core_tree.specs.declared.expr.Expr.{Expr}
+use Rattle.core_tree.specs.declared.types.ValueType.{ValueType}
+use Rattle.core_tree.specs.Numbers.{size_of, value_of_bytes, bytes_of_value, converted_to}
 use Rattle.core_tree.specs.States.{Output, plain, Done, Outcome, Level}
 use Rattle.core_tree.specs.Values.{Value, value}
 use Rattle.core_tree.specs.Codes.{Item, code}
@@ -74,3 +81,21 @@ pub record Acts (static : ℕ → ℕ) (x : Item Output) (i : runs.Item) : Type 
 -- the core of a statement or declaration, as an item of its block
 abbrev pub IsCodeOf : (ℕ → ℕ) → Code → runs.Item → Type 0
 IsCodeOf static x i = Acts static (code x) i
+
+-- ---- types
+
+-- values of a class, in n bytes, are those of a type of the core
+pub record SameType (c : Class) (n : ℕ) (t : ValueType) : Type 0 where
+  pub size : size_of t ≡ n
+  pub is_read : objects.is_read c ≡ true
+  pub value : (s : Store) (a : ℕ) → value_of_bytes t (read n s a) ≡ objects.value_at c n s a
+  pub bytes : (z : ℤ) → bytes_of_value t z ≡ values.bytes_of_value c z
+  pub converted : (z : ℤ) → converted_to t z ≡ values.converted_to c z
+
+-- what an expression's type says to the tables is a type of the core
+pub record OfType (tables : Tables) (x : Typed) (t : ValueType) : Type 0 where
+  pub class : Class
+  pub bytes : ℕ
+  pub is_class : values.class_in (type_of x) ≡ class
+  pub has_bytes : values.bytes_of tables (type_of x) ≡ bytes
+  pub same : SameType class bytes t

@@ -6,7 +6,7 @@ use Rattle.c_type_terms.specs.declared.class.Class.{Class}
 use Rattle.c_type_terms.specs.declared.class.Class.TheVariants as class
 use Rattle.c_type_terms.specs.declared.ctype.IntegerKind.{IntegerKind}
 use Rattle.c_type_terms.specs.declared.ctype.IntegerKind.TheVariants as k
-use Rattle.c_type_terms.specs.Integers.{width_of, is_signed}
+use Rattle.c_type_terms.specs.Integers.{width_of, is_signed, promoted, usual}
 use Rattle.core_tree.specs.declared.types.Arithmetic.{Arithmetic}
 use Rattle.core_tree.specs.declared.types.Arithmetic.TheVariants as a
 use Rattle.core_tree.specs.declared.types.ValueType.{ValueType}
@@ -50,3 +50,9 @@ arithmetic o.BitXor = Some a.BitXor
 arithmetic o.BitOr = Some a.BitOr
 arithmetic o.LogicalAnd = None
 arithmetic o.LogicalOr = None
+
+-- the type in which a binary operator works: that of the usual conversions, of a shift the promoted left operand's
+abbrev pub working : BinaryOperator → IntegerKind → IntegerKind → IntegerKind
+working o.ShiftLeft a b = promoted a
+working o.ShiftRight a b = promoted a
+working _ a b = usual a b
