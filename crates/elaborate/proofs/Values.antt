@@ -1,6 +1,6 @@
 -- The core of each form of expression is worth what the form is worth.
 use Rattle.std.proofs.Common.{◌≡◌, ℕ, zero, suc, ◌+◌, ℤ, pos, Bool, true, false, cond, List, [], ◌∷◌, Option, Some, None, Ok}
-use Rattle.std.proofs.Common.{Err, refl, sym, ap, ap₂, ◌∙◌}
+use Rattle.std.proofs.Common.{Err, refl, sym, ap, ap₂, ◌∙◌, subst}
 use Rattle.std.specs.Prelude.{unsigned_abs, not, ◌||◌}
 use Rattle.c_tree.specs.declared.expr.BinaryOperator.{BinaryOperator}
 use Rattle.c_tree.specs.declared.expr.BinaryOperator.TheVariants as o
@@ -18,7 +18,10 @@ use Rattle.c_says.specs.declared.scope.Duration.TheVariants as duration
 use Rattle.c_says.specs.Typing.{Typed, type_of}
 use Rattle.c_means.specs.Parts.{State, Env, Part}
 use Rattle.c_means.specs.Parts as c
-use Rattle.c_means.specs.Values.{class_in, address}
+use Rattle.c_means.specs.Values.{class_in, address, bytes_of}
+use Rattle.c_type_terms.specs.declared.ctype.CType.{CType}
+use Rattle.c_type_terms.specs.declared.tables.Tables.{Tables}
+use Rattle.c_means.specs.Objects as objects
 use Rattle.c_means.specs.Operators.{value_type, kind_in}
 use Rattle.c_means.specs.Operators as c_operators
 use Rattle.c_means.specs.Expressions as forms
@@ -31,12 +34,15 @@ use Rattle.core_tree.specs.declared.types.Operator.TheVariants as op
 use Rattle.core_tree.specs.declared.types.Turning.TheVariants as turn
 use Rattle.core_tree.specs.declared.types.ValueType.{ValueType}
 use Rattle.core_tree.specs.Numbers as numbers
+use Rattle.core_tree.specs.Memory as memory
 use Rattle.core_tree.specs.States.{Output, Done, Outcome, Level, ◌>>=◌, found, or_stop}
 use Rattle.core_tree.specs.Values.{Value, value, on_value, over_one, over_both}
 use Rattle.core_tree.specs.Values as core
 use Rattle.core_tree.proofs.Equations as eq
 use Rattle.elaborate.specs.Means.{as_done, as_found, as_value, Like, Does, IsValueOf, IsAddressOf, IsEffectOf}
-use Rattle.elaborate.specs.Types.{word_type, arithmetic}
+use Rattle.elaborate.specs.Types.{word_type, arithmetic, working}
+use Rattle.elaborate.specs.Means.{OfType, SameType}
+use Rattle.elaborate.proofs.Objects.{load_same, put_same}
 use Rattle.elaborate.proofs.Numbers.{worked_same, plus_same, minus_same, complement_same, promoted_word, working_word}
 use Rattle.elaborate.proofs.States.{then_same, or_stop_same, test_same, branch_same}
 
@@ -194,3 +200,94 @@ module _ (static : ℕ → ℕ) where
     inner (Ok y) = refl
     inner (Err d) = refl
   paired (Err d) f g = refl
+
+  -- what two evaluated operands are worth
+  pair_does : (x y : Value Output) (p q : Part) (f : ℤ → ℤ → Done Output → Outcome Output ℤ) (g : ℤ → ℤ → State → c.Outcome ℤ)
+      → Does static x p.size p.room p.run → Does static y q.size q.room q.run → ((v w : ℤ) (d : State) → f v w (as_done d) ≡ as_found (g v w d))
+      → Does static (record {
+        needs = over_both x.needs y.needs;
+        run = λ k env base d. x.run k env base d >>= (λ v. y.run k env (base + x.needs.room k.measures) v.1 >>= (λ w. f v.0 w.0 w.1));
+      }) (λ l. suc (p.size l + q.size l)) (λ l. p.room l + q.room l)
+      (λ l env base d. c.◌>>=◌ (forms.both_run p q l env base d) (λ v. g v.0.0 v.0.1 v.1))
+  pair_does x y p q f g h i same = rerun _ _ _ _ _ (two_does x y p.size q.size p.room q.room p.run q.run f g h i same)
+      (λ l env base d. sym (paired (p.run l env base d) (λ d. q.run l env (base + p.room l) d) (λ v. g v.0.0 v.0.1 v.1)))
+
+  -- ---- operators on integers (C99 6.5.5 to 6.5.12)
+
+  -- an operand that is an integer
+  abbrev an_integer : IntegerKind → ℕ → ℤ → c_operators.Operand
+  an_integer kind element z = record { kind = Some kind; element = element; value = z }
+
+  on_integers : (b : BinaryOperator) (a : Arithmetic) → arithmetic b ≡ Some a → (at : ℕ) (j k : IntegerKind) (m n : ℕ) (v w : ℤ) (d : State)
+      → c_operators.operated at b (an_integer j m v) (an_integer k n w) d ≡ c.or_stop at (says.worked b (working b j k) v w) d
+  on_integers o.Multiply a e at j k m n v w d = refl
+  on_integers o.Divide a e at j k m n v w d = refl
+  on_integers o.Remainder a e at j k m n v w d = refl
+  on_integers o.Add a e at j k m n v w d = refl
+  on_integers o.Subtract a e at j k m n v w d = refl
+  on_integers o.ShiftLeft a e at j k m n v w d = refl
+  on_integers o.ShiftRight a e at j k m n v w d = refl
+  on_integers o.Less a e at j k m n v w d = refl
+  on_integers o.Greater a e at j k m n v w d = refl
+  on_integers o.LessEqual a e at j k m n v w d = refl
+  on_integers o.GreaterEqual a e at j k m n v w d = refl
+  on_integers o.Equal a e at j k m n v w d = refl
+  on_integers o.NotEqual a e at j k m n v w d = refl
+  on_integers o.BitAnd a e at j k m n v w d = refl
+  on_integers o.BitXor a e at j k m n v w d = refl
+  on_integers o.BitOr a e at j k m n v w d = refl
+  on_integers o.LogicalAnd a e at j k m n v w d = cc
+  on_integers o.LogicalOr a e at j k m n v w d = cc
+
+  evaluates_both : (b : BinaryOperator) (a : Arithmetic) → arithmetic b ≡ Some a → (at : ℕ) (p q : Part) → forms.binary at b p q ≡ forms.both_evaluated at b p q
+  evaluates_both o.Multiply a e at p q = refl
+  evaluates_both o.Divide a e at p q = refl
+  evaluates_both o.Remainder a e at p q = refl
+  evaluates_both o.Add a e at p q = refl
+  evaluates_both o.Subtract a e at p q = refl
+  evaluates_both o.ShiftLeft a e at p q = refl
+  evaluates_both o.ShiftRight a e at p q = refl
+  evaluates_both o.Less a e at p q = refl
+  evaluates_both o.Greater a e at p q = refl
+  evaluates_both o.LessEqual a e at p q = refl
+  evaluates_both o.GreaterEqual a e at p q = refl
+  evaluates_both o.Equal a e at p q = refl
+  evaluates_both o.NotEqual a e at p q = refl
+  evaluates_both o.BitAnd a e at p q = refl
+  evaluates_both o.BitXor a e at p q = refl
+  evaluates_both o.BitOr a e at p q = refl
+  evaluates_both o.LogicalAnd a e at p q = cc
+  evaluates_both o.LogicalOr a e at p q = cc
+
+  -- the same operator of the core on two integers
+  pub operated_same : (b : BinaryOperator) (a : Arithmetic) → arithmetic b ≡ Some a → (at : ℕ) (j k : IntegerKind) (t u : Option CType) (tables tables' : Tables)
+      → kind_in t ≡ Some j → kind_in u ≡ Some k → (v w : ℤ) (d : State)
+      → memory.operated at (op.Numbers a (word_type (working b j k))) v w (as_done d)
+      ≡ as_found (c_operators.operated at b (c_operators.operand_of tables t v) (c_operators.operand_of tables' u w) d)
+  operated_same b a e at j k t u tables tables' f g v w d =
+      ap (λ x. or_stop at x (as_done d)) (worked_same (working b j k) (working_word b j k) b a v w e)
+      ∙ or_stop_same at (says.worked b (working b j k) v w) d
+      ∙ ap as_found (sym (on_integers b a e at j k (bytes_of tables (c_operators.target_in t)) (bytes_of tables' (c_operators.target_in u)) v w d))
+      ∙ ap₂ (λ x y. as_found (c_operators.operated at b (record { kind = x; element = bytes_of tables (c_operators.target_in t); value = v })
+      (record { kind = y; element = bytes_of tables' (c_operators.target_in u); value = w }) d)) (sym f) (sym g)
+
+  pub binary_value : (b : BinaryOperator) (a : Arithmetic) → arithmetic b ≡ Some a → (at : ℕ) (is_constant : Bool) (j k : IntegerKind) (e f : Expr) (p q : Part)
+      → IsValueOf static e p → IsValueOf static f q → kind_in (value_type p.typed) ≡ Some j → kind_in (value_type q.typed) ≡ Some k
+      → IsValueOf static (expr.Operate at (op.Numbers a (word_type (working b j k))) is_constant e f) (forms.binary at b p q)
+  binary_value b a is at is_constant j k e f p q h i tp tq = subst (λ (r : Part). IsValueOf static (expr.Operate at (op.Numbers a (word_type (working b j k))) is_constant e f) r)
+      (sym (evaluates_both b a is at p q))
+      (by_worth _ _ _ _ _ (eq.worth-Operate at (op.Numbers a (word_type (working b j k))) is_constant e f)
+      (pair_does (value e) (value f) p q (memory.operated at (op.Numbers a (word_type (working b j k))))
+      (λ v w d. c_operators.operated_on at b p.typed q.typed v w d) h i
+      (λ v w d. operated_same b a is at j k (value_type p.typed) (value_type q.typed) q.typed.after.tables q.typed.after.tables tp tq v w d)))
+
+  -- ---- the value of an lvalue (C99 6.3.2.1p2)
+
+  pub loaded_value : (e : Expr) (x : Typed) (rooted : Bool) (needs : forms.Needs) (reach : c.Level → c.Run ℕ) (t : ValueType)
+      → OfType x.after.tables x t → IsAddressOf static e (forms.placed x rooted needs reach)
+      → IsValueOf static (expr.Load (record { at = x.at; stored = t; is_tested = not rooted }) e) (forms.placed x rooted needs reach)
+  loaded_value e x rooted needs reach t typed h = by_worth _ _ _ _ _ (eq.worth-Load (record { at = x.at; stored = t; is_tested = not rooted }) e)
+      (rerun _ _ _ _ _
+      (between_does (value e) needs.size needs.room (λ l env base d. as_value (reach l env base d)) _ (λ a d. objects.load x rooted (unsigned_abs a) d) h
+      (λ a d. load_same x t rooted (unsigned_abs a) d typed))
+      (λ l env base d. addressed (reach l env base d) (λ a d. objects.load x rooted (unsigned_abs a) d)))
