@@ -22,6 +22,7 @@ use Rattle.c_means.specs.Values.{class_in, address, bytes_of}
 use Rattle.c_type_terms.specs.declared.ctype.CType.{CType}
 use Rattle.c_type_terms.specs.declared.tables.Tables.{Tables}
 use Rattle.c_means.specs.Objects as objects
+use Rattle.c_means.specs.Values as values
 use Rattle.c_means.specs.Operators.{value_type, kind_in}
 use Rattle.c_means.specs.Operators as c_operators
 use Rattle.c_means.specs.Expressions as forms
@@ -35,7 +36,7 @@ use Rattle.core_tree.specs.declared.types.Turning.TheVariants as turn
 use Rattle.core_tree.specs.declared.types.ValueType.{ValueType}
 use Rattle.core_tree.specs.Numbers as numbers
 use Rattle.core_tree.specs.Memory as memory
-use Rattle.core_tree.specs.States.{Output, Done, Outcome, Level, ◌>>=◌, found, or_stop}
+use Rattle.core_tree.specs.States.{Output, Done, Outcome, Level, ◌>>=◌, found, or_stop, on_branch}
 use Rattle.core_tree.specs.Values.{Value, value, on_value, over_one, over_both}
 use Rattle.core_tree.specs.Values as core
 use Rattle.core_tree.proofs.Equations as eq
@@ -45,6 +46,10 @@ use Rattle.elaborate.specs.Means.{OfType, SameType}
 use Rattle.elaborate.proofs.Objects.{load_same, put_same}
 use Rattle.elaborate.proofs.Numbers.{worked_same, plus_same, minus_same, complement_same, promoted_word, working_word}
 use Rattle.elaborate.proofs.States.{then_same, or_stop_same, test_same, branch_same}
+
+-- how the core reads or writes an lvalue
+abbrev access_of : Part → ValueType → Access
+access_of p t = record { at = p.typed.at; stored = t; is_tested = not p.rooted }
 
 -- ---- addresses as values
 
@@ -291,3 +296,161 @@ module _ (static : ℕ → ℕ) where
       (between_does (value e) needs.size needs.room (λ l env base d. as_value (reach l env base d)) _ (λ a d. objects.load x rooted (unsigned_abs a) d) h
       (λ a d. load_same x t rooted (unsigned_abs a) d typed))
       (λ l env base d. addressed (reach l env base d) (λ a d. objects.load x rooted (unsigned_abs a) d)))
+
+  -- ---- forms of which the second part runs where a branch says so
+
+  -- the second part, behind the first
+  behind_same : (x y : Value Output) (r : c.Level → ℕ) (m s : c.Level → ℕ) (run' : c.Level → c.Run ℤ) → Does static y m s run'
+      → (l : c.Level) (k : Level Output) → Like static l k → x.needs.room k.measures ≡ r l → (env : Env) (base : ℕ) (d : State)
+      → y.run k env (base + x.needs.room k.measures) (as_done d) ≡ as_found (run' l env (base + r l) d)
+  behind_same x y r m s run' h l k like e env base d = ap (λ b. y.run k env (base + b) (as_done d)) e ∙ h.runs l k like env (base + r l) d
+
+  truth_same : (x y : Value Output) (p q : Part) → Does static x p.size p.room p.run → Does static y q.size q.room q.run
+      → (l : c.Level) (k : Level Output) → Like static l k → (env : Env) (base : ℕ) (d : State)
+      → core.truth_of y k env (base + x.needs.room k.measures) (as_done d) ≡ as_found (forms.truth_of q l env (base + p.room l) d)
+  truth_same x y p q h i l k like env base d =
+      ap (λ o. o >>= (λ w. found (number_of (not (is_zero w.0))) w.1)) (behind_same x y p.room q.size q.room q.run i l k like (h.room l k like) env base d)
+      ∙ then_same (q.run l env (base + p.room l) d) (λ w. Ok (number_of (not (is_zero w.0)), w.1)) (λ w. found (number_of (not (is_zero w.0))) w.1) (λ w d. refl)
+
+  both_does : (at : ℕ) (x y : Value Output) (p q : Part) → Does static x p.size p.room p.run → Does static y q.size q.room q.run
+      → Does static (core.both at x y) (λ l. suc (p.size l + q.size l)) (λ l. p.room l + q.room l) (forms.binary at o.LogicalAnd p q).run
+  both_does at x y p q h i = record {
+    size = λ l k like. ap₂ (λ a b. suc (a + b)) (h.size l k like) (i.size l k like);
+    room = λ l k like. ap₂ (λ a b. a + b) (h.room l k like) (i.room l k like);
+    runs = λ l k like env base d.
+        ap (λ o. o >>= (λ v. on_branch k.taking at v.0 (core.and_then y k env (base + x.needs.room k.measures)) v.1)) (h.runs l k like env base d)
+        ∙ then_same (p.run l env base d) (λ v. forms.on_branch at v.0 (forms.and_then q l env (base + p.room l)) v.1)
+        (λ v. on_branch k.taking at v.0 (core.and_then y k env (base + x.needs.room k.measures)) v.1)
+        (λ v d. branch_same k.taking at v (forms.and_then q l env (base + p.room l)) (core.and_then y k env (base + x.needs.room k.measures)) d like.taking
+        (sides l k like env base));
+  } where
+    sides : (l : c.Level) (k : Level Output) → Like static l k → (env : Env) (base : ℕ) (b : Bool) (d : State)
+        → core.and_then y k env (base + x.needs.room k.measures) b (as_done d) ≡ as_found (forms.and_then q l env (base + p.room l) b d)
+    sides l k like env base true d = truth_same x y p q h i l k like env base d
+    sides l k like env base false d = refl
+
+  pub and_value : (at : ℕ) (e f : Expr) (p q : Part) → IsValueOf static e p → IsValueOf static f q → IsValueOf static (expr.And at e f) (forms.binary at o.LogicalAnd p q)
+  and_value at e f p q h i = by_worth _ _ _ _ _ (eq.worth-And at e f) (both_does at (value e) (value f) p q h i)
+
+  either_does : (at : ℕ) (x y : Value Output) (p q : Part) → Does static x p.size p.room p.run → Does static y q.size q.room q.run
+      → Does static (core.either at x y) (λ l. suc (p.size l + q.size l)) (λ l. p.room l + q.room l) (forms.binary at o.LogicalOr p q).run
+  either_does at x y p q h i = record {
+    size = λ l k like. ap₂ (λ a b. suc (a + b)) (h.size l k like) (i.size l k like);
+    room = λ l k like. ap₂ (λ a b. a + b) (h.room l k like) (i.room l k like);
+    runs = λ l k like env base d.
+        ap (λ o. o >>= (λ v. on_branch k.taking at v.0 (core.or_else y k env (base + x.needs.room k.measures)) v.1)) (h.runs l k like env base d)
+        ∙ then_same (p.run l env base d) (λ v. forms.on_branch at v.0 (forms.or_else q l env (base + p.room l)) v.1)
+        (λ v. on_branch k.taking at v.0 (core.or_else y k env (base + x.needs.room k.measures)) v.1)
+        (λ v d. branch_same k.taking at v (forms.or_else q l env (base + p.room l)) (core.or_else y k env (base + x.needs.room k.measures)) d like.taking
+        (sides l k like env base));
+  } where
+    sides : (l : c.Level) (k : Level Output) → Like static l k → (env : Env) (base : ℕ) (b : Bool) (d : State)
+        → core.or_else y k env (base + x.needs.room k.measures) b (as_done d) ≡ as_found (forms.or_else q l env (base + p.room l) b d)
+    sides l k like env base true d = refl
+    sides l k like env base false d = truth_same x y p q h i l k like env base d
+
+  pub or_value : (at : ℕ) (e f : Expr) (p q : Part) → IsValueOf static e p → IsValueOf static f q → IsValueOf static (expr.Or at e f) (forms.binary at o.LogicalOr p q)
+  or_value at e f p q h i = by_worth _ _ _ _ _ (eq.worth-Or at e f) (either_does at (value e) (value f) p q h i)
+
+  -- ---- `?:`: both sides are converted to the type of both
+
+  converts : (t : ValueType) (class' : Class) → ((z : ℤ) → numbers.converted_to t z ≡ values.converted_to class' z) → (e : Expr) (p : Part) → IsValueOf static e p
+      → Does static (value (expr.Convert t e)) p.size p.room (λ l env base d. c.◌>>=◌ (p.run l env base d) (λ v. Ok (values.converted_to class' v.0, v.1)))
+  converts t class' same e p h = by_worth _ _ _ _ _ (eq.worth-Convert t e)
+      (between_does (value e) p.size p.room p.run _ (λ z d. Ok (values.converted_to class' z, d)) h (λ z d. ap (λ z. as_found (Ok (z, d))) (same z)))
+
+  choose_does : (at : ℕ) (t : Typed) (w x y : Value Output) (r p q : Part) → Does static w r.size r.room r.run
+      → Does static x p.size p.room (λ l env base d. c.◌>>=◌ (p.run l env base d) (λ v. Ok (values.converted_to (class_in (type_of t)) v.0, v.1)))
+      → Does static y q.size q.room (λ l env base d. c.◌>>=◌ (q.run l env base d) (λ v. Ok (values.converted_to (class_in (type_of t)) v.0, v.1)))
+      → Does static (core.choose at w x y) (forms.choice_as at t r p q).size (forms.choice_as at t r p q).room (forms.choice_as at t r p q).run
+  choose_does at t w x y r p q g h i = record {
+    size = λ l k like. ap₂ (λ a b. suc (a + b)) (g.size l k like) (ap₂ (λ a b. a + b) (h.size l k like) (i.size l k like));
+    room = λ l k like. ap₂ (λ a b. a + b) (g.room l k like) (ap₂ (λ a b. a + b) (h.room l k like) (i.room l k like));
+    runs = λ l k like env base d.
+        ap (λ o. o >>= (λ v. on_branch k.taking at v.0 (core.one_run x y k env (base + w.needs.room k.measures)) v.1)) (g.runs l k like env base d)
+        ∙ then_same (r.run l env base d) (λ v. forms.on_branch at v.0 (forms.chosen (class_in (type_of t)) p q l env (base + r.room l)) v.1)
+        (λ v. on_branch k.taking at v.0 (core.one_run x y k env (base + w.needs.room k.measures)) v.1)
+        (λ v d. branch_same k.taking at v (forms.chosen (class_in (type_of t)) p q l env (base + r.room l)) (core.one_run x y k env (base + w.needs.room k.measures)) d
+        like.taking (sides l k like env base));
+  } where
+    sides : (l : c.Level) (k : Level Output) → Like static l k → (env : Env) (base : ℕ) (b : Bool) (d : State)
+        → core.one_run x y k env (base + w.needs.room k.measures) b (as_done d) ≡ as_found (forms.chosen (class_in (type_of t)) p q l env (base + r.room l) b d)
+    sides l k like env base true d = ap (λ b. x.run k env (base + b) (as_done d)) (g.room l k like) ∙ h.runs l k like env (base + r.room l) d
+    sides l k like env base false d =
+        ap (λ b. y.run k env (base + b + x.needs.room k.measures) (as_done d)) (g.room l k like)
+        ∙ behind_same x y p.room q.size q.room _ i l k like (h.room l k like) env (base + r.room l) d
+
+  pub choice_value : (at : ℕ) (t : ValueType) (e f g : Expr) (r p q : Part)
+      → ((z : ℤ) → numbers.converted_to t z ≡ values.converted_to (class_in (type_of (forms.choice at r p q).typed)) z)
+      → IsValueOf static e r → IsValueOf static f p → IsValueOf static g q
+      → IsValueOf static (expr.Choose at e (expr.Convert t f) (expr.Convert t g)) (forms.choice at r p q)
+  choice_value at t e f g r p q same h i j = by_worth _ _ _ _ _ (eq.worth-Choose at e (expr.Convert t f) (expr.Convert t g))
+      (choose_does at (forms.choice at r p q).typed (value e) (value (expr.Convert t f)) (value (expr.Convert t g)) r p q h
+      (converts t (class_in (type_of (forms.choice at r p q).typed)) same f p i)
+      (converts t (class_in (type_of (forms.choice at r p q).typed)) same g q j))
+
+  -- ---- the comma, and casts
+
+  pub comma_value : (at : ℕ) (e f : Expr) (p q : Part) → IsEffectOf static e p → IsValueOf static f q → IsValueOf static (expr.Comma e f) (forms.comma at p q)
+  comma_value at e f p q h i = by_worth _ _ _ _ _ (eq.worth-Comma e f) (record {
+    size = λ l k like. ap₂ (λ a b. suc (a + b)) (h.size l k like) (i.size l k like);
+    room = λ l k like. ap₂ (λ a b. a + b) (h.room l k like) (i.room l k like);
+    runs = λ l k like env base d.
+        ap (λ o. o >>= (λ v. (value f).run k env (base + (value {O = Output} e).needs.room k.measures) v.1)) (h.runs l k like env base d)
+        ∙ then_same (p.effect l env base d) (λ v. q.run l env (base + p.room l) v.1) (λ v. (value f).run k env (base + (value {O = Output} e).needs.room k.measures) v.1)
+        (λ v d. behind_same (value e) (value f) p.room q.size q.room q.run i l k like (h.room l k like) env base d);
+  })
+
+  -- a cast to a type with values
+  pub cast_value : (t : ValueType) (class' : Class) (x : Typed) (e : Expr) (p : Part) → ((z : ℤ) → numbers.converted_to t z ≡ values.converted_to class' z)
+      → Does static (value e) p.size p.room (forms.cast_operand class' p) → IsValueOf static (expr.Cast t e) (forms.cast_as class' x p)
+  cast_value t class' x e p same h = by_worth _ _ _ _ _ (eq.worth-Cast t e)
+      (node_does (value e) p.size p.room (forms.cast_operand class' p) _ (λ z d. Ok (values.converted_to class' z, d)) h (λ z d. ap (λ z. as_found (Ok (z, d))) (same z)))
+
+  -- ---- assignment (C99 6.5.16)
+
+  -- what stands behind the address of a target
+  from_address : {A : Type 0} (o : c.Outcome ℕ) (f : ℕ → State → c.Outcome A) (g : ℕ → Done Output → Outcome Output A)
+      → ((a : ℕ) (d : State) → g a (as_done d) ≡ as_found (f a d)) → (as_found (as_value o) >>= (λ a. g (unsigned_abs a.0) a.1)) ≡ as_found (c.◌>>=◌ o (λ a. f a.0 a.1))
+  from_address (Ok x) f g h = h x.0 x.1
+  from_address (Err d) f g h = refl
+
+  pub simple_value : (at : ℕ) (t : ValueType) (e f : Expr) (p q : Part) → OfType q.typed.after.tables p.typed t → IsAddressOf static e p → IsValueOf static f q
+      → IsValueOf static (expr.Store at (record { at = p.typed.at; stored = t; is_tested = not p.rooted }) e f) (forms.assignment at None p q)
+  simple_value at t e f p q typed h i = by_worth _ _ _ _ _ (eq.worth-Store at (record { at = p.typed.at; stored = t; is_tested = not p.rooted }) e f) (record {
+    size = λ l k like. ap₂ (λ a b. suc (a + b)) (h.size l k like) (i.size l k like);
+    room = λ l k like. ap₂ (λ a b. a + b) (h.room l k like) (i.room l k like);
+    runs = λ l k like env base d.
+        ap (λ o. o >>= (λ a. (value f).run k env (base + (value {O = Output} e).needs.room k.measures) a.1 >>= (λ w. memory.put at (access_of p t) (unsigned_abs a.0) w.0 w.1))) (h.runs l k like env base d)
+        ∙ from_address (p.reach l env base d) (λ a d. c.◌>>=◌ (q.run l env (base + p.room l) d) (λ w. objects.put at q.typed.after.tables p.typed p.rooted a w.0 w.1))
+        (λ a d. (value f).run k env (base + (value {O = Output} e).needs.room k.measures) d >>= (λ w. memory.put at (access_of p t) a w.0 w.1))
+        (λ a d. ap (λ o. o >>= (λ w. memory.put at (access_of p t) a w.0 w.1)) (behind_same (value e) (value f) p.room q.size q.room q.run i l k like (h.room l k like) env base d)
+        ∙ then_same (q.run l env (base + p.room l) d) (λ w. objects.put at q.typed.after.tables p.typed p.rooted a w.0 w.1) (λ w. memory.put at (access_of p t) a w.0 w.1)
+        (λ w d. put_same at q.typed.after.tables p.typed t p.rooted a w d typed));
+  })
+
+  -- `op=`, by an operator of the core that does what the operator does
+  pub compound_value : (at : ℕ) (b : BinaryOperator) (operator : Operator) (t : ValueType) (e f : Expr) (p q : Part)
+      → OfType p.typed.after.tables p.typed t → OfType q.typed.after.tables p.typed t → IsAddressOf static e p → IsValueOf static f q
+      → ((v w : ℤ) (d : State) → memory.operated at operator v w (as_done d) ≡ as_found (c_operators.operated_on at b p.typed q.typed v w d))
+      → IsValueOf static (expr.Update at operator (record { at = p.typed.at; stored = t; is_tested = not p.rooted }) e f) (forms.assignment at (Some b) p q)
+  compound_value at b operator t e f p q read written h i same = by_worth _ _ _ _ _ (eq.worth-Update at operator (access_of p t) e f) (record {
+    size = λ l k like. ap₂ (λ a b. suc (a + b)) (h.size l k like) (i.size l k like);
+    room = λ l k like. ap₂ (λ a b. a + b) (h.room l k like) (i.room l k like);
+    runs = λ l k like env base d.
+        ap (λ o. o >>= (λ a. memory.load (access_of p t) (unsigned_abs a.0) a.1 >>= (λ v. (value f).run k env (base + (value {O = Output} e).needs.room k.measures) v.1
+        >>= (λ w. memory.operated at operator v.0 w.0 w.1 >>= (λ z. memory.put at (access_of p t) (unsigned_abs a.0) z.0 z.1))))) (h.runs l k like env base d)
+        ∙ from_address (p.reach l env base d)
+        (λ a d. c.◌>>=◌ (objects.load p.typed p.rooted a d) (λ v. c.◌>>=◌ (q.run l env (base + p.room l) v.1) (λ w. c.◌>>=◌ (c_operators.operated_on at b p.typed q.typed v.0 w.0 w.1)
+        (λ z. objects.put at q.typed.after.tables p.typed p.rooted a z.0 z.1))))
+        (λ a d. memory.load (access_of p t) a d >>= (λ v. (value f).run k env (base + (value {O = Output} e).needs.room k.measures) v.1
+        >>= (λ w. memory.operated at operator v.0 w.0 w.1 >>= (λ z. memory.put at (access_of p t) a z.0 z.1))))
+        (λ a d. ap (λ o. o >>= (λ v. (value f).run k env (base + (value {O = Output} e).needs.room k.measures) v.1
+        >>= (λ w. memory.operated at operator v.0 w.0 w.1 >>= (λ z. memory.put at (access_of p t) a z.0 z.1)))) (load_same p.typed t p.rooted a d read)
+        ∙ then_same (objects.load p.typed p.rooted a d) _ _
+        (λ v d. ap (λ o. o >>= (λ w. memory.operated at operator v w.0 w.1 >>= (λ z. memory.put at (access_of p t) a z.0 z.1)))
+        (behind_same (value e) (value f) p.room q.size q.room q.run i l k like (h.room l k like) env base d)
+        ∙ then_same (q.run l env (base + p.room l) d) _ _
+        (λ w d. ap (λ o. o >>= (λ z. memory.put at (access_of p t) a z.0 z.1)) (same v w d)
+        ∙ then_same (c_operators.operated_on at b p.typed q.typed v w d) _ _ (λ z d. put_same at q.typed.after.tables p.typed t p.rooted a z d written))));
+  })
