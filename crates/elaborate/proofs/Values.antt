@@ -29,6 +29,8 @@ use Rattle.c_means.specs.Expressions as forms
 use Rattle.core_tree.specs.declared.expr.Expr.{Expr}
 use Rattle.core_tree.specs.declared.expr.Expr.TheVariants as expr
 use Rattle.core_tree.specs.declared.types.Access.{Access}
+use Rattle.core_tree.specs.declared.types.Answered.{Answered}
+use Rattle.core_tree.specs.declared.types.Answered.TheVariants as answered
 use Rattle.core_tree.specs.declared.types.Arithmetic.{Arithmetic}
 use Rattle.core_tree.specs.declared.types.Operator.{Operator}
 use Rattle.core_tree.specs.declared.types.Operator.TheVariants as op
@@ -454,3 +456,65 @@ module _ (static : ℕ → ℕ) where
         (λ w d. ap (λ o. o >>= (λ z. memory.put at (access_of p t) a z.0 z.1)) (same v w d)
         ∙ then_same (c_operators.operated_on at b p.typed q.typed v w d) _ _ (λ z d. put_same at q.typed.after.tables p.typed t p.rooted a z d written))));
   })
+
+  -- `++` and `--`, by an operator of the core that does what the operator does with 1; `f` tells which value it has
+  stepped_value : (at : ℕ) (b : BinaryOperator) (operator : Operator) (answer : Answered) (t : ValueType) (e : Expr) (p : Part) (f : ℤ × ℤ → ℤ)
+      → OfType p.typed.after.tables p.typed t → IsAddressOf static e p → ((v w : ℤ) → core.either_value answer v w ≡ f (v, w))
+      → ((v : ℤ) (d : State) → memory.operated at operator v (pos 1) (as_done d) ≡ as_found (c_operators.operated at b (c_operators.operand p.typed.after.tables p.typed v) c_operators.one d))
+      → Does static (value (expr.Step at operator (access_of p t) answer e)) (λ l. suc (p.size l)) p.room (λ l env base d. c.◌>>=◌ (forms.stepped at b p l env base d) (λ v. Ok (f v.0, v.1)))
+  stepped_value at b operator answer t e p f typed h answers same = by_worth _ _ _ _ _ (eq.worth-Step at operator (access_of p t) answer e) (record {
+    size = λ l k like. ap suc (h.size l k like);
+    room = h.room;
+    runs = λ l k like env base d.
+        ap (λ o. o >>= (λ a. memory.load (access_of p t) (unsigned_abs a.0) a.1 >>= (λ v. memory.operated at operator v.0 (pos 1) v.1
+        >>= (λ w. memory.put at (access_of p t) (unsigned_abs a.0) w.0 w.1 >>= (λ z. found (core.either_value answer v.0 z.0) z.1))))) (h.runs l k like env base d)
+        ∙ from_address (p.reach l env base d)
+        (λ a d. c.◌>>=◌ (objects.load p.typed p.rooted a d) (λ v. c.◌>>=◌ (c_operators.operated at b (c_operators.operand p.typed.after.tables p.typed v.0) c_operators.one v.1)
+        (λ w. c.◌>>=◌ (objects.put at p.typed.after.tables p.typed p.rooted a w.0 w.1) (λ z. Ok (f (v.0, z.0), z.1)))))
+        (λ a d. memory.load (access_of p t) a d >>= (λ v. memory.operated at operator v.0 (pos 1) v.1
+        >>= (λ w. memory.put at (access_of p t) a w.0 w.1 >>= (λ z. found (core.either_value answer v.0 z.0) z.1))))
+        (λ a d. ap (λ o. o >>= (λ v. memory.operated at operator v.0 (pos 1) v.1
+        >>= (λ w. memory.put at (access_of p t) a w.0 w.1 >>= (λ z. found (core.either_value answer v.0 z.0) z.1)))) (load_same p.typed t p.rooted a d typed)
+        ∙ then_same (objects.load p.typed p.rooted a d) _ _
+        (λ v d. ap (λ o. o >>= (λ w. memory.put at (access_of p t) a w.0 w.1 >>= (λ z. found (core.either_value answer v z.0) z.1))) (same v d)
+        ∙ then_same (c_operators.operated at b (c_operators.operand p.typed.after.tables p.typed v) c_operators.one d) _ _
+        (λ w d. ap (λ o. o >>= (λ z. found (core.either_value answer v z.0) z.1)) (put_same at p.typed.after.tables p.typed t p.rooted a w d typed)
+        ∙ then_same (objects.put at p.typed.after.tables p.typed p.rooted a w d) (λ z. Ok (f (v, z.0), z.1)) (λ z. found (core.either_value answer v z.0) z.1)
+        (λ z d. ap (λ y. as_found (Ok (y, d))) (answers v z)))))
+        ∙ ap as_found (sym (stepped_then (p.reach l env base d)));
+  }) where
+    -- one sequence, however it is grouped
+    last : (v : ℤ) (o : c.Outcome ℤ) → c.◌>>=◌ (c.◌>>=◌ o (λ z. Ok ((v, z.0), z.1))) (λ v. Ok (f v.0, v.1)) ≡ c.◌>>=◌ o (λ z. Ok (f (v, z.0), z.1))
+    last v (Ok z) = refl
+    last v (Err d) = refl
+
+    third : (a : ℕ) (v : ℤ) (o : c.Outcome ℤ) → c.◌>>=◌ (c.◌>>=◌ o (λ w. c.◌>>=◌ (objects.put at p.typed.after.tables p.typed p.rooted a w.0 w.1) (λ z. Ok ((v, z.0), z.1)))) (λ v. Ok (f v.0, v.1))
+        ≡ c.◌>>=◌ o (λ w. c.◌>>=◌ (objects.put at p.typed.after.tables p.typed p.rooted a w.0 w.1) (λ z. Ok (f (v, z.0), z.1)))
+    third a v (Ok w) = last v (objects.put at p.typed.after.tables p.typed p.rooted a w.0 w.1)
+    third a v (Err d) = refl
+
+    second : (a : ℕ) (o : c.Outcome ℤ) → c.◌>>=◌ (c.◌>>=◌ o (λ v. c.◌>>=◌ (c_operators.operated at b (c_operators.operand p.typed.after.tables p.typed v.0) c_operators.one v.1)
+        (λ w. c.◌>>=◌ (objects.put at p.typed.after.tables p.typed p.rooted a w.0 w.1) (λ z. Ok ((v.0, z.0), z.1))))) (λ v. Ok (f v.0, v.1))
+        ≡ c.◌>>=◌ o (λ v. c.◌>>=◌ (c_operators.operated at b (c_operators.operand p.typed.after.tables p.typed v.0) c_operators.one v.1)
+        (λ w. c.◌>>=◌ (objects.put at p.typed.after.tables p.typed p.rooted a w.0 w.1) (λ z. Ok (f (v.0, z.0), z.1))))
+    second a (Ok v) = third a v.0 (c_operators.operated at b (c_operators.operand p.typed.after.tables p.typed v.0) c_operators.one v.1)
+    second a (Err d) = refl
+
+    stepped_then : (o : c.Outcome ℕ) → c.◌>>=◌ (c.◌>>=◌ o (λ a. c.◌>>=◌ (objects.load p.typed p.rooted a.0 a.1) (λ v. c.◌>>=◌ (c_operators.operated at b (c_operators.operand p.typed.after.tables p.typed v.0) c_operators.one v.1)
+        (λ w. c.◌>>=◌ (objects.put at p.typed.after.tables p.typed p.rooted a.0 w.0 w.1) (λ z. Ok ((v.0, z.0), z.1)))))) (λ v. Ok (f v.0, v.1))
+        ≡ c.◌>>=◌ o (λ a. c.◌>>=◌ (objects.load p.typed p.rooted a.0 a.1) (λ v. c.◌>>=◌ (c_operators.operated at b (c_operators.operand p.typed.after.tables p.typed v.0) c_operators.one v.1)
+        (λ w. c.◌>>=◌ (objects.put at p.typed.after.tables p.typed p.rooted a.0 w.0 w.1) (λ z. Ok (f (v.0, z.0), z.1)))))
+    stepped_then (Ok a) = second a.0 (objects.load p.typed p.rooted a.0 a.1)
+    stepped_then (Err d) = refl
+
+  -- the value before
+  pub postfix_value : (at : ℕ) (b : BinaryOperator) (operator : Operator) (t : ValueType) (e : Expr) (p : Part) → OfType p.typed.after.tables p.typed t → IsAddressOf static e p
+      → ((v : ℤ) (d : State) → memory.operated at operator v (pos 1) (as_done d) ≡ as_found (c_operators.operated at b (c_operators.operand p.typed.after.tables p.typed v) c_operators.one d))
+      → IsValueOf static (expr.Step at operator (access_of p t) answered.Before e) (forms.postfix_by at b p)
+  postfix_value at b operator t e p typed h same = stepped_value at b operator answered.Before t e p (λ v. v.0) typed h (λ v w. refl) same
+
+  -- the value that was stored
+  pub prefix_value : (at : ℕ) (u : UnaryOperator) (b : BinaryOperator) (operator : Operator) (t : ValueType) (e : Expr) (p : Part) → OfType p.typed.after.tables p.typed t → IsAddressOf static e p
+      → ((v : ℤ) (d : State) → memory.operated at operator v (pos 1) (as_done d) ≡ as_found (c_operators.operated at b (c_operators.operand p.typed.after.tables p.typed v) c_operators.one d))
+      → IsValueOf static (expr.Step at operator (access_of p t) answered.Stored e) (forms.prefix at u b p)
+  prefix_value at u b operator t e p typed h same = stepped_value at b operator answered.Stored t e p (λ v. v.1) typed h (λ v w. refl) same
