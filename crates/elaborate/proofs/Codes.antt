@@ -20,6 +20,8 @@ use Rattle.c_runs.specs.Notes.{Noted}
 use Rattle.c_runs.specs.Items.{Made, known, past_break, past_continue, at_label, at_case, at_default}
 use Rattle.c_runs.specs.Items as runs
 use Rattle.c_runs.specs.Statements as statements
+use Rattle.c_runs.specs.Initials as initials
+use Rattle.c_says.specs.declared.scope.Entry.{Entry}
 use Rattle.core_tree.specs.declared.code.Code.{Code}
 use Rattle.core_tree.specs.declared.code.Code.TheVariants as tree
 use Rattle.core_tree.specs.declared.expr.Expr.{Expr}
@@ -345,3 +347,81 @@ module _ (static : ℕ → ℕ) where
         tests.runs l k like env base (λ b. one_of b (a_turn k env n base) stay) (λ b. statements.one_of b (c_turn l env n base) (λ d. d))
         (λ b d. one_arrow b (a_turn k env n base) stay (c_turn l env n base) (λ d. d) d
         (turn_same l k like env n (turns_same l k like env n) base d) refl) d
+
+    -- `while`, and `for` behind its first part
+    pub looped_acts : (step : Option Expr) → core.maybe_evaluated (option_map value step) ≡ s
+        → Acts static (core.looped at (option_map value e) (option_map value step) x) (statements.looped at t i j)
+    looped_acts step is = subst (λ (y : Item Output). Acts static (loop_of y) (statements.looped at t i j)) (sym is)
+        (acting_acts _ _ (statements.looped at t i j) (λ l env base d. runs.arrive past_break (statements.turns_from at t i j l env l.turns base d))
+        (λ l k like. ap₂ (λ n z. 1 + (n + 1) * z) like.turns (ap₂ (λ a b. a + b) (tests.size l k like) (ap₂ (λ a b. a + b) (h.size l k like) (g.size l k like))))
+        (λ l k like. ap₂ (λ n z. (n + 1) * z) like.turns (turn_room l k like))
+        (λ l base. refl) (λ l env base d. refl)
+        (λ l k like env base d. ap (λ n. core.broken_out (core.turns_from at (option_map value e) x s k env n base (as_done d))) like.turns
+        ∙ ap core.broken_out (turns_same l k like env l.turns base d)))
+      where
+        loop_of : Item Output → Item Output
+        loop_of y = core.acting (core.each_turn (core.turn_needs (option_map value e) x y))
+            (λ k env base d. core.broken_out (core.turns_from at (option_map value e) x y k env k.measures.turns base d))
+
+  -- ---- `do`
+
+  module _ (at : ℕ) (e : Expr) (n : Noted) (x : Item Output) (i : runs.Item) (tests : IsValueOf static e n.part) (h : Acts static x i) where
+    round_room : (l : c.Level) (k : Level Output) → Like static l k → x.needs.room k.measures + (value {O = Output} e).needs.room k.measures ≡ i.room l + n.part.room l
+    round_room l k like = ap₂ (λ a b. a + b) (h.room l k like) (tests.room l k like)
+
+    rounds_same : (l : c.Level) (k : Level Output) → Like static l k → (env : Env) (m base : ℕ) (d : State)
+        → core.rounds_from at x (value e) k env m base (as_done d) ≡ Some (as_done (statements.rounds_from at i (statements.test_of at n) l env m base d))
+    rounds_same l k like env zero base d = refl
+    rounds_same l k like env (suc m) base d =
+        ap (λ o. onward o (λ r. running (core.tested at (Some (value e)) k env (base + x.needs.room k.measures)
+        (λ b. one_of b (core.rounds_from at x (value e) k env m (base + (x.needs.room k.measures + (value {O = Output} e).needs.room k.measures))) stay)) (arrive past_continue r))) (h.runs l k like env base d)
+        ∙ ap₂ (λ a z. running (core.tested at (Some (value e)) k env (base + a) (λ b. one_of b (core.rounds_from at x (value e) k env m (base + z)) stay))
+        (as_done (runs.arrive past_continue (i.run l env base d)))) (h.room l k like) (round_room l k like)
+        ∙ running_same (core.tested at (Some (value e)) k env (base + i.room l) (λ b. one_of b (core.rounds_from at x (value e) k env m (base + (i.room l + n.part.room l))) stay))
+        ((statements.test_of at n).run l env (base + i.room l) (λ b. statements.one_of b (statements.rounds_from at i (statements.test_of at n) l env m (base + (i.room l + n.part.room l))) (λ d. d)))
+        (runs.arrive past_continue (i.run l env base d))
+        ((a_test at e n tests).runs l k like env (base + i.room l)
+        (λ b. one_of b (core.rounds_from at x (value e) k env m (base + (i.room l + n.part.room l))) stay)
+        (λ b. statements.one_of b (statements.rounds_from at i (statements.test_of at n) l env m (base + (i.room l + n.part.room l))) (λ d. d))
+        (λ b d. one_arrow b (core.rounds_from at x (value e) k env m (base + (i.room l + n.part.room l))) stay
+        (statements.rounds_from at i (statements.test_of at n) l env m (base + (i.room l + n.part.room l))) (λ d. d) d
+        (rounds_same l k like env m (base + (i.room l + n.part.room l)) d) refl)
+        (runs.arrive past_continue (i.run l env base d)))
+
+    pub repeated_acts : Acts static (core.repeated at x (value e)) (statements.repeated at i (statements.test_of at n))
+    repeated_acts = acting_acts _ _ (statements.repeated at i (statements.test_of at n)) (λ l env base d. runs.arrive past_break (statements.rounds_from at i (statements.test_of at n) l env l.turns base d))
+        (λ l k like. ap₂ (λ n z. 1 + (n + 1) * z) like.turns (ap₂ (λ a b. a + b) (h.size l k like) (tests.size l k like)))
+        (λ l k like. ap₂ (λ n z. (n + 1) * z) like.turns (round_room l k like))
+        (λ l base. refl) (λ l env base d. refl)
+        (λ l k like env base d. ap (λ m. core.broken_out (core.rounds_from at x (value e) k env m base (as_done d))) like.turns
+        ∙ ap core.broken_out (rounds_same l k like env l.turns base d))
+
+  pub do_code : (at : ℕ) (e : Expr) (n : Noted) (x : Code) (i : runs.Item) → IsValueOf static e n.part → IsCodeOf static x i
+      → IsCodeOf static (tree.Repeat at e x) (statements.left_scope (statements.repeated at i (statements.test_of at n)))
+  do_code at e n x i tests h = let r = repeated_acts at e n (code x) i tests h in
+      by_item _ _ _ (eq.does-Repeat at e x) (record { size = r.size; room = r.room; objects = r.objects; runs = r.runs })
+
+  -- `while`
+  pub while_code : (at : ℕ) (e : Expr) (n : Noted) (x : Code) (i : runs.Item) (s : Scope) → IsValueOf static e n.part → IsCodeOf static x i
+      → IsCodeOf static (tree.Loop at (Some e) None x) (statements.left_scope (statements.looped at (statements.test_of at n) i (runs.nothing s)))
+  while_code at e n x i s tests h =
+      let r = looped_acts at (Some e) (statements.test_of at n) (code x) i core.nothing (runs.nothing s) (a_test at e n tests) h (no_item s) None refl in
+      by_item _ _ _ (eq.does-Loop at (Some e) None x) (record { size = r.size; room = r.room; objects = r.objects; runs = r.runs })
+
+  -- `for`, behind what it begins with
+  pub for_code : (at : ℕ) (e : Option Expr) (t : statements.Test) (f : Expr) (n : Noted) (x : Code) (i : runs.Item) (s : Scope) → Tests e t at → IsEffectOf static f n.part → IsCodeOf static x i
+      → IsCodeOf static (tree.Loop at e (Some f) x) (record (statements.looped at t i (statements.value_of n)) { after = s })
+  for_code at e t f n x i s tests step h =
+      let r = looped_acts at e t (code x) i (core.evaluated false (value f)) (statements.value_of n) tests h (part_code f n step) (Some f) refl in
+      by_item _ _ _ (eq.does-Loop at e (Some f) x) (record { size = r.size; room = r.room; objects = r.objects; runs = r.runs })
+
+  -- ---- automatic objects
+
+  -- one without initializer
+  pub declare_code : (en : Entry) (n : ℕ) (s : Scope) → IsCodeOf static (tree.Declare en.at n false []) (statements.automatic en n initials.uninitialised s)
+  declare_code en n s = by_item _ _ _ (eq.does-Declare en.at n false []) (record {
+    size = λ l k like. refl;
+    room = λ l k like. refl;
+    objects = λ l k like base. refl;
+    runs = λ l k like env base d. running_same (λ d. Some d) (λ d. d) d refl;
+  })
