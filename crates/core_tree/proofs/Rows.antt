@@ -16,6 +16,7 @@ use Rattle.c_says.specs.Scopes.{Name}
 use Rattle.c_means.specs.Parts.{World, Limits}
 use Rattle.core_tree.specs.declared.expr.Callee.TheVariants as callee
 use Rattle.core_tree.specs.declared.expr.Holder.TheVariants as holder
+use Rattle.core_tree.specs.declared.expr.OutsideAnswer.TheVariants as answer
 use Rattle.core_tree.specs.declared.expr.Watched.{Watched}
 use Rattle.core_tree.specs.declared.types.Access.{Access}
 use Rattle.core_tree.specs.declared.types.Answered.TheVariants as answered
@@ -302,3 +303,111 @@ pub row_repeats_left :
     finish_by (maybe_ran (end_of (given plain 0 (repeating 1) silent limits 1) nothing_left)) ≡ Some (finish.Left 30)
 unfolding wrapped exact measures_of calls_of
 row_repeats_left = refl
+
+-- ---- int i; for (i = 0; i < 2; i++) printf("%d\n", ext());: each turn has places of its own
+
+abbrev asks : {O : Type 0} → OfExpr O
+asks = call 45 [] (callee.Outside answer.Number None) a_word true
+
+abbrev asking : {O : Type 0} → List (OfBody O)
+asking =
+    function 10 main' [] (
+    declare 20 4
+    ∷ does (store 22 i' (local 20) (number (pos 0)))
+    ∷ loop 30 (Some (less i (number (pos 2)))) (Some (step 32 (op.Numbers o.Add int) i' answered.Before (local 20)))
+    (block (logs asks ∷ []))
+    ∷ returns (Some (number (pos 0))) ∷ []) ∷ []
+
+-- the word of each place is its number
+abbrev numbered : World
+numbered = record { word = λ p. p; byte = λ a. 0 }
+
+-- place 1 is that of i; a turn has four for the call outside and four for the log call
+pub row_turns_places :
+    printed_by (maybe_ran (end_of (given plain 0 asking numbered limits 1) nothing_left))
+    ≡ Some (50 ∷ 10 ∷ 49 ∷ 48 ∷ 10 ∷ [])
+unfolding wrapped exact measures_of calls_of
+row_turns_places = refl
+
+-- ---- an object ends with its block: int *p; { int i; p = &i; } *p = 1;
+
+abbrev p' : Access
+p' = record { at = 71; stored = v.Pointer; is_tested = false }
+
+abbrev through_p : Access
+through_p = record { at = 72; stored = a_word; is_tested = true }
+
+abbrev dangling : {O : Type 0} → List (OfBody O)
+dangling =
+    function 10 main' [] (
+    declare 70 8
+    ∷ block (declare 20 4 ∷ does (store 73 p' (local 70) (local 20)) ∷ [])
+    ∷ does (store 74 through_p (load p' (local 70)) (number (pos 1))) ∷ []) ∷ []
+
+pub row_dangling :
+    finish_by (maybe_ran (end_of (given plain 0 dangling silent limits 1) nothing_left))
+    ≡ Some (finish.Stopped undefined.Dereference 72)
+unfolding wrapped exact measures_of calls_of
+row_dangling = refl
+
+-- ---- exit(printf("a") + printf("b")): the left operand comes first
+
+abbrev says : {O : Type 0} → ℕ → OfExpr O
+says byte = call 40 (number (pos 0) ∷ []) (callee.Log (piece.Literal (byte ∷ []) ∷ []) 1 (int ∷ []) []) a_word true
+
+abbrev ordered : {O : Type 0} → List (OfBody O)
+ordered =
+    function 10 main' [] (
+    does (call 46 (operate 47 (op.Numbers o.Add int) (says 97) (says 98) ∷ []) callee.Exit v.Void false) ∷ []) ∷ []
+
+pub row_left_first :
+    maybe_ran (end_of (given plain 0 ordered silent limits 1) nothing_left)
+    ≡ Some (record {
+      printed = 97 ∷ 98 ∷ [];
+      events =
+          record { what = happening.Call 40; printed = 0 }
+          ∷ record { what = happening.Print 40 1 []; printed = 0 }
+          ∷ record { what = happening.Call 40; printed = 1 }
+          ∷ record { what = happening.Print 40 1 []; printed = 1 }
+          ∷ record { what = happening.Call 46; printed = 2 } ∷ [];
+      finish = finish.Exit (pos 2);
+    })
+unfolding wrapped exact measures_of calls_of
+row_left_first = refl
+
+-- ---- an empty text is no print: printf("");
+
+abbrev silence : {O : Type 0} → List (OfBody O)
+silence =
+    function 10 main' [] (
+    does (call 40 (number (pos 0) ∷ []) (callee.Log [] 1 (int ∷ []) []) a_word false) ∷ []) ∷ []
+
+pub row_no_print :
+    events_by (maybe_ran (end_of (given plain 0 silence silent limits 1) nothing_left))
+    ≡ record { what = happening.Call 40; printed = 0 } ∷ []
+unfolding wrapped exact measures_of calls_of
+row_no_print = refl
+
+-- ---- malloc(257) where the bound is 256; malloc(4) of a place whose word is 0
+
+abbrev allocating : {O : Type 0} → ℕ → List (OfBody O)
+allocating n =
+    function 10 main' [] (
+    returns (Some (call 48 (number (pos n) ∷ []) callee.Malloc v.Pointer true)) ∷ []) ∷ []
+
+pub row_heap_left :
+    finish_by (maybe_ran (end_of (given plain 0 (allocating 257) silent limits 1) nothing_left)) ≡ Some (finish.Left 48)
+unfolding wrapped exact measures_of calls_of
+row_heap_left = refl
+
+pub row_heap_null :
+    finish_by (maybe_ran (end_of (given plain 0 (allocating 4) silent limits 1) nothing_left))
+    ≡ Some (finish.Return (pos 0))
+unfolding wrapped exact measures_of calls_of
+row_heap_null = refl
+
+pub row_heap_object :
+    finish_by (maybe_ran (end_of (given plain 0 (allocating 4) numbered limits 1) nothing_left))
+    ≡ Some (finish.Return (pos 4294967296))
+unfolding wrapped exact measures_of calls_of
+row_heap_object = refl
