@@ -85,7 +85,7 @@ abbrev no_made : List Made
 no_made = []
 
 module _ (static : ℕ → ℕ) where
-  by_item : (x : Code) (y : Item Output) (i : runs.Item) → code x ≡ y → Acts static y i → IsCodeOf static x i
+  pub by_item : (x : Code) (y : Item Output) (i : runs.Item) → code x ≡ y → Acts static y i → IsCodeOf static x i
   by_item x y i e h = rw e h
 
   -- ---- one behind the other
@@ -117,7 +117,7 @@ module _ (static : ℕ → ℕ) where
   -- ---- steps
 
   -- no object for its block, and only where the run is running
-  acting_acts : (needs : Needs) (run : (k : Level Output) → Env → ℕ → Arrow Output) (i : runs.Item) (act : c.Level → Env → ℕ → runs.Arrow)
+  pub acting_acts : (needs : Needs) (run : (k : Level Output) → Env → ℕ → Arrow Output) (i : runs.Item) (act : c.Level → Env → ℕ → runs.Arrow)
       → ((l : c.Level) (k : Level Output) → Like static l k → needs.size k.measures ≡ i.size l)
       → ((l : c.Level) (k : Level Output) → Like static l k → needs.room k.measures ≡ i.room l)
       → ((l : c.Level) (base : ℕ) → no_made ≡ i.objects l base)

@@ -55,21 +55,21 @@ access_of p t = record { at = p.typed.at; stored = t; is_tested = not p.rooted }
 
 -- ---- addresses as values
 
-addressed : {A : Type 0} (o : c.Outcome ℕ) (g : ℤ → State → c.Outcome A) → c.◌>>=◌ (as_value o) (λ v. g v.0 v.1) ≡ c.◌>>=◌ o (λ a. g (pos a.0) a.1)
+pub addressed : {A : Type 0} (o : c.Outcome ℕ) (g : ℤ → State → c.Outcome A) → c.◌>>=◌ (as_value o) (λ v. g v.0 v.1) ≡ c.◌>>=◌ o (λ a. g (pos a.0) a.1)
 addressed (Ok x) g = refl
 addressed (Err d) g = refl
 
-as_value_then : {A : Type 0} (o : c.Outcome A) (f : A × State → c.Outcome ℕ) → as_value (c.◌>>=◌ o f) ≡ c.◌>>=◌ o (λ v. as_value (f v))
+pub as_value_then : {A : Type 0} (o : c.Outcome A) (f : A × State → c.Outcome ℕ) → as_value (c.◌>>=◌ o f) ≡ c.◌>>=◌ o (λ v. as_value (f v))
 as_value_then (Ok x) f = refl
 as_value_then (Err d) f = refl
 
 module _ (static : ℕ → ℕ) where
   -- what is said of a tree by what it is worth
-  by_worth : (e : Expr) (x : Value Output) (nodes places : c.Level → ℕ) (run : c.Level → c.Run ℤ) → value e ≡ x → Does static x nodes places run → Does static (value e) nodes places run
+  pub by_worth : (e : Expr) (x : Value Output) (nodes places : c.Level → ℕ) (run : c.Level → c.Run ℤ) → value e ≡ x → Does static x nodes places run → Does static (value e) nodes places run
   by_worth e x nodes places run f h = rw f h
 
   -- the same told otherwise
-  rerun : (x : Value Output) (n r : c.Level → ℕ) (run run' : c.Level → c.Run ℤ) → Does static x n r run
+  pub rerun : (x : Value Output) (n r : c.Level → ℕ) (run run' : c.Level → c.Run ℤ) → Does static x n r run
       → ((l : c.Level) (env : Env) (base : ℕ) (d : State) → run l env base d ≡ run' l env base d) → Does static x n r run'
   rerun x n r run run' h same = record {
     size = h.size;
@@ -112,7 +112,7 @@ module _ (static : ℕ → ℕ) where
   -- ---- forms over one value
 
   -- a node over one part
-  node_does : (x : Value Output) (nodes places : c.Level → ℕ) (run : c.Level → c.Run ℤ) (f : ℤ → Done Output → Outcome Output ℤ) (g : ℤ → State → c.Outcome ℤ)
+  pub node_does : (x : Value Output) (nodes places : c.Level → ℕ) (run : c.Level → c.Run ℤ) (f : ℤ → Done Output → Outcome Output ℤ) (g : ℤ → State → c.Outcome ℤ)
       → Does static x nodes places run → ((z : ℤ) (d : State) → f z (as_done d) ≡ as_found (g z d))
       → Does static (on_value (over_one x.needs) f x) (λ l. suc (nodes l)) places (λ l env base d. c.◌>>=◌ (run l env base d) (λ v. g v.0 v.1))
   node_does x nodes places run f g h i = record {
@@ -123,7 +123,7 @@ module _ (static : ℕ → ℕ) where
   }
 
   -- a conversion, which is no node
-  between_does : (x : Value Output) (nodes places : c.Level → ℕ) (run : c.Level → c.Run ℤ) (f : ℤ → Done Output → Outcome Output ℤ) (g : ℤ → State → c.Outcome ℤ)
+  pub between_does : (x : Value Output) (nodes places : c.Level → ℕ) (run : c.Level → c.Run ℤ) (f : ℤ → Done Output → Outcome Output ℤ) (g : ℤ → State → c.Outcome ℤ)
       → Does static x nodes places run → ((z : ℤ) (d : State) → f z (as_done d) ≡ as_found (g z d))
       → Does static (on_value x.needs f x) nodes places (λ l env base d. c.◌>>=◌ (run l env base d) (λ v. g v.0 v.1))
   between_does x nodes places run f g h i = record {
@@ -209,7 +209,7 @@ module _ (static : ℕ → ℕ) where
   paired (Err d) f g = refl
 
   -- what two evaluated operands are worth
-  pair_does : (x y : Value Output) (p q : Part) (f : ℤ → ℤ → Done Output → Outcome Output ℤ) (g : ℤ → ℤ → State → c.Outcome ℤ)
+  pub pair_does : (x y : Value Output) (p q : Part) (f : ℤ → ℤ → Done Output → Outcome Output ℤ) (g : ℤ → ℤ → State → c.Outcome ℤ)
       → Does static x p.size p.room p.run → Does static y q.size q.room q.run → ((v w : ℤ) (d : State) → f v w (as_done d) ≡ as_found (g v w d))
       → Does static (record {
         needs = over_both x.needs y.needs;
@@ -246,7 +246,7 @@ module _ (static : ℕ → ℕ) where
   on_integers o.LogicalAnd a e at j k m n v w d = cc
   on_integers o.LogicalOr a e at j k m n v w d = cc
 
-  evaluates_both : (b : BinaryOperator) (a : Arithmetic) → arithmetic b ≡ Some a → (at : ℕ) (p q : Part) → forms.binary at b p q ≡ forms.both_evaluated at b p q
+  pub evaluates_both : (b : BinaryOperator) (a : Arithmetic) → arithmetic b ≡ Some a → (at : ℕ) (p q : Part) → forms.binary at b p q ≡ forms.both_evaluated at b p q
   evaluates_both o.Multiply a e at p q = refl
   evaluates_both o.Divide a e at p q = refl
   evaluates_both o.Remainder a e at p q = refl

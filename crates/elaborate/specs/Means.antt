@@ -1,7 +1,7 @@
 -- What it is to be the core of a part of a program: in all levels, environments, places and states it does what the part
 -- does, takes as many places, and counts as many nodes. The states are the same, but that the core keeps apart what a
 -- run leaves outside.
-use Rattle.std.specs.Prelude.{◌≡◌, ℕ, ℤ, pos, Bool, true, Option, Some, Ok, Err}
+use Rattle.std.specs.Prelude.{◌≡◌, ℕ, ℤ, pos, Bool, true, List, [], ◌∷◌, Option, Some, Ok, Err}
 use Rattle.c_type_terms.specs.declared.class.Class.{Class}
 use Rattle.c_type_terms.specs.declared.tables.Tables.{Tables}
 use Rattle.c_store.specs.Store.{Store, read}
@@ -13,6 +13,9 @@ use Rattle.c_means.specs.Parts as c
 use Rattle.c_runs.specs.Items.{Made}
 use Rattle.c_runs.specs.Items as runs
 use Rattle.core_tree.specs.declared.code.Code.{Code}
+use Rattle.c_means.specs.Expressions.{Passed}
+use Rattle.core_tree.specs.declared.expr.Callee.{Callee}
+use Rattle.core_tree.specs.Callees.{callee_size, callee_room, called}
 use Rattle.core_tree.specs.declared.expr.Expr.{Expr}
 use Rattle.core_tree.specs.declared.types.ValueType.{ValueType}
 use Rattle.core_tree.specs.Numbers.{size_of, value_of_bytes, bytes_of_value, converted_to}
@@ -99,3 +102,23 @@ pub record OfType (tables : Tables) (x : Typed) (t : ValueType) : Type 0 where
   pub is_class : values.class_in (type_of x) ≡ class
   pub has_bytes : values.bytes_of tables (type_of x) ≡ bytes
   pub same : SameType class bytes t
+
+-- ---- calls
+
+-- what a callee of the core does is what a call of this site does
+pub record IsCallOf (static : ℕ → ℕ) (callee : Callee) (at : ℕ) (t : ValueType) (site : c.Level → c.Site) : Type 0 where
+  pub size : (l : c.Level) (k : Level Output) → Like static l k → callee_size callee k.measures ≡ l.size (site l)
+  pub room : (l : c.Level) (k : Level Output) → Like static l k → callee_room callee k.measures ≡ l.room (site l)
+  pub runs : (l : c.Level) (k : Level Output) → Like static l k → (env : Env) (vs : List ℤ) (base : ℕ) (s : Store) (o : Output)
+      → called k callee at t env vs base s o ≡ Some (as_done (l.call (site l) env vs base s o.count))
+
+-- an argument, as it is converted to its parameter's type
+abbrev pub IsArgument : (ℕ → ℕ) → Expr → Passed → Type 0
+IsArgument static e q =
+    Does static (value e) q.part.size q.part.room
+    (λ l env base d. c.◌>>=◌ (q.part.run l env base d) (λ v. Ok (values.converted_to (values.class_in q.ctype) v.0, v.1)))
+
+abbrev pub AreArguments : (ℕ → ℕ) → List Expr → List Passed → Type 0
+AreArguments static [] [] = Unit {0}
+AreArguments static (e ∷ es) (q ∷ qs) = IsArgument static e q × AreArguments static es qs
+AreArguments static _ _ = ⊥
