@@ -6,3 +6,4 @@ pub mod Pointers
 pub mod Codes
 pub mod Choices
 pub mod Calls
+pub mod Rules

@@ -1,2 +1,3 @@
 pub mod Types
+pub mod Callees
 pub mod Means
