@@ -13,6 +13,9 @@ use Rattle.c_type_terms.specs.declared.class.Class.TheVariants as class
 use Rattle.c_type_terms.specs.declared.ctype.IntegerKind.{IntegerKind}
 use Rattle.c_type_terms.specs.declared.ctype.IntegerKind.TheVariants as k
 use Rattle.c_type_terms.specs.Integers.{is_zero, number_of, is_bool, promoted, usual}
+use Rattle.bit_words.specs.declared.run.Undefined.TheVariants as undefined
+use Rattle.c_store.specs.Access.{can_access}
+use Rattle.core_tree.specs.declared.types.ValueType.TheVariants as v
 use Rattle.c_store.specs.Store.{start}
 use Rattle.c_says.specs.declared.scope.Duration.TheVariants as duration
 use Rattle.c_says.specs.Typing.{Typed, type_of}
@@ -518,3 +521,38 @@ module _ (static : ℕ → ℕ) where
       → ((v : ℤ) (d : State) → memory.operated at operator v (pos 1) (as_done d) ≡ as_found (c_operators.operated at b (c_operators.operand p.typed.after.tables p.typed v) c_operators.one d))
       → IsValueOf static (expr.Step at operator (access_of p t) answered.Stored e) (forms.prefix at u b p)
   prefix_value at u b operator t e p typed h same = stepped_value at b operator answered.Stored t e p (λ v. v.1) typed h (λ v w. refl) same
+
+  -- ---- lvalues that aren't read (C99 6.3.2.1p3, p4, 6.3.2.2)
+
+  unread : (cl : Class) (n at : ℕ) (rooted : Bool) (a : ℕ) (d : State) → objects.is_read cl ≡ false → objects.load_as cl n at rooted a d ≡ Ok (objects.value_at cl n d.store a, d)
+  unread cl n at true a d h = refl
+  unread cl n at false a d h = ap (λ b. cond (not b || can_access d.store a n) (Ok (objects.value_at cl n d.store a, d)) (c.stop at undefined.Dereference d)) h
+
+  -- an array or function is its address
+  pub array_value : (e : Expr) (x : Typed) (rooted : Bool) (needs : forms.Needs) (reach : c.Level → c.Run ℕ) → class_in (type_of x) ≡ class.Array
+      → IsAddressOf static e (forms.placed x rooted needs reach) → IsValueOf static e (forms.placed x rooted needs reach)
+  array_value e x rooted needs reach is h = rerun _ _ _ _ _ h (λ l env base d. its_address (reach l env base d)) where
+    its_address : (o : c.Outcome ℕ) → as_value o ≡ c.◌>>=◌ o (λ a. objects.load x rooted a.0 a.1)
+    its_address (Ok a) = sym (ap (λ cl. objects.load_as cl (bytes_of x.after.tables (type_of x)) x.at rooted a.0 a.1) is
+        ∙ unread class.Array (bytes_of x.after.tables (type_of x)) x.at rooted a.0 a.1 refl)
+    its_address (Err d) = refl
+
+  pub function_value : (e : Expr) (x : Typed) (rooted : Bool) (needs : forms.Needs) (reach : c.Level → c.Run ℕ) → class_in (type_of x) ≡ class.Function
+      → IsAddressOf static e (forms.placed x rooted needs reach) → IsValueOf static e (forms.placed x rooted needs reach)
+  function_value e x rooted needs reach is h = rerun _ _ _ _ _ h (λ l env base d. its_address (reach l env base d)) where
+    its_address : (o : c.Outcome ℕ) → as_value o ≡ c.◌>>=◌ o (λ a. objects.load x rooted a.0 a.1)
+    its_address (Ok a) = sym (ap (λ cl. objects.load_as cl (bytes_of x.after.tables (type_of x)) x.at rooted a.0 a.1) is
+        ∙ unread class.Function (bytes_of x.after.tables (type_of x)) x.at rooted a.0 a.1 refl)
+    its_address (Err d) = refl
+
+  -- a void lvalue is no access, and has no value
+  pub void_value : (e : Expr) (x : Typed) (rooted : Bool) (needs : forms.Needs) (reach : c.Level → c.Run ℕ) → class_in (type_of x) ≡ class.Void
+      → IsAddressOf static e (forms.placed x rooted needs reach) → IsValueOf static (expr.Convert v.Void e) (forms.placed x rooted needs reach)
+  void_value e x rooted needs reach is h = by_worth _ _ _ _ _ (eq.worth-Convert v.Void e) (rerun _ _ _ _ _
+      (between_does (value e) needs.size needs.room (λ l env base d. as_value (reach l env base d)) _ (λ a d. Ok (pos 0, d)) h (λ a d. refl))
+      (λ l env base d. no_value (reach l env base d)))
+    where
+      no_value : (o : c.Outcome ℕ) → c.◌>>=◌ (as_value o) (λ v. Ok (pos 0, v.1)) ≡ c.◌>>=◌ o (λ a. objects.load x rooted a.0 a.1)
+      no_value (Ok a) = sym (ap (λ cl. objects.load_as cl (bytes_of x.after.tables (type_of x)) x.at rooted a.0 a.1) is
+          ∙ unread class.Void (bytes_of x.after.tables (type_of x)) x.at rooted a.0 a.1 refl)
+      no_value (Err d) = refl

@@ -1,3 +1,4 @@
 pub mod Types
+pub mod Operators
 pub mod Callees
 pub mod Means

@@ -2,6 +2,8 @@
 //! proof for each form of scalars and control.
 #![tactic(auto)]
 
+mod operators;
 mod types;
 
+pub use operators::{OperandType, operator_of, working};
 pub use types::{arithmetic, value_type, word_type};
