@@ -3,6 +3,7 @@ pub mod States
 pub mod Objects
 pub mod Values
 pub mod Pointers
+pub mod Operates
 pub mod Codes
 pub mod Choices
 pub mod Calls

@@ -41,7 +41,7 @@ use Rattle.elaborate.proofs.Values.{by_worth, rerun, node_does, between_does, pa
 
 -- ---- pointers moved, compared and subtracted
 
-moved_to_same : (at from : ℕ) (z : ℤ) (d : State) → memory.moved_to at from z (as_done d) ≡ as_found (pointers.moved_to at from z d)
+pub moved_to_same : (at from : ℕ) (z : ℤ) (d : State) → memory.moved_to at from z (as_done d) ≡ as_found (pointers.moved_to at from z d)
 moved_to_same at from (negsuc n) d = refl
 moved_to_same at from (pos to) d =
     test_same (in_one_object d.store from to) _ _ (Ok (pos to, d)) (stop at undefined.PointerRange d) refl refl

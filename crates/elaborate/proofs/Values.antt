@@ -228,7 +228,7 @@ module _ (static : ℕ → ℕ) where
   abbrev an_integer : IntegerKind → ℕ → ℤ → c_operators.Operand
   an_integer kind element z = record { kind = Some kind; element = element; value = z }
 
-  on_integers : (b : BinaryOperator) (a : Arithmetic) → arithmetic b ≡ Some a → (at : ℕ) (j k : IntegerKind) (m n : ℕ) (v w : ℤ) (d : State)
+  pub on_integers : (b : BinaryOperator) (a : Arithmetic) → arithmetic b ≡ Some a → (at : ℕ) (j k : IntegerKind) (m n : ℕ) (v w : ℤ) (d : State)
       → c_operators.operated at b (an_integer j m v) (an_integer k n w) d ≡ c.or_stop at (says.worked b (working b j k) v w) d
   on_integers o.Multiply a e at j k m n v w d = refl
   on_integers o.Divide a e at j k m n v w d = refl

@@ -1,9 +1,5 @@
 //! The operator of the core that a binary operator of C is, by the types of its operands.
-ghost use Rattle.std.specs.Prelude.{◌≡◌, ℤ, IfSome};
-ghost use Rattle.c_means.specs.Parts.{State};
-ghost use Rattle.c_means.specs.Operators.{operated};
-ghost use Rattle.core_tree.specs.Memory as memory;
-ghost use Rattle.elaborate.specs.Means.{as_done, as_found};
+ghost use Rattle.std.specs.Prelude.{◌≡◌, IfSome};
 ghost use Rattle.elaborate.specs.Operators as spec;
 
 use crate::types::{arithmetic, word_type};
@@ -91,12 +87,14 @@ fn on_pointers(operator: BinaryOperator, size: u64) -> Option<Operator>
 
 /// The operator of the core that does what a binary operator does on values of these types; none where the operands
 /// break a rule, and for `&&` and `||`.
+#[tactic(auto, using(crate::proofs::Operates::operates_if))]
 pub fn operator_of(
     operator: BinaryOperator,
     left: OperandType,
     right: OperandType,
 ) -> Option<Operator>
-    ensures { result ≡ spec.operator_of operator left right }
+    ensures chosen { result ≡ spec.operator_of operator left right }
+    ensures does { IfSome result (λ q. spec.Operates operator left right q) }
 {
     match left.kind {
         Some(a) => match right.kind {
