@@ -1,16 +1,12 @@
 -- The core of a call does what the call does.
-use Rattle.std.proofs.Common.{◌≡◌, ℕ, zero, suc, ◌+◌, ◌*◌, ℤ, pos, Bool, true, false, cond, List, [], ◌∷◌, ◌++◌, map, Option}
-use Rattle.std.proofs.Common.{Some, None, Ok, Err, refl, sym, ap, ap₂, ◌∙◌, subst}
-use Rattle.std.specs.Prelude.{unwrap_or, nat_eq, nat_lt}
-use Rattle.bit_words.specs.declared.run.Finish.TheVariants as finish
+use Rattle.std.proofs.Common.{◌≡◌, ℕ, suc, ◌+◌, ℤ, pos, Bool, true, false, List, [], ◌∷◌, map, Option}
+use Rattle.std.proofs.Common.{Some, None, Ok, Err, refl, sym, ap, ap₂, ◌∙◌}
+use Rattle.std.specs.Prelude.{unwrap_or}
 use Rattle.bit_words.specs.declared.run.Happening.TheVariants as happening
-use Rattle.bit_words.specs.declared.run.Undefined.TheVariants as undefined
 use Rattle.c_type_terms.specs.declared.class.Class.{Class}
 use Rattle.c_type_terms.specs.declared.class.Class.TheVariants as class
 use Rattle.c_type_terms.specs.declared.ctype.IntegerKind.TheVariants as int_
 use Rattle.elaborate.specs.Types.{value_type}
-use Rattle.c_store.specs.Store.{Store, start}
-use Rattle.c_store.specs.Access.{can_free}
 use Rattle.c_says.specs.Typing.{Typed, type_of}
 use Rattle.c_means.specs.declared.kind.Kind.{Kind}
 use Rattle.c_means.specs.declared.kind.Kind.TheVariants as k
@@ -19,21 +15,16 @@ use Rattle.c_means.specs.Parts as c
 use Rattle.c_means.specs.Values as values
 use Rattle.c_means.specs.Expressions.{Passed}
 use Rattle.c_means.specs.Expressions as forms
-use Rattle.c_runs.specs.Calls as calls
 use Rattle.core_tree.specs.declared.expr.Callee.{Callee}
-use Rattle.core_tree.specs.declared.expr.Callee.TheVariants as callee
 use Rattle.core_tree.specs.declared.expr.Expr.{Expr}
 use Rattle.core_tree.specs.declared.expr.Expr.TheVariants as expr
 use Rattle.core_tree.specs.declared.types.ValueType.{ValueType}
-use Rattle.core_tree.specs.declared.types.ValueType.TheVariants as v
-use Rattle.core_tree.specs.Numbers as numbers
-use Rattle.core_tree.specs.States.{Output, plain, Taking, Done, Outcome, Level, ◌>>=◌, found, note, returned, returned_in, entered}
+use Rattle.core_tree.specs.States.{Output, plain, Taking, Done, Outcome, Level, ◌>>=◌, found, note, returned, returned_in}
 use Rattle.core_tree.specs.Values.{Value, value, arguments, acting, needed, all_rooms, all_sizes}
 use Rattle.core_tree.specs.Callees as core
 use Rattle.core_tree.proofs.Equations as eq
-use Rattle.elaborate.specs.Means.{as_done, as_found, Like, Does, IsValueOf, IsEffectOf, IsCallOf, IsArgument, AreArguments}
+use Rattle.elaborate.specs.Means.{as_done, as_found, Like, Does, IsValueOf, IsEffectOf, IsCallOf, AreArguments}
 use Rattle.elaborate.proofs.States.{then_same}
-use Rattle.elaborate.proofs.Values.{by_worth}
 
 -- ---- where a call comes back
 

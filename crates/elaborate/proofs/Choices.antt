@@ -1,24 +1,20 @@
 -- The core of `switch` and of initialised objects does what the form does.
-use Rattle.std.proofs.Common.{◌≡◌, ℕ, zero, suc, ◌+◌, ℤ, pos, Bool, true, false, cond, List, [], ◌∷◌, ◌++◌, map, Option, Some}
-use Rattle.std.proofs.Common.{None, Ok, Err, refl, sym, ap, ap₂, ◌∙◌, subst, arith}
+use Rattle.std.proofs.Common.{◌≡◌, ℕ, ◌+◌, ℤ, Bool, true, false, cond, List, [], ◌∷◌, map, Option, Some}
+use Rattle.std.proofs.Common.{None, refl, sym, ap, ap₂, ◌∙◌}
 use Rattle.std.specs.Prelude.{◌||◌, unwrap_or}
 use Rattle.bit_words.specs.declared.run.Happening.TheVariants as happening
 use Rattle.bit_words.specs.declared.run.Side.TheVariants as side
-use Rattle.c_type_terms.specs.declared.ctype.CType.{CType}
-use Rattle.c_type_terms.specs.declared.ctype.IntegerKind.{IntegerKind}
-use Rattle.c_type_terms.specs.declared.tables.Tables.{Tables}
 use Rattle.c_type_terms.specs.Types.{class_of}
 use Rattle.c_type_terms.specs.Integers.{converted, is_bool}
-use Rattle.c_store.specs.Store.{start, write, lay, zero_range}
+use Rattle.c_store.specs.Store.{start, write}
 use Rattle.c_says.specs.declared.scope.Entry.{Entry}
 use Rattle.c_says.specs.Initials.{is_text_of}
 use Rattle.c_says.specs.Initials as says
 use Rattle.c_says.specs.Scopes.{Scope}
-use Rattle.c_means.specs.declared.kind.Kind.{Kind}
 use Rattle.c_means.specs.declared.kind.Kind.TheVariants as k
 use Rattle.c_means.specs.Parts.{State, Env, Part, note}
 use Rattle.c_means.specs.Parts as c
-use Rattle.c_means.specs.Values.{bytes_of, bytes_of_value, converted_to}
+use Rattle.c_means.specs.Values.{bytes_of, bytes_of_value}
 use Rattle.c_runs.specs.Notes.{Noted}
 use Rattle.c_runs.specs.Initials as initials
 use Rattle.c_runs.specs.Items.{Case, past_switch}
@@ -30,15 +26,14 @@ use Rattle.core_tree.specs.declared.code.Setting.{Setting}
 use Rattle.core_tree.specs.declared.code.Setting.TheVariants as setting
 use Rattle.core_tree.specs.declared.expr.Expr.{Expr}
 use Rattle.core_tree.specs.declared.types.ValueType.{ValueType}
-use Rattle.core_tree.specs.declared.types.WordType.{WordType}
 use Rattle.core_tree.specs.Numbers as numbers
 use Rattle.core_tree.specs.Memory as memory
-use Rattle.core_tree.specs.States.{Output, plain, Taking, Done, Level, Arrow, with_value, onward, running, arrive}
+use Rattle.core_tree.specs.States.{Output, plain, Taking, Level, with_value, onward, running, arrive}
 use Rattle.core_tree.specs.Values.{value}
 use Rattle.core_tree.specs.Codes.{Item, code, in_turn, lived}
 use Rattle.core_tree.specs.Codes as core
 use Rattle.core_tree.proofs.Equations as eq
-use Rattle.elaborate.specs.Means.{as_done, as_found, Like, IsValueOf, Acts, IsCodeOf, SameType}
+use Rattle.elaborate.specs.Means.{as_done, Like, IsValueOf, Acts, IsCodeOf, SameType}
 use Rattle.elaborate.specs.Types.{word_type}
 use Rattle.elaborate.proofs.Numbers.{wrapped_same}
 use Rattle.elaborate.proofs.Codes.{by_item, acting_acts, lived_same, with_same, running_same}

@@ -1,9 +1,7 @@
 -- The core of each form of statement does what the form does.
-use Rattle.std.proofs.Common.{◌≡◌, ℕ, zero, suc, ◌+◌, ◌*◌, ℤ, pos, Bool, true, false, cond, List, [], ◌∷◌, ◌++◌, map, Option}
+use Rattle.std.proofs.Common.{◌≡◌, ℕ, zero, suc, ◌+◌, ◌*◌, ℤ, Bool, true, false, cond, List, [], ◌∷◌, ◌++◌, map, Option}
 use Rattle.std.proofs.Common.{Some, None, Ok, Err, refl, sym, ap, ap₂, ◌∙◌, subst, arith}
 use Rattle.std.specs.Prelude.{option_map}
-use Rattle.bit_words.specs.declared.run.Happening.TheVariants as happening
-use Rattle.bit_words.specs.declared.run.Side.TheVariants as side
 use Rattle.c_type_terms.specs.declared.class.Class.{Class}
 use Rattle.c_type_terms.specs.Integers.{is_zero}
 use Rattle.c_store.specs.declared.object.ObjectKind.TheVariants.{Automatic}
@@ -27,10 +25,9 @@ use Rattle.core_tree.specs.declared.code.Code.TheVariants as tree
 use Rattle.core_tree.specs.declared.expr.Expr.{Expr}
 use Rattle.core_tree.specs.declared.expr.Expr.TheVariants as expr
 use Rattle.core_tree.specs.declared.types.ValueType.{ValueType}
-use Rattle.core_tree.specs.Numbers as numbers
-use Rattle.core_tree.specs.States.{Output, plain, Taking, Done, Outcome, Level, Needs, Arrow, with_value, running, where_running}
-use Rattle.core_tree.specs.States.{arrive, become, onward, born, dead, on_branch, one_of, stay, note}
-use Rattle.core_tree.specs.Values.{Value, value}
+use Rattle.core_tree.specs.States.{Output, plain, Taking, Done, Level, Needs, Arrow, with_value, running, where_running}
+use Rattle.core_tree.specs.States.{arrive, onward, born, dead, on_branch, one_of, stay}
+use Rattle.core_tree.specs.Values.{value}
 use Rattle.core_tree.specs.Codes.{Item, code, in_turn, lived}
 use Rattle.core_tree.specs.Codes as core
 use Rattle.core_tree.proofs.Equations as eq
@@ -172,7 +169,6 @@ module _ (static : ℕ → ℕ) where
   break_code at cx = by_item _ _ _ eq.does-Break (jump_acts k.Breaking _ cx)
 
   -- ---- labeled statements
-
 
   pub label_code : (at : ℕ) (name : Name) (bs : List Breach) (x : Code) (i : runs.Item) → IsCodeOf static x i
       → IsCodeOf static (tree.Label name x) (runs.node (runs.with_breaches bs (statements.arrived (at_label name) i)))

@@ -1,7 +1,7 @@
 -- The operator of the core that is chosen for a binary operator does what that does.
-use Rattle.std.proofs.Common.{◌≡◌, ℕ, zero, suc, ℤ, pos, negsuc, Bool, true, false, cond, Option, Some, None, Ok, Err, refl, sym, ap}
+use Rattle.std.proofs.Common.{◌≡◌, ℕ, pos, Bool, cond, Option, Some, None, Ok, refl, sym, ap}
 use Rattle.std.proofs.Common.{◌∙◌}
-use Rattle.std.specs.Prelude.{IfSome, not, nat_eq, nat_lt, nat_le, neg_ℤ, ◌+ℤ◌, ◌-ℤ◌, ◌*ℤ◌}
+use Rattle.std.specs.Prelude.{IfSome, nat_lt, nat_le, neg_ℤ, ◌+ℤ◌, ◌-ℤ◌, ◌*ℤ◌}
 use Rattle.bit_words.specs.declared.run.Undefined.TheVariants as undefined
 use Rattle.c_tree.specs.declared.expr.BinaryOperator.{BinaryOperator}
 use Rattle.c_tree.specs.declared.expr.BinaryOperator.TheVariants as o
@@ -12,7 +12,6 @@ use Rattle.c_says.specs.Typing as says
 use Rattle.c_means.specs.Parts.{State, stop}
 use Rattle.c_means.specs.Values.{address}
 use Rattle.c_means.specs.Pointers as pointers
-use Rattle.c_means.specs.Operators as c_operators
 use Rattle.core_tree.specs.declared.types.Arithmetic.{Arithmetic}
 use Rattle.core_tree.specs.declared.types.Arithmetic.TheVariants as a
 use Rattle.core_tree.specs.declared.types.Operator.{Operator}

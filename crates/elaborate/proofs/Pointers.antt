@@ -1,18 +1,17 @@
 -- The core of forms on pointers, subscripts and members is worth what the form is worth.
-use Rattle.std.proofs.Common.{◌≡◌, ℕ, zero, suc, ◌+◌, ℤ, pos, negsuc, Bool, true, false, cond, Option, Some, None, Ok, Err}
+use Rattle.std.proofs.Common.{◌≡◌, ℕ, suc, ◌+◌, ℤ, pos, negsuc, Bool, false, cond, Option, Some, None, Ok, Err}
 use Rattle.std.proofs.Common.{refl, sym, ap, ap₂, ◌∙◌, subst}
 use Rattle.std.specs.Prelude.{not, nat_eq, nat_lt, nat_le, neg_ℤ, unsigned_abs, ◌+ℤ◌, ◌-ℤ◌, ◌*ℤ◌}
 use Rattle.bit_words.specs.declared.run.Undefined.TheVariants as undefined
 use Rattle.c_tree.specs.declared.expr.BinaryOperator.{BinaryOperator}
 use Rattle.c_tree.specs.declared.expr.BinaryOperator.TheVariants as o
-use Rattle.c_type_terms.specs.declared.class.Class.{Class}
 use Rattle.c_type_terms.specs.declared.ctype.CType.{CType}
 use Rattle.c_type_terms.specs.declared.ctype.IntegerKind.{IntegerKind}
 use Rattle.c_type_terms.specs.declared.tables.Tables.{Tables}
 use Rattle.c_type_terms.specs.Integers.{number_of}
 use Rattle.c_store.specs.Access.{in_one_object}
 use Rattle.c_says.specs.Scopes.{Name}
-use Rattle.c_says.specs.Typing.{Typed, type_of}
+use Rattle.c_says.specs.Typing.{Typed}
 use Rattle.c_means.specs.Parts.{State, Env, Part, stop}
 use Rattle.c_means.specs.Parts as c
 use Rattle.c_means.specs.Values.{address, bytes_of, class_in}
@@ -31,10 +30,9 @@ use Rattle.core_tree.specs.declared.types.ValueType.{ValueType}
 use Rattle.core_tree.specs.declared.types.ValueType.TheVariants as v
 use Rattle.core_tree.specs.Numbers as numbers
 use Rattle.core_tree.specs.Memory as memory
-use Rattle.core_tree.specs.States.{Output, Done, Outcome, found}
 use Rattle.core_tree.specs.Values.{value}
 use Rattle.core_tree.proofs.Equations as eq
-use Rattle.elaborate.specs.Means.{as_done, as_found, as_value, Does, IsValueOf, IsAddressOf}
+use Rattle.elaborate.specs.Means.{as_done, as_found, as_value, IsValueOf, IsAddressOf}
 use Rattle.elaborate.specs.Types.{arithmetic}
 use Rattle.elaborate.proofs.States.{test_same}
 use Rattle.elaborate.proofs.Values.{by_worth, rerun, node_does, between_does, pair_does, evaluates_both, addressed, as_value_then}

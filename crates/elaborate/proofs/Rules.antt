@@ -1,8 +1,8 @@
 -- The callees of the core that aren't run by a body do what the rules of calls say.
-use Rattle.std.proofs.Common.{◌≡◌, ℕ, zero, suc, ◌+◌, ◌*◌, ℤ, pos, negsuc, Bool, true, false, cond, List, [], ◌∷◌, ◌++◌, Option}
-use Rattle.std.proofs.Common.{Some, None, Ok, Err, refl, sym, ap, ap₂, ◌∙◌, subst, arith, length, drop, length-append, ◌-◌}
+use Rattle.std.proofs.Common.{◌≡◌, ℕ, zero, suc, ◌+◌, ℤ, pos, negsuc, Bool, true, false, cond, List, [], ◌∷◌, ◌++◌, Option}
+use Rattle.std.proofs.Common.{Some, None, refl, sym, ap, ap₂, ◌∙◌, arith, length, drop, length-append, ◌-◌}
 use Rattle.std.proofs.lemmas.List.{append_assoc, append-nil}
-use Rattle.std.specs.Prelude.{not, ◌&&◌, nat_eq, nat_lt, ◌%◌, ◌^◌, min}
+use Rattle.std.specs.Prelude.{not, ◌&&◌, nat_eq, nat_lt, ◌%◌, ◌^◌}
 use Rattle.bit_words.specs.declared.run.Finish.TheVariants as finish
 use Rattle.bit_words.specs.declared.run.Happening.TheVariants as happening
 use Rattle.printf_text.specs.declared.piece.Arg.{Arg}
@@ -34,7 +34,7 @@ use Rattle.c_means.specs.Values as values
 use Rattle.c_runs.specs.Calls as calls
 use Rattle.core_tree.specs.declared.types.ValueType.{ValueType}
 use Rattle.core_tree.specs.Numbers as numbers
-use Rattle.core_tree.specs.States.{Output, printing, plain, Taking, Done, Level, entered, meets}
+use Rattle.core_tree.specs.States.{Output, printing, plain, Done, Level, meets}
 use Rattle.core_tree.specs.Callees as core
 use Rattle.elaborate.specs.Means.{as_done, Like}
 use Rattle.c_runs.specs.declared.profile.FillAnswer.{FillAnswer}

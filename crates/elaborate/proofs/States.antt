@@ -1,16 +1,12 @@
 -- States of the core and of C, one behind the other.
-use Rattle.std.proofs.Common.{◌≡◌, ℕ, zero, suc, ℤ, pos, Bool, true, false, cond, List, [], ◌∷◌, Option, Some, None, Ok, Err}
-use Rattle.std.proofs.Common.{refl, sym, ap, ap₂, ◌∙◌}
+use Rattle.std.proofs.Common.{◌≡◌, ℕ, ℤ, Bool, true, false, cond, Ok, Err}
+use Rattle.std.proofs.Common.{refl, ap, ◌∙◌}
 use Rattle.c_type_terms.specs.Integers.{is_zero}
 use Rattle.c_type_terms.specs.Operators.{Answer}
-use Rattle.c_means.specs.declared.kind.Kind.{Kind}
-use Rattle.c_means.specs.declared.kind.Kind.TheVariants as k
 use Rattle.c_means.specs.Parts.{State}
 use Rattle.c_means.specs.Parts as c
 use Rattle.c_means.specs.Expressions as forms
-use Rattle.c_runs.specs.Items as runs
-use Rattle.core_tree.specs.States.{Output, plain, Taking, Done, Outcome, ◌>>=◌, found, or_stop, on_branch, with_value, onward}
-use Rattle.core_tree.specs.States.{running, where_running, arrive, born, dead}
+use Rattle.core_tree.specs.States.{Output, plain, Taking, Done, Outcome, ◌>>=◌, or_stop, on_branch}
 use Rattle.elaborate.specs.Means.{as_done, as_found}
 
 -- what follows a part follows its core

@@ -1,5 +1,5 @@
 -- The core of each form of expression is worth what the form is worth.
-use Rattle.std.proofs.Common.{◌≡◌, ℕ, zero, suc, ◌+◌, ℤ, pos, Bool, true, false, cond, List, [], ◌∷◌, Option, Some, None, Ok}
+use Rattle.std.proofs.Common.{◌≡◌, ℕ, suc, ◌+◌, ℤ, pos, Bool, true, false, cond, Option, Some, None, Ok}
 use Rattle.std.proofs.Common.{Err, refl, sym, ap, ap₂, ◌∙◌, subst}
 use Rattle.std.specs.Prelude.{unsigned_abs, not, ◌||◌}
 use Rattle.c_tree.specs.declared.expr.BinaryOperator.{BinaryOperator}
@@ -11,8 +11,7 @@ use Rattle.c_says.specs.Typing as says
 use Rattle.c_type_terms.specs.declared.class.Class.{Class}
 use Rattle.c_type_terms.specs.declared.class.Class.TheVariants as class
 use Rattle.c_type_terms.specs.declared.ctype.IntegerKind.{IntegerKind}
-use Rattle.c_type_terms.specs.declared.ctype.IntegerKind.TheVariants as k
-use Rattle.c_type_terms.specs.Integers.{is_zero, number_of, is_bool, promoted, usual}
+use Rattle.c_type_terms.specs.Integers.{is_zero, number_of, promoted}
 use Rattle.bit_words.specs.declared.run.Undefined.TheVariants as undefined
 use Rattle.c_store.specs.Access.{can_access}
 use Rattle.core_tree.specs.declared.types.ValueType.TheVariants as v
@@ -47,10 +46,10 @@ use Rattle.core_tree.specs.Values as core
 use Rattle.core_tree.proofs.Equations as eq
 use Rattle.elaborate.specs.Means.{as_done, as_found, as_value, Like, Does, IsValueOf, IsAddressOf, IsEffectOf}
 use Rattle.elaborate.specs.Types.{word_type, arithmetic, working}
-use Rattle.elaborate.specs.Means.{OfType, SameType}
+use Rattle.elaborate.specs.Means.{OfType}
 use Rattle.elaborate.proofs.Objects.{load_same, put_same}
 use Rattle.elaborate.proofs.Numbers.{worked_same, plus_same, minus_same, complement_same, promoted_word, working_word}
-use Rattle.elaborate.proofs.States.{then_same, or_stop_same, test_same, branch_same}
+use Rattle.elaborate.proofs.States.{then_same, or_stop_same, branch_same}
 
 -- how the core reads or writes an lvalue
 abbrev access_of : Part → ValueType → Access

@@ -3,7 +3,6 @@ use Rattle.std.specs.Prelude.{◌≡◌, ℕ, ℤ, Option, Some, None}
 use Rattle.c_tree.specs.declared.expr.BinaryOperator.{BinaryOperator}
 use Rattle.c_tree.specs.declared.expr.BinaryOperator.TheVariants as o
 use Rattle.c_type_terms.specs.declared.ctype.IntegerKind.{IntegerKind}
-use Rattle.c_type_terms.specs.Integers.{promoted, usual}
 use Rattle.c_means.specs.Parts.{State}
 use Rattle.c_means.specs.Operators.{Operand, operated}
 use Rattle.core_tree.specs.declared.types.Arithmetic.{Arithmetic}

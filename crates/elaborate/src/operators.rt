@@ -46,10 +46,7 @@ fn on_integers(operator: BinaryOperator, left: IntegerKind, right: IntegerKind) 
     ensures { result ≡ spec.on_integers operator left right }
 {
     match arithmetic(operator) {
-        Some(number) => Some(Operator::Numbers(
-            number,
-            word_type(working(operator, left, right)),
-        )),
+        Some(number) => Some(Operator::Numbers(number, word_type(working(operator, left, right)))),
         None => None,
     }
 }
