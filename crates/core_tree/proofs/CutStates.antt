@@ -25,14 +25,16 @@ starts_prefix log [] = refl
 starts_prefix [] (x ∷ xs) = refl
 starts_prefix (y ∷ ys) (x ∷ xs) = ap (λ b. nat_eq x y && b) (starts_prefix ys xs)
 
-prefix_joined : (out text log : List ℕ) → prefix (out ++ text) log ≡ cond (prefix out log) (prefix text (drop (length out) log)) false
+prefix_joined : (out text log : List ℕ) → prefix (out ++ text) log ≡ cond (prefix out log)
+    (prefix text (drop (length out) log)) false
 unfolding prefix
 prefix_joined [] text log = refl
 prefix_joined (x ∷ xs) text [] = refl
-prefix_joined (x ∷ xs) text (y ∷ ys) = elim (nat_eq x y) as (λ b. (b && prefix (xs ++ text) ys) ≡ cond (b && prefix xs ys) (prefix text (drop (length xs) ys)) false) [
-  | true ↦ prefix_joined xs text ys
-  | false ↦ refl
-]
+prefix_joined (x ∷ xs) text (y ∷ ys) = elim (nat_eq x y) as (λ b. (b && prefix (xs ++ text) ys) ≡ cond
+    (b && prefix xs ys) (prefix text (drop (length xs) ys)) false) [
+      | true ↦ prefix_joined xs text ys
+      | false ↦ refl
+    ]
 
 -- two texts one behind the other stand in a log where the first stands there, and the second behind it
 pub follows_joined : (log : List ℕ) (j : ℕ) (out text : List ℕ) →
@@ -76,7 +78,8 @@ module _ (log : List ℕ) where
 
   -- ---- one behind the other
 
-  bind_where : {A B : Type 0} (b : Bool) (r : Outcome ℕ A) (g : A × Done ℕ → Outcome ℕ B) → (cond b r None >>= g) ≡ cond b (r >>= g) None
+  bind_where : {A B : Type 0} (b : Bool) (r : Outcome ℕ A) (g : A × Done ℕ → Outcome ℕ B) → (cond b r None >>= g) ≡
+      cond b (r >>= g) None
   bind_where true r g = refl
   bind_where false r g = refl
 
@@ -88,10 +91,14 @@ module _ (log : List ℕ) where
   bind_cut j b None r f g e h = sym (bind_where b r g) ∙ ap (λ o. o >>= g) e
   bind_cut j b (Some (Ok x)) r f g p h =
       subst (λ q. CutsValue j (f x) q)
-      (sym (sym (bind_where b r g) ∙ ap (λ o. o >>= g) p.1 ∙ bind_where (follows log j x.1.out.printed) (found x.0 (seen_as x.1)) g))
+      (sym (sym (bind_where b r g) ∙ ap (λ o. o >>= g) p.1 ∙ bind_where (follows log j x.1.out.printed)
+      (found x.0 (seen_as x.1)) g))
       ((h x.0).cuts j x.1 p.0)
-  bind_cut j b (Some (Err d)) r f g p h =
-      (p.0, sym (bind_where b r g) ∙ ap (λ o. o >>= g) p.1 ∙ bind_where (follows log j d.out.printed) (Some (Err (seen_as d))) g)
+  bind_cut j b (Some (Err d)) r f g p h = (
+    p.0,
+    sym (bind_where b r g) ∙ ap (λ o. o >>= g) p.1 ∙ bind_where (follows log j d.out.printed)
+        (Some (Err (seen_as d))) g,
+  )
 
   pub runs_bind : {A B : Type 0} {f : Done Output → Outcome Output A} {g : Done ℕ → Outcome ℕ A}
       (f' : A × Done Output → Outcome Output B) (g' : A × Done ℕ → Outcome ℕ B)
@@ -100,7 +107,8 @@ module _ (log : List ℕ) where
     cuts = λ j d c. bind_cut j (follows log j d.out.printed) (f d) (g (seen_as d)) f' g' (h.cuts j d c) i;
   }
 
-  with_where : (b : Bool) (r : Outcome ℕ ℤ) (g : ℤ → Arrow ℕ) → with_value (cond b r None) g ≡ cond b (with_value r g) None
+  with_where : (b : Bool) (r : Outcome ℕ ℤ) (g : ℤ → Arrow ℕ) → with_value (cond b r None) g ≡ cond b
+      (with_value r g) None
   with_where true r g = refl
   with_where false r g = refl
 
@@ -110,12 +118,17 @@ module _ (log : List ℕ) where
   with_cut j b None r f g e h = sym (with_where b r g) ∙ ap (λ o. with_value o g) e
   with_cut j b (Some (Ok x)) r f g p h =
       subst (λ q. CutsState j (f x.0 x.1) q)
-      (sym (sym (with_where b r g) ∙ ap (λ o. with_value o g) p.1 ∙ with_where (follows log j x.1.out.printed) (found x.0 (seen_as x.1)) g))
+      (sym (sym (with_where b r g) ∙ ap (λ o. with_value o g) p.1 ∙ with_where (follows log j x.1.out.printed)
+      (found x.0 (seen_as x.1)) g))
       ((h x.0).cuts j x.1 p.0)
-  with_cut j b (Some (Err d)) r f g p h =
-      (p.0, sym (with_where b r g) ∙ ap (λ o. with_value o g) p.1 ∙ with_where (follows log j d.out.printed) (Some (Err (seen_as d))) g)
+  with_cut j b (Some (Err d)) r f g p h = (
+    p.0,
+    sym (with_where b r g) ∙ ap (λ o. with_value o g) p.1 ∙ with_where (follows log j d.out.printed)
+        (Some (Err (seen_as d))) g,
+  )
 
-  pub goes_with : {f : Done Output → Outcome Output ℤ} {g : Done ℕ → Outcome ℕ ℤ} {f' : ℤ → Arrow Output} {g' : ℤ → Arrow ℕ}
+  pub goes_with : {f : Done Output → Outcome Output ℤ} {g : Done ℕ → Outcome ℕ ℤ} {f' : ℤ → Arrow Output}
+      {g' : ℤ → Arrow ℕ}
       → Runs f g → ((z : ℤ) → Goes (f' z) (g' z)) → Goes (λ d. with_value (f d) f') (λ d. with_value (g d) g')
   goes_with {f = f} {g = g} {f' = f'} {g' = g'} h i = record {
     cuts = λ j d c. with_cut j (follows log j d.out.printed) (f d) (g (seen_as d)) f' g' (h.cuts j d c) i;
@@ -130,17 +143,20 @@ module _ (log : List ℕ) where
   onward_cut j b None r f g e h = sym (onward_where b r g) ∙ ap (λ o. onward o g) e
   onward_cut j b (Some d) r f g p h =
       subst (λ q. CutsState j (f d) q)
-      (sym (sym (onward_where b r g) ∙ ap (λ o. onward o g) p.1 ∙ onward_where (follows log j d.out.printed) (Some (seen_as d)) g))
+      (sym (sym (onward_where b r g) ∙ ap (λ o. onward o g) p.1 ∙ onward_where (follows log j d.out.printed)
+      (Some (seen_as d)) g))
       (h.cuts j d p.0)
 
-  pub goes_onward : {f f' : Arrow Output} {g g' : Arrow ℕ} → Goes f g → Goes f' g' → Goes (λ d. onward (f d) f') (λ d. onward (g d) g')
+  pub goes_onward : {f f' : Arrow Output} {g g' : Arrow ℕ} → Goes f g → Goes f' g' → Goes (λ d. onward (f d) f')
+      (λ d. onward (g d) g')
   goes_onward {f = f} {f' = f'} {g = g} {g' = g'} h i = record {
     cuts = λ j d c. onward_cut j (follows log j d.out.printed) (f d) (g (seen_as d)) f' g' (h.cuts j d c) i;
   }
 
   -- ---- steps that print nothing
 
-  pub runs_found : {A : Type 0} (x : Done Output → A) (y : Done ℕ → A) (f : Done Output → Done Output) (g : Done ℕ → Done ℕ)
+  pub runs_found : {A : Type 0} (x : Done Output → A) (y : Done ℕ → A) (f : Done Output → Done Output)
+      (g : Done ℕ → Done ℕ)
       → ((d : Done Output) → y (seen_as d) ≡ x d) → ((d : Done Output) → (f d).out ≡ d.out)
       → ((d : Done Output) → g (seen_as d) ≡ seen_as (f d))
       → Runs (λ d. found (x d) (f d)) (λ d. found (y d) (g d))
@@ -155,23 +171,27 @@ module _ (log : List ℕ) where
 
   -- by a test of what both know
   pub test_cut : {A : Type 0} (j : ℕ) (o : Output) (b : Bool) (x y : Outcome Output A) (x' y' : Outcome ℕ A)
-      → CutsValue j x (where_on j o x') → CutsValue j y (where_on j o y') → CutsValue j (cond b x y) (where_on j o (cond b x' y'))
+      → CutsValue j x (where_on j o x') → CutsValue j y (where_on j o y') → CutsValue j (cond b x y)
+      (where_on j o (cond b x' y'))
   test_cut j o true x y x' y' h i = h
   test_cut j o false x y x' y' h i = i
 
   pub test_goes : (j : ℕ) (o : Output) (b : Bool) (x y : Option (Done Output)) (x' y' : Option (Done ℕ))
-      → CutsState j x (where_on j o x') → CutsState j y (where_on j o y') → CutsState j (cond b x y) (where_on j o (cond b x' y'))
+      → CutsState j x (where_on j o x') → CutsState j y (where_on j o y') → CutsState j (cond b x y)
+      (where_on j o (cond b x' y'))
   test_goes j o true x y x' y' h i = h
   test_goes j o false x y x' y' h i = i
 
   -- what is found where a test passes, with another store perhaps; else the run stops
-  pub found_or_stop : {A : Type 0} (j : ℕ) (d : Done Output) (b : Bool) (x : A) (s : Store) (at : ℕ) (u : Undefined) → Counted j d.out
+  pub found_or_stop : {A : Type 0} (j : ℕ) (d : Done Output) (b : Bool) (x : A) (s : Store) (at : ℕ) (u : Undefined)
+      → Counted j d.out
       → CutsValue j (cond b (found x (with_store s d)) (stop at u d))
       (where_on j d.out (cond b (found x (with_store s (seen_as d))) (stop at u (seen_as d))))
   found_or_stop j d true x s at u c = (c, refl)
   found_or_stop j d false x s at u c = (c, refl)
 
-  pub else_stop : {A : Type 0} (j : ℕ) (d : Done Output) (b : Bool) (x : Outcome Output A) (x' : Outcome ℕ A) (at : ℕ) (u : Undefined)
+  pub else_stop : {A : Type 0} (j : ℕ) (d : Done Output) (b : Bool) (x : Outcome Output A) (x' : Outcome ℕ A)
+      (at : ℕ) (u : Undefined)
       → Counted j d.out → CutsValue j x (where_on j d.out x')
       → CutsValue j (cond b x (stop at u d)) (where_on j d.out (cond b x' (stop at u (seen_as d))))
   else_stop j d true x x' at u c h = h
@@ -199,7 +219,8 @@ module _ (log : List ℕ) where
 
   pub goes_running : (f : Arrow Output) (g : Arrow ℕ) → Goes f g → Goes (running f) (running g)
   goes_running f g h = record { cuts = λ j d c. by_kind j d c d.kind } where
-    by_kind : (j : ℕ) (d : Done Output) → Counted j d.out → (kind : Kind) → CutsState j (where_running kind (f d) (Some d)) (where_on j d.out (where_running kind (g (seen_as d)) (Some (seen_as d))))
+    by_kind : (j : ℕ) (d : Done Output) → Counted j d.out → (kind : Kind) → CutsState j
+        (where_running kind (f d) (Some d)) (where_on j d.out (where_running kind (g (seen_as d)) (Some (seen_as d))))
     by_kind j d c k.Running = h.cuts j d c
     by_kind j d c k.Breaking = (c, refl)
     by_kind j d c k.Continuing = (c, refl)

@@ -65,7 +65,8 @@ module _ {O : Type 0} where
   pub worth-Fixed : (place : ℕ) → value {O = O} (expr.Fixed place)
       ≡ value_step (expr_open.Fixed place)
   unfolding value
-  worth-Fixed place = ap value (sym (rolls-Expr-Fixed place)) ∙ fold-roll-Expr (Value O) value_step (expr_open.Fixed place)
+  worth-Fixed place = ap value (sym (rolls-Expr-Fixed place)) ∙ fold-roll-Expr (Value O) value_step
+      (expr_open.Fixed place)
 
   pub worth-Local : (at : ℕ) → value {O = O} (expr.Local at)
       ≡ value_step (expr_open.Local at)
@@ -75,7 +76,8 @@ module _ {O : Type 0} where
   pub worth-Load : (access : Access) (x : Expr) → value {O = O} (expr.Load access x)
       ≡ value_step (expr_open.Load access (value x))
   unfolding value
-  worth-Load access x = ap value (sym (rolls-Expr-Load access x)) ∙ fold-roll-Expr (Value O) value_step (expr_open.Load access x)
+  worth-Load access x = ap value (sym (rolls-Expr-Load access x)) ∙ fold-roll-Expr (Value O) value_step
+      (expr_open.Load access x)
 
   pub worth-Target : (x : Expr) → value {O = O} (expr.Target x)
       ≡ value_step (expr_open.Target (value x))
@@ -90,37 +92,44 @@ module _ {O : Type 0} where
   pub worth-Offset : (bytes : ℕ) (x : Expr) → value {O = O} (expr.Offset bytes x)
       ≡ value_step (expr_open.Offset bytes (value x))
   unfolding value
-  worth-Offset bytes x = ap value (sym (rolls-Expr-Offset bytes x)) ∙ fold-roll-Expr (Value O) value_step (expr_open.Offset bytes x)
+  worth-Offset bytes x = ap value (sym (rolls-Expr-Offset bytes x)) ∙ fold-roll-Expr (Value O) value_step
+      (expr_open.Offset bytes x)
 
   pub worth-Extract : (bytes : ℕ) (member : ValueType) (x : Expr) → value {O = O} (expr.Extract bytes member x)
       ≡ value_step (expr_open.Extract bytes member (value x))
   unfolding value
-  worth-Extract bytes member x = ap value (sym (rolls-Expr-Extract bytes member x)) ∙ fold-roll-Expr (Value O) value_step (expr_open.Extract bytes member x)
+  worth-Extract bytes member x = ap value (sym (rolls-Expr-Extract bytes member x)) ∙ fold-roll-Expr (Value O)
+      value_step (expr_open.Extract bytes member x)
 
   pub worth-Convert : (to : ValueType) (x : Expr) → value {O = O} (expr.Convert to x)
       ≡ value_step (expr_open.Convert to (value x))
   unfolding value
-  worth-Convert to x = ap value (sym (rolls-Expr-Convert to x)) ∙ fold-roll-Expr (Value O) value_step (expr_open.Convert to x)
+  worth-Convert to x = ap value (sym (rolls-Expr-Convert to x)) ∙ fold-roll-Expr (Value O) value_step
+      (expr_open.Convert to x)
 
   pub worth-Cast : (to : ValueType) (x : Expr) → value {O = O} (expr.Cast to x)
       ≡ value_step (expr_open.Cast to (value x))
   unfolding value
   worth-Cast to x = ap value (sym (rolls-Expr-Cast to x)) ∙ fold-roll-Expr (Value O) value_step (expr_open.Cast to x)
 
-  pub worth-Turn : (at : ℕ) (operator : Turning) (word : WordType) (is_constant : Bool) (x : Expr) → value {O = O} (expr.Turn at operator word is_constant x)
+  pub worth-Turn : (at : ℕ) (operator : Turning) (word : WordType) (is_constant : Bool) (x : Expr) → value {O = O}
+      (expr.Turn at operator word is_constant x)
       ≡ value_step (expr_open.Turn at operator word is_constant (value x))
   unfolding value
-  worth-Turn at operator word is_constant x = ap value (sym (rolls-Expr-Turn at operator word is_constant x)) ∙ fold-roll-Expr (Value O) value_step (expr_open.Turn at operator word is_constant x)
+  worth-Turn at operator word is_constant x = ap value (sym (rolls-Expr-Turn at operator word is_constant x)) ∙
+      fold-roll-Expr (Value O) value_step (expr_open.Turn at operator word is_constant x)
 
   pub worth-Not : (x : Expr) → value {O = O} (expr.Not x)
       ≡ value_step (expr_open.Not (value x))
   unfolding value
   worth-Not x = ap value (sym (rolls-Expr-Not x)) ∙ fold-roll-Expr (Value O) value_step (expr_open.Not x)
 
-  pub worth-Operate : (at : ℕ) (operator : Operator) (is_constant : Bool) (x : Expr) (y : Expr) → value {O = O} (expr.Operate at operator is_constant x y)
+  pub worth-Operate : (at : ℕ) (operator : Operator) (is_constant : Bool) (x : Expr) (y : Expr) → value {O = O}
+      (expr.Operate at operator is_constant x y)
       ≡ value_step (expr_open.Operate at operator is_constant (value x) (value y))
   unfolding value
-  worth-Operate at operator is_constant x y = ap value (sym (rolls-Expr-Operate at operator is_constant x y)) ∙ fold-roll-Expr (Value O) value_step (expr_open.Operate at operator is_constant x y)
+  worth-Operate at operator is_constant x y = ap value (sym (rolls-Expr-Operate at operator is_constant x y)) ∙
+      fold-roll-Expr (Value O) value_step (expr_open.Operate at operator is_constant x y)
 
   pub worth-And : (at : ℕ) (x : Expr) (y : Expr) → value {O = O} (expr.And at x y)
       ≡ value_step (expr_open.And at (value x) (value y))
@@ -135,62 +144,77 @@ module _ {O : Type 0} where
   pub worth-Choose : (at : ℕ) (c : Expr) (x : Expr) (y : Expr) → value {O = O} (expr.Choose at c x y)
       ≡ value_step (expr_open.Choose at (value c) (value x) (value y))
   unfolding value
-  worth-Choose at c x y = ap value (sym (rolls-Expr-Choose at c x y)) ∙ fold-roll-Expr (Value O) value_step (expr_open.Choose at c x y)
+  worth-Choose at c x y = ap value (sym (rolls-Expr-Choose at c x y)) ∙ fold-roll-Expr (Value O) value_step
+      (expr_open.Choose at c x y)
 
   pub worth-Store : (at : ℕ) (access : Access) (x : Expr) (y : Expr) → value {O = O} (expr.Store at access x y)
       ≡ value_step (expr_open.Store at access (value x) (value y))
   unfolding value
-  worth-Store at access x y = ap value (sym (rolls-Expr-Store at access x y)) ∙ fold-roll-Expr (Value O) value_step (expr_open.Store at access x y)
+  worth-Store at access x y = ap value (sym (rolls-Expr-Store at access x y)) ∙ fold-roll-Expr (Value O) value_step
+      (expr_open.Store at access x y)
 
-  pub worth-Update : (at : ℕ) (operator : Operator) (access : Access) (x : Expr) (y : Expr) → value {O = O} (expr.Update at operator access x y)
+  pub worth-Update : (at : ℕ) (operator : Operator) (access : Access) (x : Expr) (y : Expr) → value {O = O}
+      (expr.Update at operator access x y)
       ≡ value_step (expr_open.Update at operator access (value x) (value y))
   unfolding value
-  worth-Update at operator access x y = ap value (sym (rolls-Expr-Update at operator access x y)) ∙ fold-roll-Expr (Value O) value_step (expr_open.Update at operator access x y)
+  worth-Update at operator access x y = ap value (sym (rolls-Expr-Update at operator access x y)) ∙ fold-roll-Expr
+      (Value O) value_step (expr_open.Update at operator access x y)
 
-  pub worth-Step : (at : ℕ) (operator : Operator) (access : Access) (answer : Answered) (x : Expr) → value {O = O} (expr.Step at operator access answer x)
+  pub worth-Step : (at : ℕ) (operator : Operator) (access : Access) (answer : Answered) (x : Expr) → value {O = O}
+      (expr.Step at operator access answer x)
       ≡ value_step (expr_open.Step at operator access answer (value x))
   unfolding value
-  worth-Step at operator access answer x = ap value (sym (rolls-Expr-Step at operator access answer x)) ∙ fold-roll-Expr (Value O) value_step (expr_open.Step at operator access answer x)
+  worth-Step at operator access answer x = ap value (sym (rolls-Expr-Step at operator access answer x)) ∙
+      fold-roll-Expr (Value O) value_step (expr_open.Step at operator access answer x)
 
   pub worth-Comma : (x : Expr) (y : Expr) → value {O = O} (expr.Comma x y)
       ≡ value_step (expr_open.Comma (value x) (value y))
   unfolding value
   worth-Comma x y = ap value (sym (rolls-Expr-Comma x y)) ∙ fold-roll-Expr (Value O) value_step (expr_open.Comma x y)
 
-  pub worth-Call : (at : ℕ) (xs : List Expr) (callee : Callee) (answer : ValueType) (is_used : Bool) → value {O = O} (expr.Call at xs callee answer is_used)
+  pub worth-Call : (at : ℕ) (xs : List Expr) (callee : Callee) (answer : ValueType) (is_used : Bool) → value {O = O}
+      (expr.Call at xs callee answer is_used)
       ≡ value_step (expr_open.Call at (map value xs) callee answer is_used)
   unfolding value
-  worth-Call at xs callee answer is_used = ap value (sym (rolls-Expr-Call at xs callee answer is_used)) ∙ fold-roll-Expr (Value O) value_step (expr_open.Call at xs callee answer is_used)
+  worth-Call at xs callee answer is_used = ap value (sym (rolls-Expr-Call at xs callee answer is_used)) ∙
+      fold-roll-Expr (Value O) value_step (expr_open.Call at xs callee answer is_used)
 
   pub does-Nothing : (is_node : Bool) → code {O = O} (tree.Nothing is_node)
       ≡ code_step (code_open.Nothing is_node)
   unfolding code
-  does-Nothing is_node = ap code (sym (rolls-Code-Nothing is_node)) ∙ fold-roll-Code (Item O) code_step (code_open.Nothing is_node)
+  does-Nothing is_node = ap code (sym (rolls-Code-Nothing is_node)) ∙ fold-roll-Code (Item O) code_step
+      (code_open.Nothing is_node)
 
   pub does-Value : (is_node : Bool) (e : Expr) → code {O = O} (tree.Value is_node e)
       ≡ code_step (code_open.Value is_node e)
   unfolding code
-  does-Value is_node e = ap code (sym (rolls-Code-Value is_node e)) ∙ fold-roll-Code (Item O) code_step (code_open.Value is_node e)
+  does-Value is_node e = ap code (sym (rolls-Code-Value is_node e)) ∙ fold-roll-Code (Item O) code_step
+      (code_open.Value is_node e)
 
-  pub does-Declare : (at : ℕ) (size : ℕ) (is_zeroed : Bool) (settings : List Setting) → code {O = O} (tree.Declare at size is_zeroed settings)
+  pub does-Declare : (at : ℕ) (size : ℕ) (is_zeroed : Bool) (settings : List Setting) → code {O = O}
+      (tree.Declare at size is_zeroed settings)
       ≡ code_step (code_open.Declare at size is_zeroed settings)
   unfolding code
-  does-Declare at size is_zeroed settings = ap code (sym (rolls-Code-Declare at size is_zeroed settings)) ∙ fold-roll-Code (Item O) code_step (code_open.Declare at size is_zeroed settings)
+  does-Declare at size is_zeroed settings = ap code (sym (rolls-Code-Declare at size is_zeroed settings)) ∙
+      fold-roll-Code (Item O) code_step (code_open.Declare at size is_zeroed settings)
 
   pub does-Static : (is_node : Bool) (values : List Expr) → code {O = O} (tree.Static is_node values)
       ≡ code_step (code_open.Static is_node values)
   unfolding code
-  does-Static is_node values = ap code (sym (rolls-Code-Static is_node values)) ∙ fold-roll-Code (Item O) code_step (code_open.Static is_node values)
+  does-Static is_node values = ap code (sym (rolls-Code-Static is_node values)) ∙ fold-roll-Code (Item O) code_step
+      (code_open.Static is_node values)
 
   pub does-Block : (is_node : Bool) (items : List Code) → code {O = O} (tree.Block is_node items)
       ≡ code_step (code_open.Block is_node (map code items))
   unfolding code
-  does-Block is_node items = ap code (sym (rolls-Code-Block is_node items)) ∙ fold-roll-Code (Item O) code_step (code_open.Block is_node items)
+  does-Block is_node items = ap code (sym (rolls-Code-Block is_node items)) ∙ fold-roll-Code (Item O) code_step
+      (code_open.Block is_node items)
 
   pub does-Label : (name : Name) (x : Code) → code {O = O} (tree.Label name x)
       ≡ code_step (code_open.Label name (code x))
   unfolding code
-  does-Label name x = ap code (sym (rolls-Code-Label name x)) ∙ fold-roll-Code (Item O) code_step (code_open.Label name x)
+  does-Label name x = ap code (sym (rolls-Code-Label name x)) ∙ fold-roll-Code (Item O) code_step
+      (code_open.Label name x)
 
   pub does-Case : (z : ℤ) (e : Expr) (x : Code) → code {O = O} (tree.Case z e x)
       ≡ code_step (code_open.Case z e (code x))
@@ -207,20 +231,25 @@ module _ {O : Type 0} where
   unfolding code
   does-If at e x y = ap code (sym (rolls-Code-If at e x y)) ∙ fold-roll-Code (Item O) code_step (code_open.If at e x y)
 
-  pub does-Switch : (at : ℕ) (word : WordType) (cases : List ℤ) (e : Expr) (is_node : Bool) (items : List Code) → code {O = O} (tree.Switch at word cases e is_node items)
+  pub does-Switch : (at : ℕ) (word : WordType) (cases : List ℤ) (e : Expr) (is_node : Bool) (items : List Code) →
+      code {O = O} (tree.Switch at word cases e is_node items)
       ≡ code_step (code_open.Switch at word cases e is_node (map code items))
   unfolding code
-  does-Switch at word cases e is_node items = ap code (sym (rolls-Code-Switch at word cases e is_node items)) ∙ fold-roll-Code (Item O) code_step (code_open.Switch at word cases e is_node items)
+  does-Switch at word cases e is_node items = ap code (sym (rolls-Code-Switch at word cases e is_node items)) ∙
+      fold-roll-Code (Item O) code_step (code_open.Switch at word cases e is_node items)
 
-  pub does-Loop : (at : ℕ) (test : Option Expr) (step : Option Expr) (x : Code) → code {O = O} (tree.Loop at test step x)
+  pub does-Loop : (at : ℕ) (test : Option Expr) (step : Option Expr) (x : Code) → code {O = O}
+      (tree.Loop at test step x)
       ≡ code_step (code_open.Loop at test step (code x))
   unfolding code
-  does-Loop at test step x = ap code (sym (rolls-Code-Loop at test step x)) ∙ fold-roll-Code (Item O) code_step (code_open.Loop at test step x)
+  does-Loop at test step x = ap code (sym (rolls-Code-Loop at test step x)) ∙ fold-roll-Code (Item O) code_step
+      (code_open.Loop at test step x)
 
   pub does-Repeat : (at : ℕ) (test : Expr) (x : Code) → code {O = O} (tree.Repeat at test x)
       ≡ code_step (code_open.Repeat at test (code x))
   unfolding code
-  does-Repeat at test x = ap code (sym (rolls-Code-Repeat at test x)) ∙ fold-roll-Code (Item O) code_step (code_open.Repeat at test x)
+  does-Repeat at test x = ap code (sym (rolls-Code-Repeat at test x)) ∙ fold-roll-Code (Item O) code_step
+      (code_open.Repeat at test x)
 
   pub does-Goto : (name : Name) → code {O = O} (tree.Goto name)
       ≡ code_step (code_open.Goto name)

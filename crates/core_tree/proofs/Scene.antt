@@ -1,5 +1,24 @@
 -- Expressions, code and functions, each with what it is worth, so that worked rows compute and speak of trees.
-use Rattle.std.proofs.Common.{◌≡◌, ℕ, zero, suc, ℤ, List, [], ◌∷◌, Bool, true, false, Option, Some, None, refl, ap, ap₂, ◌∙◌}
+use Rattle.std.proofs.Common.{
+  ◌≡◌,
+  ℕ,
+  zero,
+  suc,
+  ℤ,
+  List,
+  [],
+  ◌∷◌,
+  Bool,
+  true,
+  false,
+  Option,
+  Some,
+  None,
+  refl,
+  ap,
+  ap₂,
+  ◌∙◌,
+}
 use Rattle.std.proofs.Math.Path.{fun_ext}
 use Rattle.std.specs.Prelude.{map, option_map, slice_get}
 use Rattle.c_means.specs.Parts.{World, Limits}
