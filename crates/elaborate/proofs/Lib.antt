@@ -1,0 +1,10 @@
+pub mod Numbers
+pub mod States
+pub mod Objects
+pub mod Values
+pub mod Pointers
+pub mod Operates
+pub mod Codes
+pub mod Choices
+pub mod Calls
+pub mod Rules

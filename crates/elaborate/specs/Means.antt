@@ -1,0 +1,124 @@
+-- What it is to be the core of a part of a program: in all levels, environments, places and states it does what the part
+-- does, takes as many places, and counts as many nodes. The states are the same, but that the core keeps apart what a
+-- run leaves outside.
+use Rattle.std.specs.Prelude.{◌≡◌, ℕ, ℤ, pos, true, List, [], ◌∷◌, Some, Ok, Err}
+use Rattle.c_type_terms.specs.declared.class.Class.{Class}
+use Rattle.c_type_terms.specs.declared.tables.Tables.{Tables}
+use Rattle.c_store.specs.Store.{Store, read}
+use Rattle.c_says.specs.Typing.{Typed, type_of}
+use Rattle.c_means.specs.Values as values
+use Rattle.c_means.specs.Objects as objects
+use Rattle.c_means.specs.Parts.{State, Env, Part}
+use Rattle.c_means.specs.Parts as c
+use Rattle.c_runs.specs.Items.{Made}
+use Rattle.c_runs.specs.Items as runs
+use Rattle.core_tree.specs.declared.code.Code.{Code}
+use Rattle.c_means.specs.Expressions.{Passed}
+use Rattle.core_tree.specs.declared.expr.Callee.{Callee}
+use Rattle.core_tree.specs.Callees.{callee_size, callee_room, called}
+use Rattle.core_tree.specs.declared.expr.Expr.{Expr}
+use Rattle.core_tree.specs.declared.types.ValueType.{ValueType}
+use Rattle.core_tree.specs.Numbers.{size_of, value_of_bytes, bytes_of_value, converted_to}
+use Rattle.core_tree.specs.States.{Output, plain, Done, Outcome, Level}
+use Rattle.core_tree.specs.Values.{Value, value}
+use Rattle.core_tree.specs.Codes.{Item, code}
+
+-- ---- states
+
+abbrev pub as_done : State → Done Output
+as_done d = record {
+  kind = d.kind;
+  value = d.value;
+  store = d.store;
+  events = d.events;
+  out = record { count = d.count; printed = d.printed; met = d.met };
+}
+
+abbrev pub as_found : {A : Type 0} → c.Outcome A → Outcome Output A
+as_found (Ok x) = Some (Ok (x.0, as_done x.1))
+as_found (Err d) = Some (Err (as_done d))
+
+-- an address as a value
+abbrev pub as_value : c.Outcome ℕ → c.Outcome ℤ
+as_value (Ok x) = Ok (pos x.0, x.1)
+as_value (Err d) = Err d
+
+-- ---- levels
+
+-- The level of a function and the one of its core tell the same; `static` are the places of what lives throughout the
+-- run.
+pub record Like (static : ℕ → ℕ) (l : c.Level) (k : Level Output) : Type 0 where
+  pub taking : k.taking ≡ plain
+  pub world : k.world ≡ l.world
+  pub limits : k.limits ≡ l.limits
+  pub turns : k.measures.turns ≡ l.turns
+  pub static_places : l.static ≡ static
+
+-- ---- expressions
+
+pub record Does (static : ℕ → ℕ) (x : Value Output) (nodes places : c.Level → ℕ) (run : c.Level → c.Run ℤ) : Type 0 where
+  pub size : (l : c.Level) (k : Level Output) → Like static l k → x.needs.size k.measures ≡ nodes l
+  pub room : (l : c.Level) (k : Level Output) → Like static l k → x.needs.room k.measures ≡ places l
+  pub runs : (l : c.Level) (k : Level Output) → Like static l k → (env : Env) (base : ℕ) (d : State)
+      → x.run k env base (as_done d) ≡ as_found (run l env base d)
+
+-- the core of the part's value, of its address, and of what it does where its value isn't used
+abbrev pub IsValueOf : (ℕ → ℕ) → Expr → Part → Type 0
+IsValueOf static e p = Does static (value e) p.size p.room p.run
+
+abbrev pub IsAddressOf : (ℕ → ℕ) → Expr → Part → Type 0
+IsAddressOf static e p = Does static (value e) p.size p.room (λ l env base d. as_value (p.reach l env base d))
+
+abbrev pub IsEffectOf : (ℕ → ℕ) → Expr → Part → Type 0
+IsEffectOf static e p = Does static (value e) p.size p.room p.effect
+
+-- ---- statements
+
+pub record Acts (static : ℕ → ℕ) (x : Item Output) (i : runs.Item) : Type 0 where
+  pub size : (l : c.Level) (k : Level Output) → Like static l k → x.needs.size k.measures ≡ i.size l
+  pub room : (l : c.Level) (k : Level Output) → Like static l k → x.needs.room k.measures ≡ i.room l
+  pub objects : (l : c.Level) (k : Level Output) → Like static l k → (base : ℕ) → x.objects k.measures base ≡ i.objects l base
+  pub runs : (l : c.Level) (k : Level Output) → Like static l k → (env : Env) (base : ℕ) (d : State)
+      → x.run k env base (as_done d) ≡ Some (as_done (i.run l env base d))
+
+-- the core of a statement or declaration, as an item of its block
+abbrev pub IsCodeOf : (ℕ → ℕ) → Code → runs.Item → Type 0
+IsCodeOf static x i = Acts static (code x) i
+
+-- ---- types
+
+-- values of a class, in n bytes, are those of a type of the core
+pub record SameType (c : Class) (n : ℕ) (t : ValueType) : Type 0 where
+  pub size : size_of t ≡ n
+  pub is_read : objects.is_read c ≡ true
+  pub value : (s : Store) (a : ℕ) → value_of_bytes t (read n s a) ≡ objects.value_at c n s a
+  pub bytes : (z : ℤ) → bytes_of_value t z ≡ values.bytes_of_value c z
+  pub converted : (z : ℤ) → converted_to t z ≡ values.converted_to c z
+
+-- what an expression's type says to the tables is a type of the core
+pub record OfType (tables : Tables) (x : Typed) (t : ValueType) : Type 0 where
+  pub class : Class
+  pub bytes : ℕ
+  pub is_class : values.class_in (type_of x) ≡ class
+  pub has_bytes : values.bytes_of tables (type_of x) ≡ bytes
+  pub same : SameType class bytes t
+
+-- ---- calls
+
+-- what a callee of the core does is what a call of this site does
+pub record IsCallOf (static : ℕ → ℕ) (callee : Callee) (at : ℕ) (t : ValueType) (site : c.Level → c.Site) : Type 0 where
+  pub size : (l : c.Level) (k : Level Output) → Like static l k → callee_size callee k.measures ≡ l.size (site l)
+  pub room : (l : c.Level) (k : Level Output) → Like static l k → callee_room callee k.measures ≡ l.room (site l)
+  pub runs : (l : c.Level) (k : Level Output) → Like static l k → (env : Env) (vs : List ℤ) (base : ℕ) (s : Store) (o : Output)
+      → called k callee at t env vs base s o ≡ Some (as_done (l.call (site l) env vs base s o.count))
+
+-- an argument, as it is converted to its parameter's type
+abbrev pub IsArgument : (ℕ → ℕ) → Expr → Passed → Type 0
+IsArgument static e q =
+    Does static (value e) q.part.size q.part.room
+    (λ l env base d. c.◌>>=◌ (q.part.run l env base d) (λ v. Ok (values.converted_to (values.class_in q.ctype) v.0, v.1)))
+
+abbrev pub AreArguments : (ℕ → ℕ) → List Expr → List Passed → Type 0
+AreArguments static [] [] = Unit {0}
+AreArguments static (e ∷ es) (q ∷ qs) = IsArgument static e q × AreArguments static es qs
+AreArguments static _ _ = ⊥
