@@ -57,7 +57,6 @@ impl Counted {
     pub fn by(length: Told) -> Result<Counted, AllocError>
         ensures { (scope : scopes.Scope) → IfOk result (λ n. counted_in n scope ≡ spec.counted_by (typed_in length scope)) }
     {
-        let _ = length;
         Err(AllocError)
     }
 }
@@ -80,7 +79,6 @@ impl Formed {
     pub fn add_pointer(&mut self, qualifiers: &[Qualifier]) -> Result<(), AllocError>
         ensures { (scope : scopes.Scope) → OnOk result (formed_in self.new scope ≡ spec.to_pointer qualifiers.now (formed_in self.old scope)) }
     {
-        let _ = qualifiers;
         Err(AllocError)
     }
 
@@ -88,7 +86,6 @@ impl Formed {
     pub fn add_array(&mut self, words: &[ArrayWord], length: Counted) -> Result<(), AllocError>
         ensures { (before : scopes.Scope) (scope : scopes.Scope) → OnOk result (formed_in self.new scope ≡ spec.to_array (spec.qualifiers_among words.now) (formed_in self.old before) (counted_in length scope)) }
     {
-        let _ = (words, length);
         Err(AllocError)
     }
 
@@ -103,7 +100,6 @@ impl Formed {
     ) -> Result<(), AllocError>
         ensures { (before : scopes.Scope) → OnOk result (formed_in self.new scope.new ≡ spec.to_function prototype (formed_in self.old before) (listed_in listed scope.old)) }
     {
-        let _ = (alloc, prototype, listed, scope);
         Err(AllocError)
     }
 }

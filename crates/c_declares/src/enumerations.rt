@@ -39,7 +39,6 @@ impl Counting {
     ) -> Result<(), AllocError>
         ensures { OnOk result (counting_in self.new scope.new ≡ spec.enumerates at name.now self.old.next self.old.faults scope.old) }
     {
-        let _ = (alloc, at, name, scope);
         Err(AllocError)
     }
 
@@ -54,7 +53,6 @@ impl Counting {
     ) -> Result<(), AllocError>
         ensures { OnOk result (counting_in self.new scope.new ≡ spec.enumerates_typed at name.now (typed_in value scope.old) self.old.faults) }
     {
-        let _ = (alloc, at, name, value, scope);
         Err(AllocError)
     }
 }

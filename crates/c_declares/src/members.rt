@@ -60,7 +60,6 @@ impl Laid {
         ensures specified { (scope : scopes.Scope) → IfOk result (λ t. t ≡ spec.specified (said_in said scope)) }
         ensures laid { OnOk result (self.new ≡ record self.old { faults = said.faults }) }
     {
-        let _ = (alloc, said);
         Err(AllocError)
     }
 
@@ -81,7 +80,6 @@ impl Laid {
     ) -> Result<(), AllocError>
         ensures { (before : scopes.Scope) → OnOk result (laid_in self.new scope.now ≡ spec.lays_formed (formed_in formed scope.now) ctype.now (laid_in self.old before)) }
     {
-        let _ = (alloc, formed, ctype, scope);
         Err(AllocError)
     }
 
@@ -89,7 +87,6 @@ impl Laid {
     pub fn add_bits(&mut self, alloc: Global, formed: Formed) -> Result<(), AllocError>
         ensures { (before : scopes.Scope) (scope : scopes.Scope) → OnOk result (laid_in self.new scope ≡ spec.bits_formed (formed_in formed scope) (laid_in self.old before)) }
     {
-        let _ = (alloc, formed);
         Err(AllocError)
     }
 
@@ -104,7 +101,6 @@ impl Laid {
     pub fn add_width(&mut self, width: Told) -> Result<(), AllocError>
         ensures { (before : scopes.Scope) (scope : scopes.Scope) → OnOk result (laid_in self.new scope ≡ spec.bits_wide (typed_in width scope) (laid_in self.old before)) }
     {
-        let _ = width;
         Err(AllocError)
     }
 }

@@ -1,6 +1,6 @@
 //! Parameters (C99 6.7.5.3): of array or function type they are pointers, and their names have a scope of their own.
 
-ghost use Rattle.std.specs.Prelude.{◌≡◌, [], map, IfOk, OnOk};
+ghost use Rattle.std.specs.Prelude.{◌≡◌, [], true, map, IfOk, OnOk};
 ghost use Rattle.c_says.specs.Scopes as scopes;
 ghost use Rattle.c_says.specs.Declares as spec;
 ghost use Rattle.c_tree.specs.declared.expr.Parameter.{Parameter as Tree};
@@ -43,7 +43,6 @@ impl Named {
     ) -> Result<Named, AllocError>
         ensures { (before : scopes.Scope) → IfOk result (λ p. named_in p scope.now ≡ spec.parameter_formed (said_in said before) (formed_in formed scope.now)) }
     {
-        let _ = (alloc, said, formed, scope);
         Err(AllocError)
     }
 }
@@ -64,7 +63,6 @@ impl Listed {
     pub fn add(&mut self, alloc: Global, parameter: Named, scope: &mut Scope) -> Result<(), AllocError>
         ensures { (before : scopes.Scope) → OnOk result (listed_in self.new scope.new ≡ spec.and_parameter (listed_in self.old before) (named_in parameter scope.old)) }
     {
-        let _ = (alloc, parameter, scope);
         Err(AllocError)
     }
 }

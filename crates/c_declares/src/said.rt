@@ -1,6 +1,6 @@
 //! What declaration specifiers say (C99 6.7), each behind what was said before it.
 
-ghost use Rattle.std.specs.Prelude.{◌≡◌, ◌++◌, [], ◌∷◌, IfOk, OnOk};
+ghost use Rattle.std.specs.Prelude.{◌≡◌, ◌++◌, [], ◌∷◌, true, false, IfOk, OnOk};
 ghost use Rattle.c_type_terms.specs.Types.{unqualified, with_both};
 ghost use Rattle.c_says.specs.Scopes as scopes;
 ghost use Rattle.c_says.specs.Declares as spec;
@@ -89,7 +89,6 @@ impl Said {
     ) -> Result<(), AllocError>
         ensures { OnOk result (said_in self.new scope.now ≡ spec.typedef_in at (scopes.look_up scope.now name.now) (spec.started at (said_in self.old scope.now))) }
     {
-        let _ = (alloc, at, name, scope);
         Err(AllocError)
     }
 
@@ -98,7 +97,6 @@ impl Said {
     pub fn specified(&self, alloc: Global) -> Result<Option<CType>, AllocError>
         ensures { (scope : scopes.Scope) → IfOk result (λ t. t ≡ spec.specified (said_in self.now scope)) }
     {
-        let _ = alloc;
         Err(AllocError)
     }
 

@@ -34,7 +34,6 @@ impl Said {
     ) -> Result<(), AllocError>
         ensures { OnOk result (said_in self.new scope.new ≡ spec.refers (spec.form_of kind) tag.now (spec.referred_tag self.old.alone scope.old tag.now.name) (spec.started at (said_in self.old scope.old))) }
     {
-        let _ = (alloc, at, kind, tag, scope);
         Err(AllocError)
     }
 
@@ -48,7 +47,6 @@ impl Said {
     ) -> Result<(), AllocError>
         ensures { OnOk result (said_in self.new scope.now ≡ spec.enumeration_tag tag.now.at (scopes.tag_of scope.now tag.now.name) (spec.started at (said_in self.old scope.now))) }
     {
-        let _ = (alloc, at, tag, scope);
         Err(AllocError)
     }
 
@@ -65,7 +63,6 @@ impl Said {
         ensures begun { IfOk result (λ b. begun_in b scope.new ≡ spec.begins (spec.form_of kind) tag.now self.old.faults scope.old) }
         ensures said { OnOk result (self.new ≡ record self.old { start = spec.started_at self.old.start at; faults = [] }) }
     {
-        let _ = (alloc, at, kind, tag, scope);
         Err(AllocError)
     }
 
@@ -80,7 +77,6 @@ impl Said {
     ) -> Result<(), AllocError>
         ensures { OnOk result (said_in self.new scope.new ≡ spec.ends_members (spec.form_of kind) number (laid_in laid scope.old) (said_in self.old scope.old)) }
     {
-        let _ = (alloc, kind, number, laid, scope);
         Err(AllocError)
     }
 
@@ -95,7 +91,6 @@ impl Said {
         ensures begun { IfOk result (λ b. begun_in b scope.new ≡ spec.begins_enumeration tag.now self.old.faults scope.old) }
         ensures said { OnOk result (self.new ≡ record self.old { start = spec.started_at self.old.start at; faults = [] }) }
     {
-        let _ = (alloc, at, tag, scope);
         Err(AllocError)
     }
 
@@ -109,7 +104,6 @@ impl Said {
     ) -> Result<(), AllocError>
         ensures { OnOk result (said_in self.new scope.new ≡ spec.ends_enumerators number (counting_in counting scope.old) (said_in self.old scope.old)) }
     {
-        let _ = (alloc, number, counting, scope);
         Err(AllocError)
     }
 }

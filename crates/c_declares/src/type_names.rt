@@ -31,7 +31,6 @@ impl TypeSaid {
     ) -> Result<TypeSaid, AllocError>
         ensures { (before : scopes.Scope) → IfOk result (λ t. type_said_in t scope.now ≡ spec.type_formed (said_in said before) (formed_in formed scope.now)) }
     {
-        let _ = (alloc, said, formed, scope);
         Err(AllocError)
     }
 }

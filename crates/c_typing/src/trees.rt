@@ -17,7 +17,6 @@ use std::alloc::{AllocError, Global};
 pub fn typed(alloc: Global, expr: &Expr, scope: &mut Scope) -> Result<Told, AllocError>
     ensures { IfOk result (λ told. typed_in told scope.new ≡ trees.typed expr.now scope.old) }
 {
-    let _ = (alloc, expr, scope);
     Err(AllocError)
 }
 
@@ -31,7 +30,6 @@ pub fn specifiers(
 ) -> Result<Said, AllocError>
     ensures { IfOk result (λ x. said_in x scope.new ≡ said_by (map trees.specifier_says specifiers.now) alone [] scope.old) }
 {
-    let _ = (alloc, specifiers, alone, scope);
     Err(AllocError)
 }
 
@@ -43,7 +41,6 @@ pub fn declarator(
 ) -> Result<Formed, AllocError>
     ensures { IfOk result (λ x. formed_in x scope.new ≡ trees.declarator_says declarator.now scope.old) }
 {
-    let _ = (alloc, declarator, scope);
     Err(AllocError)
 }
 
@@ -55,6 +52,5 @@ pub fn type_name(
 ) -> Result<TypeSaid, AllocError>
     ensures { IfOk result (λ x. type_said_in x scope.new ≡ trees.type_name_says name.now scope.old) }
 {
-    let _ = (alloc, name, scope);
     Err(AllocError)
 }
