@@ -9,6 +9,7 @@ mod parameters;
 mod said;
 mod tags;
 mod type_names;
+mod words;
 
 pub use declarators::{Counted, Formed, Parameters};
 pub use enumerations::Counting;
