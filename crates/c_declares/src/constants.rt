@@ -1,0 +1,45 @@
+//! Expressions that must be constant (C99 6.6).
+
+ghost use Rattle.std.specs.Prelude.{◌≡◌, ◌++◌, IfOk, OnOk};
+ghost use Rattle.c_says.specs.Scopes as scopes;
+ghost use Rattle.c_says.specs.Typing.{value_in, typed_in, not_constant_of, not_constant};
+
+use crate::types::NOT_CONSTANT;
+use c_says::{Fault, Shown, Told};
+use plain_data::Items;
+use std::alloc::AllocError;
+
+/// The value of an expression, where it is constant.
+pub(crate) fn value_of(shown: &Option<Shown>) -> Option<i128>
+    ensures { result ≡ value_in shown.now }
+{
+    match shown {
+        Some(shown) => shown.value,
+        None => None,
+    }
+}
+
+fn add_not_constant(at: u32, shown: &Option<Shown>, faults: &mut Items<Fault>) -> Result<(), AllocError>
+    ensures { OnOk result (faults.new ≡ faults.old ++ not_constant_of at shown.now) }
+{
+    match shown {
+        Some(shown) => match shown.value {
+            Some(_) => Ok(()),
+            None => faults.push(Fault {
+                at,
+                rule: NOT_CONSTANT,
+            }),
+        },
+        None => Ok(()),
+    }
+}
+
+/// The faults of an expression that must be constant, behind its own.
+pub(crate) fn constant_faults(told: Told) -> Result<Items<Fault>, AllocError>
+    ensures { (scope : scopes.Scope) → IfOk result (λ faults. faults ≡ told.faults ++ not_constant (typed_in told scope)) }
+{
+    let Told { at, shown, faults } = told;
+    let mut faults = faults;
+    add_not_constant(at, &shown, &mut faults)?;
+    Ok(faults)
+}
