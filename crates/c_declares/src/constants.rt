@@ -1,8 +1,7 @@
 //! Expressions that must be constant (C99 6.6).
 
-ghost use Rattle.std.specs.Prelude.{◌≡◌, ◌++◌, IfOk, OnOk};
-ghost use Rattle.c_says.specs.Scopes as scopes;
-ghost use Rattle.c_says.specs.Typing.{value_in, typed_in, not_constant_of, not_constant};
+ghost use Rattle.std.specs.Prelude.{◌≡◌, ◌++◌, OnOk};
+ghost use Rattle.c_says.specs.Typing.{value_in, not_constant_of};
 
 use crate::types::NOT_CONSTANT;
 use c_says::{Fault, Shown, Told};
@@ -19,7 +18,11 @@ pub(crate) fn value_of(shown: &Option<Shown>) -> Option<i128>
     }
 }
 
-fn add_not_constant(at: u32, shown: &Option<Shown>, faults: &mut Items<Fault>) -> Result<(), AllocError>
+fn add_not_constant(
+    at: u32,
+    shown: &Option<Shown>,
+    faults: &mut Items<Fault>,
+) -> Result<(), AllocError>
     ensures { OnOk result (faults.new ≡ faults.old ++ not_constant_of at shown.now) }
 {
     match shown {
@@ -34,12 +37,15 @@ fn add_not_constant(at: u32, shown: &Option<Shown>, faults: &mut Items<Fault>) -
     }
 }
 
-/// The faults of an expression that must be constant, behind its own.
-pub(crate) fn constant_faults(told: Told) -> Result<Items<Fault>, AllocError>
-    ensures { (scope : scopes.Scope) → IfOk result (λ faults. faults ≡ told.faults ++ not_constant (typed_in told scope)) }
+/// The faults of an expression that must be constant, that it isn't among them.
+pub(crate) fn add_constant(told: Told, faults: &mut Items<Fault>) -> Result<(), AllocError>
+    ensures { OnOk result (faults.new ≡ faults.old ++ told.faults ++ not_constant_of told.at told.shown) }
 {
-    let Told { at, shown, faults } = told;
-    let mut faults = faults;
-    add_not_constant(at, &shown, &mut faults)?;
-    Ok(faults)
+    let Told {
+        at,
+        shown,
+        faults: own,
+    } = told;
+    faults.append(own)?;
+    add_not_constant(at, &shown, faults)
 }

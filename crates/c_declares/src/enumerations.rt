@@ -5,7 +5,7 @@ ghost use Rattle.c_says.specs.Typing.{typed_in};
 ghost use Rattle.c_says.specs.Declares as spec;
 ghost use Rattle.c_declares.specs.Views.{counting_in};
 
-use crate::constants::{constant_faults, value_of};
+use crate::constants::{add_constant, value_of};
 use crate::names::{add_duplicate, declare};
 use c_lexer::Name;
 use c_says::{Fault, Means, Rule, Told};
@@ -62,7 +62,7 @@ impl Counting {
         ensures { OnOk result (counting_in self.new scope.new ≡ spec.enumerates_typed at name.now (typed_in value scope.old) self.old.faults) }
     {
         self.next = value_of(&value.shown);
-        self.faults.append(constant_faults(value)?)?;
+        add_constant(value, &mut self.faults)?;
         self.add_next(alloc, at, name, scope)
     }
 }

@@ -1,12 +1,13 @@
 //! Structures and unions, member by member (C99 6.7.2.1).
 
-ghost use Rattle.std.specs.Prelude.{◌≡◌, ◌++◌, [], true, IfOk, OnOk};
+ghost use Rattle.std.specs.Prelude.{◌≡◌, ◌++◌, ◌||◌, ◌&&◌, not, [], true, IfOk, OnOk};
+ghost use Rattle.c_type_terms.specs.Layouts.{is_sized, is_opaque};
 ghost use Rattle.c_says.specs.Scopes as scopes;
 ghost use Rattle.c_says.specs.Typing.{typed_in, fault_at};
 ghost use Rattle.c_says.specs.Declares as spec;
 ghost use Rattle.c_declares.specs.Views.{said_in, laid_in, formed_in};
 
-use crate::constants::constant_faults;
+use crate::constants::add_constant;
 use crate::declarators::Formed;
 use crate::said::Said;
 use crate::types::{INCOMPLETE, derived_from, formed_type, has_size, is_function_type};
@@ -14,7 +15,7 @@ use c_lexer::Name;
 use c_says::{Fault, Rule, Told};
 use c_tree::AggregateKind;
 use c_type_scope::Scope;
-use c_type_terms::{AggregateForm, CType, Derivation, Extent, Layout};
+use c_type_terms::{AggregateForm, CType, Derivation, Extent, Layout, Tables};
 use plain_data::Items;
 use std::alloc::{AllocError, Global};
 use std::mem;
@@ -122,7 +123,7 @@ impl Laid {
     pub fn add_width(&mut self, width: Told) -> Result<(), AllocError>
         ensures { (before : scopes.Scope) (scope : scopes.Scope) → OnOk result (laid_in self.new scope ≡ spec.bits_wide (typed_in width scope) (laid_in self.old before)) }
     {
-        self.faults.append(constant_faults(width)?)?;
+        add_constant(width, &mut self.faults)?;
         self.has_bits = true;
         Ok(())
     }
@@ -183,7 +184,7 @@ impl Laid {
 
     /// Whether the type is an array of unknown length in a structure that has another named member (C99 6.7.2.1p16).
     fn may_be_flexible(&self, ctype: &CType) -> bool
-        ensures { (scope : scopes.Scope) → result ≡ spec.may_be_flexible (laid_in self.now scope) ctype.now }
+        ensures { result ≡ (spec.same_form self.now.form AggregateForm.Structure && spec.is_unknown_array ctype.now.derivations && not (spec.no_names self.now.names)) }
     {
         matches!(self.form, AggregateForm::Structure)
             && is_unknown_array(ctype.derivations.as_slice())
@@ -199,7 +200,7 @@ impl Laid {
             return self.lay_faulty(at, Rule::TypeMismatch);
         }
         let extent = tables.member_extent(&ctype);
-        if has_size(tables, &ctype) || tables.is_opaque(&ctype) {
+        if is_member_type(tables, &ctype) {
             self.lay(name, ctype, extent)
         } else if self.may_be_flexible(&ctype) {
             self.lay(name, ctype, extent)?;
@@ -261,6 +262,13 @@ fn is_listed_name(name: &Name, names: &[Name]) -> bool
         }
     }
     false
+}
+
+/// Whether the size of the type is known, or it is opaque.
+fn is_member_type(tables: &Tables, ctype: &CType) -> bool
+    ensures { result ≡ (is_sized tables.now ctype.now || is_opaque tables.now ctype.now) }
+{
+    has_size(tables, ctype) || tables.is_opaque(ctype)
 }
 
 fn is_unknown_array(derivations: &[Derivation]) -> bool

@@ -254,6 +254,7 @@ fn same_form(form: AggregateForm, other: AggregateForm) -> bool
     }
 }
 
+#[tactic(auto, using(crate::proofs::TagForms::form_at_in, crate::proofs::TagForms::form_at_past))]
 fn form_at(aggregates: &[Aggregate], number: u32) -> AggregateForm
     ensures { result ≡ spec.form_at aggregates.now number }
 {
