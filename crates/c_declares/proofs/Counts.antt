@@ -1,11 +1,9 @@
 -- How often a kind of word stands among words.
-use Rattle.std.proofs.Common.{◌≡◌, refl, ap, ◌∙◌, sym, ◌<◌, ◌+◌, ℕ, suc, nat_lt, List, [], ◌∷◌, Bool, true, false, cond, arith}
+use Rattle.std.proofs.Common.{◌≡◌, refl, ◌∙◌, sym, ◌<◌, ◌+◌, ℕ, suc, nat_lt, List, [], ◌∷◌, Bool, true, false, cond, arith}
 use Rattle.std.specs.List.{list_any, count_by}
 use Rattle.std.proofs.lemmas.Bool.Decides.{nat_tests}
 use Rattle.std.proofs.lemmas.List.Sums.{sum_by-cons}
 use Rattle.c_tree.specs.declared.expr.TypeWord.{TypeWord}
-use Rattle.c_type_terms.specs.declared.ctype.IntegerKind.{IntegerKind}
-use Rattle.c_type_terms.specs.declared.ctype.Domain.{Domain}
 use Rattle.c_type_terms.specs.declared.ctype.Domain.TheVariants as domain
 use Rattle.c_says.specs.Declares.{
   count,
@@ -50,8 +48,13 @@ pub integer_kind_by : (ws : List TypeWord) (c s u short : Bool) (n : ℕ) → c 
     → u ≡ list_any is_unsigned ws → short ≡ list_any is_short ws → n ≡ count_by is_long ws
     → cond c (char_kind s u) (cond short (short_kind u) (cond u (unsigned_wide_kind n) (wide_kind n))) ≡ integer_kind ws
 integer_kind_by ws c s u short n p q r t e =
-    rw (p ∙ sym (has_any is_char ws), q ∙ sym (has_any is_signed ws), r ∙ sym (has_any is_unsigned ws),
-    t ∙ sym (has_any is_short ws), e ∙ sym (counted_by is_long ws)) refl
+    rw (
+      p ∙ sym (has_any is_char ws),
+      q ∙ sym (has_any is_signed ws),
+      r ∙ sym (has_any is_unsigned ws),
+      t ∙ sym (has_any is_short ws),
+      e ∙ sym (counted_by is_long ws),
+    ) refl
 
 pub domain_by : (ws : List TypeWord) (c i : Bool) → c ≡ list_any is_complex ws → i ≡ list_any is_imaginary ws
     → cond c domain.Complex (cond i domain.Imaginary domain.Real) ≡ domain_of ws

@@ -1,7 +1,6 @@
 -- Which form a structure or union of a number has.
 use Rattle.std.proofs.Common.{◌≡◌, refl, ap, ℕ, zero, suc, ◌<◌, ◌≤◌, List, [], ◌∷◌, length, get_or, arith}
 use Rattle.c_type_terms.specs.declared.tables.Aggregate.{Aggregate}
-use Rattle.c_type_terms.specs.declared.tables.AggregateForm.{AggregateForm}
 use Rattle.c_type_terms.specs.declared.tables.AggregateForm.TheVariants as form_
 use Rattle.c_says.specs.Declares.{form_at}
 

@@ -59,7 +59,11 @@ impl Laid {
 
     /// Puts back the faults that specifiers have found, and answers the type that they specify: none where a part breaks a
     /// rule. It fails for want of memory alone.
-    pub fn take_specifiers(&mut self, alloc: Global, said: Said) -> Result<Option<CType>, AllocError>
+    pub fn take_specifiers(
+        &mut self,
+        alloc: Global,
+        said: Said,
+    ) -> Result<Option<CType>, AllocError>
         ensures specified { (scope : scopes.Scope) → IfOk result (λ t. t ≡ spec.specified (said_in said scope)) }
         ensures laid { OnOk result (self.new ≡ record self.old { faults = said.faults }) }
     {
@@ -192,7 +196,13 @@ impl Laid {
     }
 
     /// A member has an object type whose size is known, is opaque, or is the flexible array (C99 6.7.2.1p2).
-    fn lay_type(&mut self, at: u32, name: &Name, ctype: CType, scope: &Scope) -> Result<(), AllocError>
+    fn lay_type(
+        &mut self,
+        at: u32,
+        name: &Name,
+        ctype: CType,
+        scope: &Scope,
+    ) -> Result<(), AllocError>
         ensures { OnOk result (laid_in self.new scope.now ≡ spec.lays_type at name.now ctype (laid_in self.old scope.now)) }
     {
         let tables = scope.tables();

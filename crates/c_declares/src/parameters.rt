@@ -117,7 +117,12 @@ impl Listed {
     }
 
     /// The next parameter, whose name is in force from here. It fails for want of memory alone.
-    pub fn add(&mut self, alloc: Global, parameter: Named, scope: &mut Scope) -> Result<(), AllocError>
+    pub fn add(
+        &mut self,
+        alloc: Global,
+        parameter: Named,
+        scope: &mut Scope,
+    ) -> Result<(), AllocError>
         ensures { (before : scopes.Scope) → OnOk result (listed_in self.new scope.new ≡ spec.and_parameter (listed_in self.old before) (named_in parameter scope.old)) }
     {
         let Named {

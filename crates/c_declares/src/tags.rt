@@ -14,9 +14,7 @@ use c_lexer::Name;
 use c_says::{Fault, Rule, Tag, TagMeans};
 use c_tree::{AggregateKind, TagName};
 use c_type_scope::Scope;
-use c_type_terms::{
-    Aggregate, AggregateForm, Base, CType, Content, Layout, OpaqueCause,
-};
+use c_type_terms::{Aggregate, AggregateForm, Base, CType, Content, Layout, OpaqueCause};
 use plain_data::{Items, Shared};
 use std::alloc::{AllocError, Global};
 use std::mem;
@@ -43,9 +41,7 @@ impl Said {
     {
         self.start_at(at);
         match referred_tag(self.alone, scope, tag.name.get().as_slice())? {
-            Some(known) => {
-                self.refer_to(alloc, form_of(kind), tag.at, known.get().means, scope)
-            }
+            Some(known) => { self.refer_to(alloc, form_of(kind), tag.at, known.get().means, scope) }
             None => self.declare_tag(alloc, form_of(kind), &tag.name, scope),
         }
     }
@@ -229,11 +225,7 @@ fn own_tag(scope: &Scope, name: &[u8]) -> Result<Option<Shared<Tag>>, AllocError
 }
 
 /// A tag of the innermost block, or of any where declarators follow (C99 6.7.2.3p7, p8).
-fn referred_tag(
-    alone: bool,
-    scope: &Scope,
-    name: &[u8],
-) -> Result<Option<Shared<Tag>>, AllocError>
+fn referred_tag(alone: bool, scope: &Scope, name: &[u8]) -> Result<Option<Shared<Tag>>, AllocError>
     ensures { IfOk result (λ tag. tag ≡ spec.referred_tag alone scope.now name.now) }
 {
     if alone {
@@ -444,12 +436,6 @@ fn tagged_enumeration(
 {
     let faults = enumeration_faults(scope, tag, faults)?;
     let number = scope.add_enumeration()?;
-    declare_tag(
-        alloc,
-        &tag.name,
-        TagMeans::Enumerated(number),
-        true,
-        scope,
-    )?;
+    declare_tag(alloc, &tag.name, TagMeans::Enumerated(number), true, scope)?;
     Ok(Begun { number, faults })
 }

@@ -106,7 +106,13 @@ fn unsigned_wide_kind(longs: usize) -> IntegerKind
 }
 
 /// The integer type of words: whether `char`, `signed`, `unsigned` and `short` stand, and how often `long`.
-fn kind_by(is_char: bool, is_signed: bool, is_unsigned: bool, is_short: bool, longs: usize) -> IntegerKind
+fn kind_by(
+    is_char: bool,
+    is_signed: bool,
+    is_unsigned: bool,
+    is_short: bool,
+    longs: usize,
+) -> IntegerKind
     ensures { result ≡ cond is_char (spec.char_kind is_signed is_unsigned) (cond is_short (spec.short_kind is_unsigned) (cond is_unsigned (spec.unsigned_wide_kind longs) (spec.wide_kind longs))) }
 {
     if is_char {
