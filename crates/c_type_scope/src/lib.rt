@@ -3,6 +3,10 @@
 
 mod names;
 mod scope;
+mod tables;
 
 pub use names::{HasName, Named};
 pub use scope::{Block, Scope};
+
+#[cfg(test)]
+mod tests;
