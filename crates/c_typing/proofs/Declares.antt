@@ -1,0 +1,258 @@
+-- What specifiers, members, enumerators, declarators, parameters and type names say, from what the code has found of
+-- their parts: one lemma a constructor.
+use Rattle.std.proofs.Common.{◌≡◌, ℕ, ℤ, pos, List, [], ◌∷◌, ◌++◌, Option, Some, None, Bool, true, false, map, refl, sym, ap, ◌∙◌}
+use Rattle.c_tree.specs.declared.expr.AggregateKind.{AggregateKind}
+use Rattle.c_tree.specs.declared.expr.ArrayWord.{ArrayWord}
+use Rattle.c_tree.specs.declared.expr.Declarator.{Declarator}
+use Rattle.c_tree.specs.declared.expr.Declarator.TheVariants as declarator
+use Rattle.c_tree.specs.declared.expr.Enumerator.{Enumerator}
+use Rattle.c_tree.specs.declared.expr.Expr.{Expr}
+use Rattle.c_tree.specs.declared.expr.Field.{Field}
+use Rattle.c_tree.specs.declared.expr.Field.TheVariants as field
+use Rattle.c_tree.specs.declared.expr.MemberDeclaration.{MemberDeclaration}
+use Rattle.c_tree.specs.declared.expr.Parameter.{Parameter}
+use Rattle.c_tree.specs.declared.expr.Qualifier.{Qualifier}
+use Rattle.c_tree.specs.declared.expr.Specifier.{Specifier}
+use Rattle.c_tree.specs.declared.expr.Specifier.TheVariants as specifier
+use Rattle.c_tree.specs.declared.expr.StorageClass.{StorageClass}
+use Rattle.c_tree.specs.declared.expr.TagName.{TagName}
+use Rattle.c_tree.specs.declared.expr.TypeName.{TypeName}
+use Rattle.c_tree.specs.declared.expr.TypeWord.{TypeWord}
+use Rattle.c_type_terms.specs.Types.{with_both}
+use Rattle.c_type_terms.specs.declared.ctype.CType.{CType}
+use Rattle.c_says.specs.declared.shown.Told.{Told}
+use Rattle.c_says.specs.Scopes.{Name, Scope, look_up, tag_of, enter}
+use Rattle.c_says.specs.Typing.{Typed, typed_in}
+use Rattle.c_says.specs.Declares as spec
+use Rattle.c_says.specs.Trees.{
+  typed,
+  declarator_says,
+  specifier_says,
+  field_says,
+  enumerator_says,
+  member_says,
+  parameter_says,
+  type_name_says,
+}
+use Rattle.c_says.proofs.Equations as eq
+use Rattle.c_declares.specs.declared.declarators.Counted.{Counted}
+use Rattle.c_declares.specs.declared.declarators.Formed.{Formed}
+use Rattle.c_declares.specs.declared.enumerations.Counting.{Counting}
+use Rattle.c_declares.specs.declared.members.Laid.{Laid}
+use Rattle.c_declares.specs.declared.parameters.Listed.{Listed}
+use Rattle.c_declares.specs.declared.parameters.Named.{Named}
+use Rattle.c_declares.specs.declared.said.Said.{Said}
+use Rattle.c_declares.specs.declared.tags.Begun.{Begun}
+use Rattle.c_declares.specs.declared.type_names.TypeSaid.{TypeSaid}
+use Rattle.c_declares.specs.Views.{
+  said_in,
+  begun_in,
+  formed_in,
+  counted_in,
+  named_in,
+  listed_in,
+  laid_in,
+  counting_in,
+  type_said_in,
+}
+
+-- ---- declarators
+
+pub on-Name : {d : Declarator} (at : ℕ) (name : Name) (s : Scope) (x : Formed) → d ≡ declarator.Name at name →
+    formed_in x s ≡ spec.named (Some (at, name)) s → formed_in x s ≡ declarator_says d s
+on-Name at name s x is said =
+    rw (is, eq.says-Name at name) said
+
+pub on-Omitted : {d : Declarator} (s : Scope) (x : Formed) → d ≡ declarator.Omitted →
+    formed_in x s ≡ spec.named None s → formed_in x s ≡ declarator_says d s
+on-Omitted s x is said =
+    rw (is, eq.says-Omitted) said
+
+pub on-Grouped : {d : Declarator} (at : ℕ) (inner : Declarator) (s s1 : Scope) (x : Formed) →
+    d ≡ declarator.Grouped at inner → formed_in x s1 ≡ declarator_says inner s → formed_in x s1 ≡ declarator_says d s
+on-Grouped at inner s s1 x is said =
+    rw (is, eq.says-Grouped at inner) said
+
+pub on-Pointer : {d : Declarator} (at : ℕ) (qualifiers : List Qualifier) (inner : Declarator) (s s1 : Scope)
+    (x y : Formed) → d ≡ declarator.Pointer at qualifiers inner → formed_in x s1 ≡ declarator_says inner s →
+    formed_in y s1 ≡ spec.to_pointer qualifiers (formed_in x s1) → formed_in y s1 ≡ declarator_says d s
+on-Pointer at qualifiers inner s s1 x y is first said =
+    rw (is, eq.says-Pointer at qualifiers inner, sym first) said
+
+pub on-Array-None : {d : Declarator} (at : ℕ) (inner : Declarator) (words : List ArrayWord) (s s1 : Scope)
+    (x y : Formed) (n : Counted) → d ≡ declarator.Array at inner words None →
+    formed_in x s1 ≡ declarator_says inner s → counted_in n s1 ≡ spec.counted {E = Expr} typed None s1 →
+    formed_in y s1 ≡ spec.to_array (spec.qualifiers_among words) (formed_in x s1) (counted_in n s1) →
+    formed_in y s1 ≡ declarator_says d s
+on-Array-None at inner words s s1 x y n is first second said =
+    rw (is, eq.says-Array at inner words None, sym first)
+    (said ∙ ap (spec.to_array (spec.qualifiers_among words) (formed_in x s1)) second)
+
+pub on-Array-Some : {d : Declarator} (at : ℕ) (inner : Declarator) (words : List ArrayWord) (length' : Expr)
+    (s s1 s2 : Scope) (x y : Formed) (l : Told) (n : Counted) → d ≡ declarator.Array at inner words (Some length') →
+    formed_in x s1 ≡ declarator_says inner s → typed_in l s2 ≡ typed length' s1 →
+    counted_in n s2 ≡ spec.counted_by (typed_in l s2) →
+    formed_in y s2 ≡ spec.to_array (spec.qualifiers_among words) (formed_in x s1) (counted_in n s2) →
+    formed_in y s2 ≡ declarator_says d s
+on-Array-Some at inner words length' s s1 s2 x y l n is first second counts said =
+    rw (is, eq.says-Array at inner words (Some length'), sym first, sym second)
+    (said ∙ ap (spec.to_array (spec.qualifiers_among words) (formed_in x s1)) counts)
+
+pub on-Function : {d : Declarator} (at : ℕ) (inner : Declarator) (parameters : List Parameter) (variadic : Bool)
+    (s s1 s2 s3 s4 : Scope) (x y : Formed) (l : Listed) →
+    d ≡ declarator.Function at inner parameters variadic → formed_in x s1 ≡ declarator_says inner s →
+    s2 ≡ enter s1 → listed_in l s3 ≡ spec.listed (spec.none_listed s2) (map parameter_says parameters) →
+    formed_in y s4 ≡ spec.to_function (spec.prototype_of (map parameter_says parameters) variadic) (formed_in x s1)
+    (listed_in l s3) → formed_in y s4 ≡ declarator_says d s
+on-Function at inner parameters variadic s s1 s2 s3 s4 x y l is first entered second said =
+    let prototype = spec.prototype_of (map parameter_says parameters) variadic in
+    rw (is, eq.says-Function at inner parameters variadic, sym first)
+    (said ∙ ap (spec.to_function prototype (formed_in x s1)) (second ∙ ap (λ (z : Scope). spec.listed (spec.none_listed z) (map parameter_says parameters)) entered))
+
+-- ---- specifiers
+
+pub on-Storage : {x : Specifier} (at : ℕ) (class : StorageClass) (s : Scope) (a b : Said) →
+    x ≡ specifier.Storage at class →
+    b ≡ record a { start = spec.started_at a.start at; storage = Some class } →
+    said_in b s ≡ specifier_says x (said_in a s)
+on-Storage at class s a b is said =
+    rw (is, eq.says-Storage at class) (ap (λ (z : Said). said_in z s) said)
+
+pub on-Qualifier : {x : Specifier} (at : ℕ) (qualifier : Qualifier) (s : Scope) (a b : Said) →
+    x ≡ specifier.Qualifier at qualifier →
+    b ≡ record a {
+      start = spec.started_at a.start at;
+      qualifiers = with_both a.qualifiers (spec.of_qualifier qualifier);
+    } → said_in b s ≡ specifier_says x (said_in a s)
+on-Qualifier at qualifier s a b is said =
+    rw (is, eq.says-Qualifier at qualifier) (ap (λ (z : Said). said_in z s) said)
+
+pub on-Inline : {x : Specifier} (at : ℕ) (s : Scope) (a b : Said) → x ≡ specifier.Inline at →
+    b ≡ record a { start = spec.started_at a.start at; is_inline = true } →
+    said_in b s ≡ specifier_says x (said_in a s)
+on-Inline at s a b is said =
+    rw (is, eq.says-Inline at) (ap (λ (z : Said). said_in z s) said)
+
+pub on-Word : {x : Specifier} (at : ℕ) (word : TypeWord) (s : Scope) (a b : Said) → x ≡ specifier.Word at word →
+    b ≡ record a { start = spec.started_at a.start at; words = a.words ++ word ∷ [] } →
+    said_in b s ≡ specifier_says x (said_in a s)
+on-Word at word s a b is said =
+    rw (is, eq.says-Word at word) (ap (λ (z : Said). said_in z s) said)
+
+pub on-Typedef : {x : Specifier} (at : ℕ) (name : Name) (s : Scope) (a b : Said) → x ≡ specifier.Typedef at name →
+    said_in b s ≡ spec.typedef_in at (look_up s name) (spec.started at (said_in a s)) →
+    said_in b s ≡ specifier_says x (said_in a s)
+on-Typedef at name s a b is said =
+    rw (is, eq.says-Typedef at name) said
+
+pub on-Tag : {x : Specifier} (at : ℕ) (kind : AggregateKind) (tag : TagName) (s s1 : Scope) (a b : Said) →
+    x ≡ specifier.Tag at kind tag →
+    said_in b s1 ≡ spec.refers (spec.form_of kind) tag (spec.referred_tag a.alone s tag.name) (spec.started at
+    (said_in a s)) → said_in b s1 ≡ specifier_says x (said_in a s)
+on-Tag at kind tag s s1 a b is said =
+    rw (is, eq.says-Tag at kind tag) said
+
+pub on-EnumTag : {x : Specifier} (at : ℕ) (tag : TagName) (s : Scope) (a b : Said) → x ≡ specifier.EnumTag at tag →
+    said_in b s ≡ spec.enumeration_tag tag.at (tag_of s tag.name) (spec.started at (said_in a s)) →
+    said_in b s ≡ specifier_says x (said_in a s)
+on-EnumTag at tag s a b is said =
+    rw (is, eq.says-EnumTag at tag) said
+
+pub on-Aggregate : {x : Specifier} (at : ℕ) (kind : AggregateKind) (tag : Option TagName)
+    (members : List MemberDeclaration) (s s1 s2 s3 : Scope) (a b c : Said) (n : Begun) (l : Laid) →
+    x ≡ specifier.Aggregate at kind tag members →
+    begun_in n s1 ≡ spec.begins (spec.form_of kind) tag a.faults s →
+    b ≡ record a { start = spec.started_at a.start at; faults = [] } →
+    laid_in l s2 ≡ spec.in_order (map member_says members) (spec.none_laid (spec.form_of kind) n.faults s1) →
+    said_in c s3 ≡ spec.ends_members (spec.form_of kind) n.number (laid_in l s2) (said_in b s2) →
+    said_in c s3 ≡ specifier_says x (said_in a s)
+on-Aggregate at kind tag members s s1 s2 s3 a b c n l is begins starts second said =
+    let form = spec.form_of kind in
+    rw (is, eq.says-Aggregate at kind tag members)
+    (said ∙ ap (λ (z : spec.Laid). spec.ends_members form n.number z (said_in b s2)) second
+    ∙ ap (λ (z : Said). spec.ends_members form n.number (spec.in_order (map member_says members) (spec.none_laid form
+    n.faults s1)) (said_in z s2)) starts
+    ∙ ap (λ (z : spec.Begun). spec.members_of form (map member_says members) z (spec.started at (said_in a s))) begins)
+
+pub on-Enumeration : {x : Specifier} (at : ℕ) (tag : Option TagName) (enumerators : List Enumerator)
+    (trailing : Bool) (s s1 s2 s3 : Scope) (a b c : Said) (n : Begun) (l : Counting) →
+    x ≡ specifier.Enumeration at tag enumerators trailing →
+    begun_in n s1 ≡ spec.begins_enumeration tag a.faults s →
+    b ≡ record a { start = spec.started_at a.start at; faults = [] } →
+    counting_in l s2 ≡ spec.in_order (map enumerator_says enumerators) (record {
+      next = Some (pos 0);
+      faults = n.faults;
+      scope = s1;
+    }) → said_in c s3 ≡ spec.ends_enumerators n.number (counting_in l s2) (said_in b s2) →
+    said_in c s3 ≡ specifier_says x (said_in a s)
+on-Enumeration at tag enumerators trailing s s1 s2 s3 a b c n l is begins starts second said =
+    rw (is, eq.says-Enumeration at tag enumerators trailing)
+    (said ∙ ap (λ (z : spec.Counting). spec.ends_enumerators n.number z (said_in b s2)) second
+    ∙ ap (λ (z : Said). spec.ends_enumerators n.number (spec.in_order (map enumerator_says enumerators) (record {
+      next = Some (pos 0);
+      faults = n.faults;
+      scope = s1;
+    })) (said_in z s2)) starts
+    ∙ ap (λ (z : spec.Begun). spec.enumerators_of (map enumerator_says enumerators) z (spec.started at (said_in a s)))
+    begins)
+
+-- ---- members, fields and enumerators
+
+pub on-MemberDeclaration : (m : MemberDeclaration) (s s1 s2 : Scope) (a b c e : Laid) (d : Said)
+    (t : Option CType) → b ≡ record a { faults = [] } →
+    said_in d s1 ≡ spec.said_by (map specifier_says m.specifiers) false a.faults s →
+    c ≡ record b { faults = d.faults } → t ≡ spec.specified (said_in d s1) →
+    laid_in e s2 ≡ spec.fields_of (map field_says m.fields) t (laid_in c s1) →
+    laid_in e s2 ≡ member_says m (laid_in a s)
+on-MemberDeclaration m s s1 s2 a b c e d t taken first put specified said =
+    let fields = map field_says m.fields in
+    rw (eq.says-MemberDeclaration m)
+    (said ∙ ap (λ (z : Option CType). spec.fields_of fields z (laid_in c s1)) specified
+    ∙ ap (λ (z : Laid). spec.fields_of fields (spec.specified (said_in d s1)) (laid_in z s1)) put
+    ∙ ap (λ (z : Laid). spec.fields_of fields (spec.specified (said_in d s1)) (laid_in (record z {
+      faults = d.faults;
+    }) s1)) taken
+    ∙ ap (λ (z : spec.Said). spec.members_from z fields (laid_in a s)) first)
+
+pub on-Plain : {f : Field} (inner : Declarator) (s s1 : Scope) (x : Formed) (a b : Laid) (t : Option CType) →
+    f ≡ field.Plain inner → formed_in x s1 ≡ declarator_says inner s →
+    laid_in b s1 ≡ spec.lays_formed (formed_in x s1) t (laid_in a s) → laid_in b s1 ≡ field_says f t (laid_in a s)
+on-Plain inner s s1 x a b t is first said =
+    rw (is, eq.says-Plain inner, sym first) said
+
+pub on-Bits-None : {f : Field} (at : ℕ) (width : Expr) (s s1 : Scope) (w : Told) (a b c : Laid) (t : Option CType) →
+    f ≡ field.Bits at None width → laid_in b s ≡ spec.next_member (laid_in a s) → typed_in w s1 ≡ typed width s →
+    laid_in c s1 ≡ spec.bits_wide (typed_in w s1) (laid_in b s) → laid_in c s1 ≡ field_says f t (laid_in a s)
+on-Bits-None at width s s1 w a b c t is first second said =
+    rw (is, eq.says-Bits at None width, sym second)
+    (said ∙ ap (spec.bits_wide (typed_in w s1)) first)
+
+pub on-Bits-Some : {f : Field} (at : ℕ) (inner : Declarator) (width : Expr) (s s1 s2 : Scope) (x : Formed) (w : Told)
+    (a b c : Laid) (t : Option CType) → f ≡ field.Bits at (Some inner) width →
+    formed_in x s1 ≡ declarator_says inner s → laid_in b s1 ≡ spec.bits_formed (formed_in x s1) (laid_in a s) →
+    typed_in w s2 ≡ typed width s1 → laid_in c s2 ≡ spec.bits_wide (typed_in w s2) (laid_in b s1) →
+    laid_in c s2 ≡ field_says f t (laid_in a s)
+on-Bits-Some at inner width s s1 s2 x w a b c t is first bits second said =
+    rw (is, eq.says-Bits at (Some inner) width, sym first)
+    (said ∙ ap (λ (z : Typed). spec.bits_wide z (laid_in b s1)) second
+    ∙ ap (λ (z : spec.Laid). spec.bits_wide (typed width z.scope) z) bits)
+
+-- ---- parameters and type names
+
+pub on-Parameter : (p : Parameter) (s s1 s2 : Scope) (d : Said) (x : Formed) (y : Named) →
+    said_in d s1 ≡ spec.said_by (map specifier_says p.specifiers) false [] s →
+    formed_in x s2 ≡ declarator_says p.declarator s1 →
+    named_in y s2 ≡ spec.parameter_formed (said_in d s1) (formed_in x s2) → named_in y s2 ≡ parameter_says p s
+on-Parameter p s s1 s2 d x y first second said =
+    rw (eq.says-Parameter p)
+    (said ∙ ap (spec.parameter_formed (said_in d s1)) second
+    ∙ ap (λ (z : spec.Said). spec.parameter_formed z (declarator_says p.declarator z.scope)) first)
+
+pub on-TypeName : (n : TypeName) (s s1 s2 : Scope) (d : Said) (x : Formed) (y : TypeSaid) →
+    said_in d s1 ≡ spec.said_by (map specifier_says n.specifiers) false [] s →
+    formed_in x s2 ≡ declarator_says n.declarator s1 →
+    type_said_in y s2 ≡ spec.type_formed (said_in d s1) (formed_in x s2) → type_said_in y s2 ≡ type_name_says n s
+on-TypeName n s s1 s2 d x y first second said =
+    rw (eq.says-TypeName n)
+    (said ∙ ap (spec.type_formed (said_in d s1)) second
+    ∙ ap (λ (z : spec.Said). spec.type_formed z (declarator_says n.declarator z.scope)) first)
