@@ -20,11 +20,15 @@ use Rattle.c_tree.specs.declared.expr.TypeName.{TypeName}
 use Rattle.c_tree.specs.declared.expr.TypeWord.{TypeWord}
 use Rattle.c_type_terms.specs.Types.{with_both}
 use Rattle.c_type_terms.specs.declared.ctype.CType.{CType}
+use Rattle.c_type_terms.specs.declared.tables.Prototype.{Prototype}
+use Rattle.c_says.specs.declared.scope.Fault.{Fault}
 use Rattle.c_says.specs.declared.shown.Told.{Told}
 use Rattle.c_says.specs.Scopes.{Name, Scope, look_up, tag_of, enter}
 use Rattle.c_says.specs.Typing.{Typed, typed_in}
 use Rattle.c_says.specs.Declares as spec
 use Rattle.c_says.specs.Trees.{
+  ExprSays,
+  itself,
   typed,
   declarator_says,
   specifier_says,
@@ -56,6 +60,34 @@ use Rattle.c_declares.specs.Views.{
   type_said_in,
 }
 
+-- ---- what was read through an owner, or from a list's slice
+
+pub of-child : {x : Typed} {e e' : Expr} (s : Scope) → x ≡ typed e s → e ≡ e' → x ≡ typed e' s
+of-child s said is = said ∙ ap (λ (z : Expr). typed z s) is
+
+pub of-declarator : {x : spec.Formed} {d d' : Declarator} (s : Scope) → x ≡ declarator_says d s → d ≡ d' →
+    x ≡ declarator_says d' s
+of-declarator s said is = said ∙ ap (λ (z : Declarator). declarator_says z s) is
+
+pub of-specifiers : {x : spec.Said} {xs ys : List Specifier} {f g : List Fault} (s : Scope) →
+    x ≡ spec.said_by (map specifier_says xs) false f s → xs ≡ ys → f ≡ g →
+    x ≡ spec.said_by (map specifier_says ys) false g s
+of-specifiers {ys = ys} {f = f} s said is same =
+    said ∙ ap (λ (z : List Specifier). spec.said_by (map specifier_says z) false f s) is
+    ∙ ap (λ (z : List Fault). spec.said_by (map specifier_says ys) false z s) same
+
+pub of-members : {x : spec.Laid} {xs ys : List MemberDeclaration} (before : spec.Laid) →
+    x ≡ spec.in_order (map member_says xs) before → xs ≡ ys → x ≡ spec.in_order (map member_says ys) before
+of-members before said is = said ∙ ap (λ (z : List MemberDeclaration). spec.in_order (map member_says z) before) is
+
+pub of-enumerators : {x : spec.Counting} {xs ys : List Enumerator} (before : spec.Counting) →
+    x ≡ spec.in_order (map enumerator_says xs) before → xs ≡ ys → x ≡ spec.in_order (map enumerator_says ys) before
+of-enumerators before said is = said ∙ ap (λ (z : List Enumerator). spec.in_order (map enumerator_says z) before) is
+
+pub of-parameters : {x : spec.Listed} {xs ys : List Parameter} (before : spec.Listed) →
+    x ≡ spec.listed before (map parameter_says xs) → xs ≡ ys → x ≡ spec.listed before (map parameter_says ys)
+of-parameters before said is = said ∙ ap (λ (z : List Parameter). spec.listed before (map parameter_says z)) is
+
 -- ---- declarators
 
 pub on-Name : {d : Declarator} (at : ℕ) (name : Name) (s : Scope) (x : Formed) → d ≡ declarator.Name at name →
@@ -73,41 +105,51 @@ pub on-Grouped : {d : Declarator} (at : ℕ) (inner : Declarator) (s s1 : Scope)
 on-Grouped at inner s s1 x is said =
     rw (is, eq.says-Grouped at inner) said
 
-pub on-Pointer : {d : Declarator} (at : ℕ) (qualifiers : List Qualifier) (inner : Declarator) (s s1 : Scope)
-    (x y : Formed) → d ≡ declarator.Pointer at qualifiers inner → formed_in x s1 ≡ declarator_says inner s →
-    formed_in y s1 ≡ spec.to_pointer qualifiers (formed_in x s1) → formed_in y s1 ≡ declarator_says d s
-on-Pointer at qualifiers inner s s1 x y is first said =
-    rw (is, eq.says-Pointer at qualifiers inner, sym first) said
+pub on-Pointer : {d : Declarator} (at : ℕ) {qualifiers : List Qualifier} (inner : Declarator) (read : List Qualifier)
+    (s s1 : Scope) (x y : Formed) → d ≡ declarator.Pointer at qualifiers inner →
+    formed_in x s1 ≡ declarator_says inner s → read ≡ qualifiers →
+    formed_in y s1 ≡ spec.to_pointer read (formed_in x s1) → formed_in y s1 ≡ declarator_says d s
+on-Pointer at {qualifiers} inner read s s1 x y is first same said =
+    rw (is, eq.says-Pointer at qualifiers inner, sym first)
+    (said ∙ ap (λ (z : List Qualifier). spec.to_pointer z (formed_in x s1)) same)
 
-pub on-Array-None : {d : Declarator} (at : ℕ) (inner : Declarator) (words : List ArrayWord) (s s1 : Scope)
-    (x y : Formed) (n : Counted) → d ≡ declarator.Array at inner words None →
-    formed_in x s1 ≡ declarator_says inner s → counted_in n s1 ≡ spec.counted {E = Expr} typed None s1 →
-    formed_in y s1 ≡ spec.to_array (spec.qualifiers_among words) (formed_in x s1) (counted_in n s1) →
+pub on-Array-None : {d : Declarator} (at : ℕ) (inner : Declarator) {words : List ArrayWord} (read : List ArrayWord)
+    (s s1 : Scope) (x y : Formed) (n : Counted) → d ≡ declarator.Array at inner words None →
+    formed_in x s1 ≡ declarator_says inner s → counted_in n s1 ≡ spec.counted {E = ExprSays} itself None s1 →
+    read ≡ words →
+    formed_in y s1 ≡ spec.to_array (spec.qualifiers_among read) (formed_in x s1) (counted_in n s1) →
     formed_in y s1 ≡ declarator_says d s
-on-Array-None at inner words s s1 x y n is first second said =
+on-Array-None at inner {words} read s s1 x y n is first second same said =
     rw (is, eq.says-Array at inner words None, sym first)
-    (said ∙ ap (spec.to_array (spec.qualifiers_among words) (formed_in x s1)) second)
+    (said ∙ ap (λ (z : List ArrayWord). spec.to_array (spec.qualifiers_among z) (formed_in x s1) (counted_in n s1)) same
+    ∙ ap (spec.to_array (spec.qualifiers_among words) (formed_in x s1)) second)
 
-pub on-Array-Some : {d : Declarator} (at : ℕ) (inner : Declarator) (words : List ArrayWord) (length' : Expr)
-    (s s1 s2 : Scope) (x y : Formed) (l : Told) (n : Counted) → d ≡ declarator.Array at inner words (Some length') →
-    formed_in x s1 ≡ declarator_says inner s → typed_in l s2 ≡ typed length' s1 →
-    counted_in n s2 ≡ spec.counted_by (typed_in l s2) →
-    formed_in y s2 ≡ spec.to_array (spec.qualifiers_among words) (formed_in x s1) (counted_in n s2) →
+pub on-Array-Some : {d : Declarator} (at : ℕ) (inner : Declarator) {words : List ArrayWord} (length' : Expr)
+    (read : List ArrayWord) (s s1 s2 : Scope) (x y : Formed) (l : Told) (n : Counted) →
+    d ≡ declarator.Array at inner words (Some length') → formed_in x s1 ≡ declarator_says inner s →
+    typed_in l s2 ≡ typed length' s1 → counted_in n s2 ≡ spec.counted_by (typed_in l s2) → read ≡ words →
+    formed_in y s2 ≡ spec.to_array (spec.qualifiers_among read) (formed_in x s1) (counted_in n s2) →
     formed_in y s2 ≡ declarator_says d s
-on-Array-Some at inner words length' s s1 s2 x y l n is first second counts said =
+on-Array-Some at inner {words} length' read s s1 s2 x y l n is first second counts same said =
     rw (is, eq.says-Array at inner words (Some length'), sym first, sym second)
-    (said ∙ ap (spec.to_array (spec.qualifiers_among words) (formed_in x s1)) counts)
+    (said ∙ ap (λ (z : List ArrayWord). spec.to_array (spec.qualifiers_among z) (formed_in x s1) (counted_in n s2)) same
+    ∙ ap (spec.to_array (spec.qualifiers_among words) (formed_in x s1)) counts)
 
-pub on-Function : {d : Declarator} (at : ℕ) (inner : Declarator) (parameters : List Parameter) (variadic : Bool)
-    (s s1 s2 s3 s4 : Scope) (x y : Formed) (l : Listed) →
+pub on-Function : {d : Declarator} (at : ℕ) (inner : Declarator) {parameters : List Parameter} {variadic : Bool}
+    (read : List Parameter) (prototype : Prototype) (s s1 s2 s3 s4 : Scope) (x y : Formed) (l : Listed) →
     d ≡ declarator.Function at inner parameters variadic → formed_in x s1 ≡ declarator_says inner s →
     s2 ≡ enter s1 → listed_in l s3 ≡ spec.listed (spec.none_listed s2) (map parameter_says parameters) →
-    formed_in y s4 ≡ spec.to_function (spec.prototype_of (map parameter_says parameters) variadic) (formed_in x s1)
-    (listed_in l s3) → formed_in y s4 ≡ declarator_says d s
-on-Function at inner parameters variadic s s1 s2 s3 s4 x y l is first entered second said =
-    let prototype = spec.prototype_of (map parameter_says parameters) variadic in
+    prototype ≡ spec.prototype_of (map parameter_says read) variadic → read ≡ parameters →
+    formed_in y s4 ≡ spec.to_function prototype (formed_in x s1) (listed_in l s3) → formed_in y s4 ≡ declarator_says d s
+on-Function at inner {parameters} {variadic} read prototype s s1 s2 s3 s4 x y l is first entered second judged same said =
+    let whole = spec.prototype_of (map parameter_says parameters) variadic in
     rw (is, eq.says-Function at inner parameters variadic, sym first)
-    (said ∙ ap (spec.to_function prototype (formed_in x s1)) (second ∙ ap (λ (z : Scope). spec.listed (spec.none_listed z) (map parameter_says parameters)) entered))
+    (said ∙ ap (λ (z : Prototype). spec.to_function z (formed_in x s1) (listed_in l s3)) judged
+    ∙ ap (λ (z : List Parameter). spec.to_function (spec.prototype_of (map parameter_says z) variadic) (formed_in x s1)
+    (listed_in l s3)) same
+    ∙ ap (spec.to_function whole (formed_in x s1)) second
+    ∙ ap (λ (z : Scope). spec.to_function whole (formed_in x s1) (spec.listed (spec.none_listed z) (map parameter_says
+    parameters))) entered)
 
 -- ---- specifiers
 
@@ -198,16 +240,17 @@ on-Enumeration at tag enumerators trailing s s1 s2 s3 a b c n l is begins starts
 
 -- ---- members, fields and enumerators
 
-pub on-MemberDeclaration : (m : MemberDeclaration) (s s1 s2 : Scope) (a b c e : Laid) (d : Said)
+pub on-MemberDeclaration : (m : MemberDeclaration) (read : List Field) (s s1 s2 : Scope) (a b c e : Laid) (d : Said)
     (t : Option CType) → b ≡ record a { faults = [] } →
     said_in d s1 ≡ spec.said_by (map specifier_says m.specifiers) false a.faults s →
-    c ≡ record b { faults = d.faults } → t ≡ spec.specified (said_in d s1) →
-    laid_in e s2 ≡ spec.fields_of (map field_says m.fields) t (laid_in c s1) →
+    c ≡ record b { faults = d.faults } → t ≡ spec.specified (said_in d s1) → read ≡ m.fields →
+    laid_in e s2 ≡ spec.fields_of (map field_says read) t (laid_in c s1) →
     laid_in e s2 ≡ member_says m (laid_in a s)
-on-MemberDeclaration m s s1 s2 a b c e d t taken first put specified said =
+on-MemberDeclaration m read s s1 s2 a b c e d t taken first put specified same said =
     let fields = map field_says m.fields in
     rw (eq.says-MemberDeclaration m)
-    (said ∙ ap (λ (z : Option CType). spec.fields_of fields z (laid_in c s1)) specified
+    (said ∙ ap (λ (z : List Field). spec.fields_of (map field_says z) t (laid_in c s1)) same
+    ∙ ap (λ (z : Option CType). spec.fields_of fields z (laid_in c s1)) specified
     ∙ ap (λ (z : Laid). spec.fields_of fields (spec.specified (said_in d s1)) (laid_in z s1)) put
     ∙ ap (λ (z : Laid). spec.fields_of fields (spec.specified (said_in d s1)) (laid_in (record z {
       faults = d.faults;
@@ -236,6 +279,17 @@ on-Bits-Some at inner width s s1 s2 x w a b c t is first bits second said =
     rw (is, eq.says-Bits at (Some inner) width, sym first)
     (said ∙ ap (λ (z : Typed). spec.bits_wide z (laid_in b s1)) second
     ∙ ap (λ (z : spec.Laid). spec.bits_wide (typed width z.scope) z) bits)
+
+pub on-Enumerator-None : (e : Enumerator) (s s1 : Scope) (a b : Counting) → e.value ≡ None →
+    counting_in b s1 ≡ spec.enumerates e.at e.name a.next a.faults s →
+    counting_in b s1 ≡ enumerator_says e (counting_in a s)
+on-Enumerator-None e s s1 a b is said = rw (eq.says-Enumerator e, is) said
+
+pub on-Enumerator-Some : (e : Enumerator) (value : Expr) (s s1 s2 : Scope) (x : Told) (a b : Counting) →
+    e.value ≡ Some value → typed_in x s1 ≡ typed value s →
+    counting_in b s2 ≡ spec.enumerates_typed e.at e.name (typed_in x s1) a.faults →
+    counting_in b s2 ≡ enumerator_says e (counting_in a s)
+on-Enumerator-Some e value s s1 s2 x a b is first said = rw (eq.says-Enumerator e, is, sym first) said
 
 -- ---- parameters and type names
 

@@ -14,6 +14,13 @@ use c_type_scope::Scope;
 use plain_data::Shared;
 use std::alloc::{AllocError, Global};
 
+/// A character constant. It fails for want of memory alone.
+pub(crate) fn character_constant(alloc: Global, at: u32, value: &i32) -> Result<Told, AllocError>
+    ensures { IfOk result (λ x. x ≡ spec.character_told at value.now) }
+{
+    forms::character_constant(alloc, at, *value)
+}
+
 /// A name, by its declaration in force. It fails for want of memory alone.
 pub(crate) fn identifier(
     alloc: Global,

@@ -14,7 +14,7 @@ use c_tree::{
     AggregateKind, Declarator, Enumerator, Expr, Field, MemberDeclaration, Parameter, Specifier,
     TypeName,
 };
-use c_type_forms::{character_constant, floating_constant, integer_constant};
+use c_type_forms::{floating_constant, integer_constant};
 use c_type_scope::Scope;
 use c_type_terms::CType;
 use plain_data::{Items, Shared};
@@ -29,7 +29,7 @@ pub fn typed(alloc: Global, expr: &Expr, scope: &mut Scope) -> Result<Told, Allo
     match expr {
         Expr::Integer { at, constant } => integer_constant(alloc, *at, constant),
         Expr::Floating { at } => floating_constant(alloc, *at),
-        Expr::Character { at, value } => character_constant(alloc, *at, *value),
+        Expr::Character { at, value } => forms::character_constant(alloc, *at, value),
         Expr::StringLiteral { at, pieces } => {
             forms::string_literal(alloc, scope, *at, pieces.as_slice())
         }
@@ -395,11 +395,11 @@ pub fn declarator(
         Declarator::Array {
             inner,
             words,
-            length: Some(length),
+            length: Some(count),
             ..
         } => {
             let mut formed = declarator(alloc, inner.get(), scope)?;
-            let length = typed(alloc, length.get(), scope)?;
+            let length = typed(alloc, count.get(), scope)?;
             formed.add_array(words.as_slice(), Counted::by(length)?)?;
             Ok(formed)
         }

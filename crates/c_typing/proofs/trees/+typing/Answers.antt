@@ -1,10 +1,18 @@
-use Rattle.std.proofs.Common.{◌≡◌, [], ap, ◌∙◌}
-use Rattle.std.proofs.lemmas.Result.{IfOk-weaker}
-use Rattle.c_says.specs.Scopes.{look_up}
+use Rattle.std.proofs.Common.{◌≡◌, pos, Option, Some, [], ap, ◌∙◌}
+use Rattle.std.proofs.lemmas.Result.{IfOk-weaker, on_ok_weaker}
+use Rattle.c_tree.specs.declared.expr.Declarator.{Declarator}
+use Rattle.c_tree.specs.declared.expr.Declarator.TheVariants as declarator
+use Rattle.c_tree.specs.declared.expr.Expr.{Expr}
+use Rattle.c_tree.specs.declared.expr.Field.TheVariants as field
+use Rattle.c_says.specs.Scopes.{Name, look_up}
 use Rattle.c_says.specs.Typing as spec
 use Rattle.c_says.specs.Typing.{typed_in}
-use Rattle.c_says.specs.Trees.{typed}
+use Rattle.c_says.specs.Declares.{named, none_laid, none_listed, form_of}
+use Rattle.c_says.specs.Trees.{typed, declarator_says, parameter_says}
+use Rattle.c_declares.specs.declared.declarators.Counted.{Counted}
+use Rattle.c_declares.specs.Views.{formed_in, counted_in}
 use Rattle.c_typing.specs.Behind.{behind}
+use Rattle.c_typing.proofs.Declares as parts
 use Rattle.c_typing.proofs.Says as says
 use Rattle.c_typing.proofs.trees.+typing.Goals as goal
 
@@ -20,7 +28,7 @@ typed-returns-in-Floating t c =
 
 pub typed-returns-in-Character : goal.typed-returns-in-Character
 typed-returns-in-Character t c =
-    IfOk-weaker c.character_constant.result (λ z. z ≡ spec.character_told c.in-Character.at c.in-Character.value) _ (λ z said. says.on-Character _ _ c.in-Character.is said)
+    IfOk-weaker c.character_constant.result _ _ (λ z said. says.on-Character _ _ c.in-Character.is said)
     c.character_constant.ensures
 
 pub typed-returns-in-StringLiteral : goal.typed-returns-in-StringLiteral
@@ -135,92 +143,215 @@ typed-returns-in_ok-y-in-Comma t c =
     (says.of-child c.args.scope.now c.in_ok-x-in-Comma.ensures c.get-in-Comma.ensures)
     (says.of-child c.typed-in-Comma.new.scope c.in_ok-y-in-Comma.ensures c.get-in-Comma-2.ensures) said) c.comma.ensures
 
+pub declarator-returns-in_ok-clone-in-Name : goal.declarator-returns-in_ok-clone-in-Name
+declarator-returns-in_ok-clone-in-Name t c =
+    parts.on-Name _ _ c.args.scope.now c.new.result c.in-Name.is (c.new.ensures c.args.scope.now ∙ ap (λ (z : Name). named (Some (c.in-Name.at, z))
+    c.args.scope.now) c.in_ok-clone-in-Name.ensures.cases)
+
+pub declarator-returns-in-Omitted : goal.declarator-returns-in-Omitted
+declarator-returns-in-Omitted t c =
+    parts.on-Omitted c.args.scope.now c.new-in-Omitted.result c.in-Omitted.is (c.new-in-Omitted.ensures c.args.scope.now)
+
+pub declarator-returns-in-Grouped : goal.declarator-returns-in-Grouped
+declarator-returns-in-Grouped t c =
+    IfOk-weaker c.declarator.result (λ x. formed_in x c.declarator.new.scope ≡ declarator_says c.get.result.now c.args.scope.now) _
+    (λ x said. parts.on-Grouped _ _ c.args.scope.now c.declarator.new.scope x c.in-Grouped.is (parts.of-declarator c.args.scope.now said
+    c.get.ensures)) c.declarator.ensures
+
+pub declarator-returns-in_ok-add_pointer-in-Pointer : goal.declarator-returns-in_ok-add_pointer-in-Pointer
+declarator-returns-in_ok-add_pointer-in-Pointer t c =
+    parts.on-Pointer _ _ c.as_slice.result.now c.args.scope.now c.declarator-in-Pointer.new.scope c.in_ok-formed-in-Pointer.formed
+    c.add_pointer.new.self c.in-Pointer.is
+    (parts.of-declarator c.args.scope.now c.in_ok-formed-in-Pointer.ensures c.get-in-Pointer.ensures) c.as_slice.ensures
+    (c.in_ok-add_pointer-in-Pointer.ensures c.declarator-in-Pointer.new.scope)
+
+pub declarator-returns-in_ok-add_array-in-Array-default-default-default-None : goal.declarator-returns-in_ok-add_array-in-Array-default-default-default-None
+declarator-returns-in_ok-add_array-in-Array-default-default-default-None t c =
+    let s1 = c.declarator-in-Array-default-default-default-None.new.scope in
+    parts.on-Array-None _ _ c.as_slice-in-Array-default-default-default-None.result.now c.args.scope.now s1
+    c.in_ok-formed-in-Array-default-default-default-None.formed c.add_array.new.self
+    c.new-in-Array-default-default-default-None.result
+    (c.in-Array-default-default-default-None.is ∙ ap (λ (z : Option Expr). declarator.Array c.in-Array-default-default-default-None.at c.in-Array-default-default-default-None.inner c.in-Array-default-default-default-None.words z) c.in-Array-default-default-default-None.length-is)
+    (parts.of-declarator c.args.scope.now c.in_ok-formed-in-Array-default-default-default-None.ensures c.get-in-Array-default-default-default-None.ensures)
+    (ap (λ (z : Counted). counted_in z s1) c.new-in-Array-default-default-default-None.ensures)
+    c.as_slice-in-Array-default-default-default-None.ensures
+    (c.in_ok-add_array-in-Array-default-default-default-None.ensures s1 s1)
+
+pub declarator-returns-in_ok-add_array-in-Array-default-default-default-Some : goal.declarator-returns-in_ok-add_array-in-Array-default-default-default-Some
+declarator-returns-in_ok-add_array-in-Array-default-default-default-Some t c =
+    let h = c.in-Array-default-default-default-Some in ?
+
+pub declarator-returns-in_ok-add_function-in-Function : goal.declarator-returns-in_ok-add_function-in-Function
+declarator-returns-in_ok-add_function-in-Function t c =
+    let s1 = c.declarator-in-Function.new.scope in
+    parts.on-Function _ _ c.as_slice-in-Function-2.result.now c.prototype-prototype.result c.args.scope.now s1 c.enter.new.self
+    c.all_parameters.new.scope c.add_function.new.scope c.in_ok-formed-in-Function.formed c.add_function.new.self
+    c.in_ok-listed-in-Function.listed c.in-Function.is
+    (parts.of-declarator c.args.scope.now c.in_ok-formed-in-Function.ensures c.get-in-Function.ensures)
+    c.in_ok-enter-in-Function.ensures
+    (parts.of-parameters (none_listed c.enter.new.self) c.in_ok-listed-in-Function.ensures c.as_slice-in-Function.ensures)
+    (c.prototype-prototype.ensures parameter_says) c.as_slice-in-Function-2.ensures
+    (c.in_ok-add_function-in-Function.ensures s1)
+
+pub enumerator-returns-in-None : goal.enumerator-returns-in-None
+enumerator-returns-in-None t c =
+    on_ok_weaker c.add_next.result (parts.on-Enumerator-None c.args.enumerator.now c.args.scope.now c.add_next.new.scope
+    c.args.counting.now c.add_next.new.self c.in-None.is) c.add_next.ensures
+
+pub enumerator-returns-in_ok-value-in-Some : goal.enumerator-returns-in_ok-value-in-Some
+enumerator-returns-in_ok-value-in-Some t c =
+    on_ok_weaker c.add_given.result (parts.on-Enumerator-Some c.args.enumerator.now c.in-Some.value c.args.scope.now
+    c.typed.new.scope c.add_given.new.scope c.in_ok-value-in-Some.value c.args.counting.now c.add_given.new.self
+    c.in-Some.is (parts.of-child c.args.scope.now c.in_ok-value-in-Some.ensures c.get.ensures)) c.add_given.ensures
+
+pub field-returns-in_ok-formed-in-Plain : goal.field-returns-in_ok-formed-in-Plain
+field-returns-in_ok-formed-in-Plain t c =
+    on_ok_weaker c.add_member.result (parts.on-Plain _ c.args.scope.now c.declarator.new.scope c.in_ok-formed-in-Plain.formed
+    c.args.laid.now c.add_member.new.self c.args.ctype.now c.in-Plain.is
+    (parts.of-declarator c.args.scope.now c.in_ok-formed-in-Plain.ensures c.get.ensures)) (c.add_member.ensures c.args.scope.now)
+
+pub field-returns-in_ok-width-in-Bits-default-None-default : goal.field-returns-in_ok-width-in-Bits-default-None-default
+field-returns-in_ok-width-in-Bits-default-None-default t c =
+    on_ok_weaker c.add_width.result (parts.on-Bits-None _ _ c.args.scope.now c.typed.new.scope
+    c.in_ok-width-in-Bits-default-None-default.width c.args.laid.now c.add_unnamed_bits.new.self c.add_width.new.self
+    c.args.ctype.now
+    (c.in-Bits-default-None-default.is ∙ ap (λ (z : Option Declarator). field.Bits c.in-Bits-default-None-default.at z c.in-Bits-default-None-default.width) c.in-Bits-default-None-default.declarator-is)
+    (c.in_ok-add_unnamed_bits-in-Bits-default-None-default.ensures c.args.scope.now)
+    (parts.of-child c.args.scope.now c.in_ok-width-in-Bits-default-None-default.ensures c.get-in-Bits-default-None-default.ensures))
+    (c.add_width.ensures c.args.scope.now c.typed.new.scope)
+
+pub field-returns-in_ok-width-in-Bits-default-Some-default : goal.field-returns-in_ok-width-in-Bits-default-Some-default
+field-returns-in_ok-width-in-Bits-default-Some-default t c =
+    let h = c.in-Bits-default-Some-default in ?
+
+pub member_declaration-returns : goal.member_declaration-returns
+member_declaration-returns t c =
+    on_ok_weaker c.all_fields.result (parts.on-MemberDeclaration c.args.member.now c.as_slice-2.result.now c.args.scope.now
+    c.all_specifiers.new.scope c.all_fields.new.scope c.args.laid.now c.take_faults-faults.new.self
+    c.take_specifiers.new.self c.all_fields.new.laid c.in_ok-said.said c.in_ok-ctype.ctype
+    c.take_faults-faults.ensures.laid
+    (parts.of-specifiers c.args.scope.now c.in_ok-said.ensures c.as_slice.ensures c.take_faults-faults.ensures.faults)
+    c.in_ok-ctype.ensures.laid (c.in_ok-ctype.ensures.specified c.all_specifiers.new.scope) c.as_slice-2.ensures)
+    c.all_fields.ensures
+
+pub parameter-returns : goal.parameter-returns
+parameter-returns t c =
+    IfOk-weaker c.new.result _ _ (λ y. parts.on-Parameter c.args.parameter.now c.args.scope.now c.all_specifiers.new.scope
+    c.declarator.new.scope c.in_ok-said.said c.in_ok-formed.formed y
+    (parts.of-specifiers c.args.scope.now c.in_ok-said.ensures c.as_slice.ensures c.new-none.ensures)
+    (parts.of-declarator c.all_specifiers.new.scope c.in_ok-formed.ensures c.get.ensures))
+    (c.new.ensures c.all_specifiers.new.scope)
+
+pub type_name-returns : goal.type_name-returns
+type_name-returns t c =
+    IfOk-weaker c.new.result _ _ (λ y. parts.on-TypeName c.args.name.now c.args.scope.now c.all_specifiers.new.scope
+    c.declarator.new.scope c.in_ok-said.said c.in_ok-formed.formed y
+    (parts.of-specifiers c.args.scope.now c.in_ok-said.ensures c.as_slice.ensures c.new-none.ensures)
+    (parts.of-declarator c.all_specifiers.new.scope c.in_ok-formed.ensures c.get.ensures))
+    (c.new.ensures c.all_specifiers.new.scope)
+
+pub specifier-returns-in-Storage : goal.specifier-returns-in-Storage
+specifier-returns-in-Storage t c =
+    parts.on-Storage _ _ c.args.scope.now c.args.said.now c.add_storage.new.self c.in-Storage.is c.add_storage.ensures
+
+pub specifier-returns-in-Qualifier : goal.specifier-returns-in-Qualifier
+specifier-returns-in-Qualifier t c =
+    parts.on-Qualifier _ _ c.args.scope.now c.args.said.now c.add_qualifier.new.self c.in-Qualifier.is c.add_qualifier.ensures
+
+pub specifier-returns-in-Inline : goal.specifier-returns-in-Inline
+specifier-returns-in-Inline t c =
+    parts.on-Inline _ c.args.scope.now c.args.said.now c.add_inline.new.self c.in-Inline.is c.add_inline.ensures
+
+pub specifier-returns-in-Word : goal.specifier-returns-in-Word
+specifier-returns-in-Word t c =
+    on_ok_weaker c.add_word.result (parts.on-Word _ _ c.args.scope.now c.args.said.now c.add_word.new.self c.in-Word.is)
+    c.add_word.ensures
+
+pub specifier-returns-in-Typedef : goal.specifier-returns-in-Typedef
+specifier-returns-in-Typedef t c =
+    on_ok_weaker c.add_typedef_name.result (parts.on-Typedef _ _ c.args.scope.now c.args.said.now c.add_typedef_name.new.self
+    c.in-Typedef.is) c.add_typedef_name.ensures
+
+pub specifier-returns-in-Tag : goal.specifier-returns-in-Tag
+specifier-returns-in-Tag t c =
+    on_ok_weaker c.add_tag.result (parts.on-Tag _ _ _ c.args.scope.now c.add_tag.new.scope c.args.said.now c.add_tag.new.self
+    c.in-Tag.is) c.add_tag.ensures
+
+pub specifier-returns-in-EnumTag : goal.specifier-returns-in-EnumTag
+specifier-returns-in-EnumTag t c =
+    on_ok_weaker c.add_enumeration_tag.result (parts.on-EnumTag _ _ c.args.scope.now c.args.said.now
+    c.add_enumeration_tag.new.self c.in-EnumTag.is) c.add_enumeration_tag.ensures
+
+pub specifier-returns-in_ok-laid-in-Aggregate : goal.specifier-returns-in_ok-laid-in-Aggregate
+specifier-returns-in_ok-laid-in-Aggregate t c =
+    let n = c.in_ok-begun-in-Aggregate.begun in
+    on_ok_weaker c.end_members.result (parts.on-Aggregate _ c.in-Aggregate.kind _ _ c.args.scope.now c.begin_members.new.scope
+    c.all_members.new.scope c.end_members.new.scope c.args.said.now c.begin_members.new.self c.end_members.new.self n
+    c.in_ok-laid-in-Aggregate.laid c.in-Aggregate.is c.in_ok-begun-in-Aggregate.ensures.begun
+    c.in_ok-begun-in-Aggregate.ensures.said
+    (parts.of-members (none_laid (form_of c.in-Aggregate.kind) n.faults c.begin_members.new.scope)
+    c.in_ok-laid-in-Aggregate.ensures c.as_slice.ensures)) c.end_members.ensures
+
+pub specifier-returns-in_ok-counting-in-Enumeration : goal.specifier-returns-in_ok-counting-in-Enumeration
+specifier-returns-in_ok-counting-in-Enumeration t c =
+    let n = c.in_ok-begun-in-Enumeration.begun in
+    on_ok_weaker c.end_enumerators.result (parts.on-Enumeration _ _ _ _ c.args.scope.now c.begin_enumerators.new.scope
+    c.all_enumerators.new.scope c.end_enumerators.new.scope c.args.said.now c.begin_enumerators.new.self
+    c.end_enumerators.new.self n c.in_ok-counting-in-Enumeration.counting c.in-Enumeration.is
+    c.in_ok-begun-in-Enumeration.ensures.begun c.in_ok-begun-in-Enumeration.ensures.said
+    (parts.of-enumerators (record { next = Some (pos 0); faults = n.faults; scope = c.begin_enumerators.new.scope })
+    c.in_ok-counting-in-Enumeration.ensures c.as_slice-in-Enumeration.ensures)) c.end_enumerators.ensures
+
+pub all_arguments-loop-item-init : goal.all_arguments-loop-item-init
+all_arguments-loop-item-init t c = ?
+
+pub all_arguments-loop-item-preserved : goal.all_arguments-loop-item-preserved
+all_arguments-loop-item-preserved t c = ?
+
 pub all_arguments-returns : goal.all_arguments-returns
 all_arguments-returns t c = ?
+
+pub all_enumerators-loop-item-init : goal.all_enumerators-loop-item-init
+all_enumerators-loop-item-init t c = ?
+
+pub all_enumerators-loop-item-preserved : goal.all_enumerators-loop-item-preserved
+all_enumerators-loop-item-preserved t c = ?
 
 pub all_enumerators-returns : goal.all_enumerators-returns
 all_enumerators-returns t c = ?
 
+pub all_fields-loop-item-init : goal.all_fields-loop-item-init
+all_fields-loop-item-init t c = ?
+
+pub all_fields-loop-item-preserved : goal.all_fields-loop-item-preserved
+all_fields-loop-item-preserved t c = ?
+
 pub all_fields-returns : goal.all_fields-returns
 all_fields-returns t c = ?
+
+pub all_members-loop-item-init : goal.all_members-loop-item-init
+all_members-loop-item-init t c = ?
+
+pub all_members-loop-item-preserved : goal.all_members-loop-item-preserved
+all_members-loop-item-preserved t c = ?
 
 pub all_members-returns : goal.all_members-returns
 all_members-returns t c = ?
 
+pub all_parameters-loop-item-init : goal.all_parameters-loop-item-init
+all_parameters-loop-item-init t c = ?
+
+pub all_parameters-loop-item-preserved : goal.all_parameters-loop-item-preserved
+all_parameters-loop-item-preserved t c = ?
+
 pub all_parameters-returns : goal.all_parameters-returns
 all_parameters-returns t c = ?
 
+pub all_specifiers-loop-item-init : goal.all_specifiers-loop-item-init
+all_specifiers-loop-item-init t c = ?
+
+pub all_specifiers-loop-item-preserved : goal.all_specifiers-loop-item-preserved
+all_specifiers-loop-item-preserved t c = ?
+
 pub all_specifiers-returns : goal.all_specifiers-returns
 all_specifiers-returns t c = ?
-
-pub declarator-returns-in_ok-clone-in-Name : goal.declarator-returns-in_ok-clone-in-Name
-declarator-returns-in_ok-clone-in-Name t c = ?
-
-pub declarator-returns-in-Omitted : goal.declarator-returns-in-Omitted
-declarator-returns-in-Omitted t c = ?
-
-pub declarator-returns-in-Grouped : goal.declarator-returns-in-Grouped
-declarator-returns-in-Grouped t c = ?
-
-pub declarator-returns-in_ok-add_pointer-in-Pointer : goal.declarator-returns-in_ok-add_pointer-in-Pointer
-declarator-returns-in_ok-add_pointer-in-Pointer t c = ?
-
-pub declarator-returns-in_ok-add_array-in-Array-default-default-default-None : goal.declarator-returns-in_ok-add_array-in-Array-default-default-default-None
-declarator-returns-in_ok-add_array-in-Array-default-default-default-None t c = ?
-
-pub declarator-returns-in_ok-add_array-in-Array-default-default-default-Some : goal.declarator-returns-in_ok-add_array-in-Array-default-default-default-Some
-declarator-returns-in_ok-add_array-in-Array-default-default-default-Some t c = ?
-
-pub declarator-returns-in_ok-add_function-in-Function : goal.declarator-returns-in_ok-add_function-in-Function
-declarator-returns-in_ok-add_function-in-Function t c = ?
-
-pub enumerator-returns-in-None : goal.enumerator-returns-in-None
-enumerator-returns-in-None t c = ?
-
-pub enumerator-returns-in_ok-value-in-Some : goal.enumerator-returns-in_ok-value-in-Some
-enumerator-returns-in_ok-value-in-Some t c = ?
-
-pub field-returns-in_ok-formed-in-Plain : goal.field-returns-in_ok-formed-in-Plain
-field-returns-in_ok-formed-in-Plain t c = ?
-
-pub field-returns-in_ok-width-in-Bits-default-None-default : goal.field-returns-in_ok-width-in-Bits-default-None-default
-field-returns-in_ok-width-in-Bits-default-None-default t c = ?
-
-pub field-returns-in_ok-width-in-Bits-default-Some-default : goal.field-returns-in_ok-width-in-Bits-default-Some-default
-field-returns-in_ok-width-in-Bits-default-Some-default t c = ?
-
-pub member_declaration-returns : goal.member_declaration-returns
-member_declaration-returns t c = ?
-
-pub parameter-returns : goal.parameter-returns
-parameter-returns t c = ?
-
-pub specifier-returns-in-Storage : goal.specifier-returns-in-Storage
-specifier-returns-in-Storage t c = ?
-
-pub specifier-returns-in-Qualifier : goal.specifier-returns-in-Qualifier
-specifier-returns-in-Qualifier t c = ?
-
-pub specifier-returns-in-Inline : goal.specifier-returns-in-Inline
-specifier-returns-in-Inline t c = ?
-
-pub specifier-returns-in-Word : goal.specifier-returns-in-Word
-specifier-returns-in-Word t c = ?
-
-pub specifier-returns-in-Typedef : goal.specifier-returns-in-Typedef
-specifier-returns-in-Typedef t c = ?
-
-pub specifier-returns-in-Tag : goal.specifier-returns-in-Tag
-specifier-returns-in-Tag t c = ?
-
-pub specifier-returns-in_ok-laid-in-Aggregate : goal.specifier-returns-in_ok-laid-in-Aggregate
-specifier-returns-in_ok-laid-in-Aggregate t c = ?
-
-pub specifier-returns-in-EnumTag : goal.specifier-returns-in-EnumTag
-specifier-returns-in-EnumTag t c = ?
-
-pub specifier-returns-in_ok-counting-in-Enumeration : goal.specifier-returns-in_ok-counting-in-Enumeration
-specifier-returns-in_ok-counting-in-Enumeration t c = ?
-
-pub type_name-returns : goal.type_name-returns
-type_name-returns t c = ?
