@@ -1,6 +1,9 @@
 -- What specifiers, members, enumerators, declarators, parameters and type names say, from what the code has found of
 -- their parts: one lemma a constructor.
-use Rattle.std.proofs.Common.{◌≡◌, ℕ, ℤ, pos, List, [], ◌∷◌, ◌++◌, Option, Some, None, Bool, true, false, map, refl, sym, ap, ◌∙◌}
+use Rattle.std.proofs.Common.{◌≡◌, ℕ, suc, add-one, ◌+◌, ◌<◌, ◌≤◌, pos, List, [], ◌∷◌, ◌++◌, Option, Some, None, Bool, true, false, map, length, drop, get_or, drop-cons, refl, sym, ap, ◌∙◌}
+use Rattle.std.specs.Bool.{◌==◌}
+use Rattle.std.proofs.lemmas.Bool.{false≢true}
+use Rattle.std.proofs.lemmas.List.{drop_all}
 use Rattle.c_tree.specs.declared.expr.AggregateKind.{AggregateKind}
 use Rattle.c_tree.specs.declared.expr.ArrayWord.{ArrayWord}
 use Rattle.c_tree.specs.declared.expr.Declarator.{Declarator}
@@ -27,8 +30,6 @@ use Rattle.c_says.specs.Scopes.{Name, Scope, look_up, tag_of, enter}
 use Rattle.c_says.specs.Typing.{Typed, typed_in}
 use Rattle.c_says.specs.Declares as spec
 use Rattle.c_says.specs.Trees.{
-  ExprSays,
-  itself,
   typed,
   declarator_says,
   specifier_says,
@@ -39,6 +40,8 @@ use Rattle.c_says.specs.Trees.{
   type_name_says,
 }
 use Rattle.c_says.proofs.Equations as eq
+use Rattle.c_type_terms.specs.declared.ctype.Derivation.TheVariants as d
+use Rattle.c_typing.specs.Parts.{length_says, bits_say}
 use Rattle.c_declares.specs.declared.declarators.Counted.{Counted}
 use Rattle.c_declares.specs.declared.declarators.Formed.{Formed}
 use Rattle.c_declares.specs.declared.enumerations.Counting.{Counting}
@@ -113,27 +116,26 @@ on-Pointer at {qualifiers} inner read s s1 x y is first same said =
     rw (is, eq.says-Pointer at qualifiers inner, sym first)
     (said ∙ ap (λ (z : List Qualifier). spec.to_pointer z (formed_in x s1)) same)
 
-pub on-Array-None : {d : Declarator} (at : ℕ) (inner : Declarator) {words : List ArrayWord} (read : List ArrayWord)
-    (s s1 : Scope) (x y : Formed) (n : Counted) → d ≡ declarator.Array at inner words None →
-    formed_in x s1 ≡ declarator_says inner s → counted_in n s1 ≡ spec.counted {E = ExprSays} itself None s1 →
-    read ≡ words →
-    formed_in y s1 ≡ spec.to_array (spec.qualifiers_among read) (formed_in x s1) (counted_in n s1) →
-    formed_in y s1 ≡ declarator_says d s
-on-Array-None at inner {words} read s s1 x y n is first second same said =
-    rw (is, eq.says-Array at inner words None, sym first)
-    (said ∙ ap (λ (z : List ArrayWord). spec.to_array (spec.qualifiers_among z) (formed_in x s1) (counted_in n s1)) same
-    ∙ ap (spec.to_array (spec.qualifiers_among words) (formed_in x s1)) second)
-
-pub on-Array-Some : {d : Declarator} (at : ℕ) (inner : Declarator) {words : List ArrayWord} (length' : Expr)
-    (read : List ArrayWord) (s s1 s2 : Scope) (x y : Formed) (l : Told) (n : Counted) →
-    d ≡ declarator.Array at inner words (Some length') → formed_in x s1 ≡ declarator_says inner s →
-    typed_in l s2 ≡ typed length' s1 → counted_in n s2 ≡ spec.counted_by (typed_in l s2) → read ≡ words →
+pub on-Array : {d : Declarator} (at : ℕ) (inner : Declarator) {words : List ArrayWord} (length' : Option Expr)
+    (read : List ArrayWord) (s s1 s2 : Scope) (x y : Formed) (n : Counted) →
+    d ≡ declarator.Array at inner words length' → formed_in x s1 ≡ declarator_says inner s →
+    counted_in n s2 ≡ length_says length' s1 → read ≡ words →
     formed_in y s2 ≡ spec.to_array (spec.qualifiers_among read) (formed_in x s1) (counted_in n s2) →
     formed_in y s2 ≡ declarator_says d s
-on-Array-Some at inner {words} length' read s s1 s2 x y l n is first second counts same said =
-    rw (is, eq.says-Array at inner words (Some length'), sym first, sym second)
+on-Array at inner {words} length' read s s1 s2 x y n is first counts same said =
+    rw (is, eq.says-Array at inner words length', sym first)
     (said ∙ ap (λ (z : List ArrayWord). spec.to_array (spec.qualifiers_among z) (formed_in x s1) (counted_in n s2)) same
     ∙ ap (spec.to_array (spec.qualifiers_among words) (formed_in x s1)) counts)
+
+pub no-length : (e : Option Expr) (s : Scope) (n : Counted) → e ≡ None → n ≡ record {
+  step = Some (d.Array None);
+  faults = [];
+} → counted_in n s ≡ length_says e s
+no-length e s n is said = rw (is, said) refl
+
+pub some-length : (e : Option Expr) (v : Expr) (s s1 : Scope) (x : Told) (n : Counted) → e ≡ Some v →
+    typed_in x s1 ≡ typed v s → counted_in n s1 ≡ spec.counted_by (typed_in x s1) → counted_in n s1 ≡ length_says e s
+some-length e v s s1 x n is first said = rw (is, sym first) said
 
 pub on-Function : {d : Declarator} (at : ℕ) (inner : Declarator) {parameters : List Parameter} {variadic : Bool}
     (read : List Parameter) (prototype : Prototype) (s s1 s2 s3 s4 : Scope) (x y : Formed) (l : Listed) →
@@ -263,22 +265,23 @@ pub on-Plain : {f : Field} (inner : Declarator) (s s1 : Scope) (x : Formed) (a b
 on-Plain inner s s1 x a b t is first said =
     rw (is, eq.says-Plain inner, sym first) said
 
-pub on-Bits-None : {f : Field} (at : ℕ) (width : Expr) (s s1 : Scope) (w : Told) (a b c : Laid) (t : Option CType) →
-    f ≡ field.Bits at None width → laid_in b s ≡ spec.next_member (laid_in a s) → typed_in w s1 ≡ typed width s →
-    laid_in c s1 ≡ spec.bits_wide (typed_in w s1) (laid_in b s) → laid_in c s1 ≡ field_says f t (laid_in a s)
-on-Bits-None at width s s1 w a b c t is first second said =
-    rw (is, eq.says-Bits at None width, sym second)
-    (said ∙ ap (spec.bits_wide (typed_in w s1)) first)
-
-pub on-Bits-Some : {f : Field} (at : ℕ) (inner : Declarator) (width : Expr) (s s1 s2 : Scope) (x : Formed) (w : Told)
-    (a b c : Laid) (t : Option CType) → f ≡ field.Bits at (Some inner) width →
-    formed_in x s1 ≡ declarator_says inner s → laid_in b s1 ≡ spec.bits_formed (formed_in x s1) (laid_in a s) →
+pub on-Bits : {f : Field} (at : ℕ) (named : Option Declarator) (width : Expr) (s s1 s2 : Scope) (w : Told)
+    (a b c : Laid) (t : Option CType) → f ≡ field.Bits at named width → laid_in b s1 ≡ bits_say named (laid_in a s) →
     typed_in w s2 ≡ typed width s1 → laid_in c s2 ≡ spec.bits_wide (typed_in w s2) (laid_in b s1) →
     laid_in c s2 ≡ field_says f t (laid_in a s)
-on-Bits-Some at inner width s s1 s2 x w a b c t is first bits second said =
-    rw (is, eq.says-Bits at (Some inner) width, sym first)
+on-Bits at named width s s1 s2 w a b c t is bits second said =
+    rw (is, eq.says-Bits at named width)
     (said ∙ ap (λ (z : Typed). spec.bits_wide z (laid_in b s1)) second
     ∙ ap (λ (z : spec.Laid). spec.bits_wide (typed width z.scope) z) bits)
+
+pub no-bits-name : (n : Option Declarator) (s : Scope) (a b : Laid) → n ≡ None →
+    laid_in b s ≡ spec.next_member (laid_in a s) → laid_in b s ≡ bits_say n (laid_in a s)
+no-bits-name n s a b is said = rw is said
+
+pub some-bits-name : (n : Option Declarator) (d : Declarator) (s s1 : Scope) (x : Formed) (a b : Laid) → n ≡ Some d →
+    formed_in x s1 ≡ declarator_says d s → laid_in b s1 ≡ spec.bits_formed (formed_in x s1) (laid_in a s) →
+    laid_in b s1 ≡ bits_say n (laid_in a s)
+some-bits-name n d s s1 x a b is first said = rw (is, sym first) said
 
 pub on-Enumerator-None : (e : Enumerator) (s s1 : Scope) (a b : Counting) → e.value ≡ None →
     counting_in b s1 ≡ spec.enumerates e.at e.name a.next a.faults s →
@@ -310,3 +313,23 @@ on-TypeName n s s1 s2 d x y first second said =
     rw (eq.says-TypeName n)
     (said ∙ ap (spec.type_formed (said_in d s1)) second
     ∙ ap (λ (z : spec.Said). spec.type_formed z (declarator_says n.declarator z.scope)) first)
+
+-- ---- lists: what remains computes the whole
+
+module _ {A R W : Type 0} (g : List A → R → W) where
+  pub goes-on : {step : A → R → R} → ((x : A) (xs : List A) (a : R) → g (x ∷ xs) a ≡ g xs (step x a)) →
+      (xs : List A) (i : ℕ) (x y : A) (a b : R) {w : W} → i < length xs → x ≡ get_or xs i x → y ≡ x → b ≡ step y a →
+      g (drop i xs) a ≡ w → g (drop (i + 1) xs) b ≡ w
+  goes-on {step} steps xs i x y a b within is same said whole =
+      let cut : drop i xs ≡ x ∷ drop (i + 1) xs = drop-cons xs i x within
+          ∙ ap (λ (z : A). z ∷ drop (suc i) xs) (sym is) ∙ ap (λ (k : ℕ). x ∷ drop k xs) (sym (add-one i)) in
+      ap (g (drop (i + 1) xs)) (said ∙ ap (λ (z : A). step z a) same) ∙ sym (steps x (drop (i + 1) xs) a)
+      ∙ ap (λ (z : List A). g z a) (sym cut) ∙ whole
+
+  pub ends : (xs : List A) (i : ℕ) (a : R) {v w : W} → g [] a ≡ v → length xs ≤ i → g (drop i xs) a ≡ w → v ≡ w
+  ends xs i a none over whole = sym none ∙ ap (λ (z : List A). g z a) (sym (drop_all i xs over)) ∙ whole
+
+pub some-fields : (xs : List Field) (t : Option CType) (x : spec.Laid) → (length xs == 0) ≡ false →
+    spec.each_field (map field_says xs) t x ≡ spec.fields_of (map field_says xs) t x
+some-fields [] t x is = absurd (false≢true (sym is))
+some-fields (y ∷ ys) t x is = refl

@@ -22,8 +22,8 @@ use Rattle.c_says.specs.Typing.{
 use Rattle.c_declares.specs.declared.type_names.TypeSaid.{TypeSaid as Said}
 use Rattle.c_says.specs.Declares.{TypeSaid}
 use Rattle.c_declares.specs.Views.{type_said_in}
-use Rattle.c_says.specs.Trees.{Through, typed, type_name_says, through}
-use Rattle.c_typing.specs.Behind.{behind}
+use Rattle.c_says.specs.Trees.{Through, through_one, typed, type_name_says, through}
+use Rattle.c_typing.specs.Parts.{behind}
 use Rattle.c_says.proofs.Equations as eq
 
 -- ---- children
@@ -166,3 +166,9 @@ pub on-Call : {e : Expr} (at : ℕ) (callee : Expr) (arguments : List Expr) (s s
     typed_in z s2 ≡ t.call at f.at f.shown xs s2 → typed_in z s2 ≡ typed e s
 on-Call at callee arguments s s1 s2 f z xs is first second said =
     rw (is, eq.says-Call at callee arguments, sym first, sym second) said
+
+pub one-argument : (s s1 : Scope) (x u : Told) (e : Expr) (xs ys : Arguments) → typed_in x s1 ≡ typed e s →
+    u ≡ used_told s1.tables x → ys ≡ t.and_argument xs u → behind ys s1 ≡ through_one (behind xs s) (typed e s)
+one-argument s s1 x u e xs ys first value said =
+    ap (λ (z : Arguments). behind z s1) (said ∙ ap (t.and_argument xs) value)
+    ∙ ap (λ (z : Typed). through_one (behind xs s) z) first

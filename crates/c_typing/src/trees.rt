@@ -3,8 +3,8 @@ ghost use Rattle.std.specs.Prelude.{◌≡◌, [], map, pos, Some, IfOk, OnOk};
 ghost use Rattle.c_says.specs.Typing as spec;
 ghost use Rattle.c_says.specs.Declares as declares;
 ghost use Rattle.c_says.specs.Trees as trees;
-ghost use Rattle.c_typing.specs.Behind.{behind};
-ghost use Rattle.c_declares.specs.Views.{said_in, formed_in, type_said_in, laid_in, counting_in, listed_in, named_in};
+ghost use Rattle.c_typing.specs.Parts.{behind, length_says, bits_say};
+ghost use Rattle.c_declares.specs.Views.{said_in, formed_in, counted_in, type_said_in, laid_in, counting_in, listed_in, named_in};
 
 use crate::arguments::{Arguments, and_argument, no_arguments};
 use crate::forms;
@@ -305,23 +305,31 @@ fn field(
             laid.add_member(alloc, formed, ctype, scope)
         }
         Field::Bits {
-            declarator: None,
+            declarator: named,
             width,
             ..
         } => {
-            laid.add_unnamed_bits()?;
+            bits_declarator(alloc, named, laid, scope)?;
             let width = typed(alloc, width.get(), scope)?;
             laid.add_width(width)
         }
-        Field::Bits {
-            declarator: Some(inner),
-            width,
-            ..
-        } => {
+    }
+}
+
+#[cycle(typing)]
+fn bits_declarator(
+    alloc: Global,
+    named: &Option<Shared<Declarator>>,
+    laid: &mut Laid,
+    scope: &mut Scope,
+) -> Result<(), AllocError>
+    ensures { OnOk result (laid_in laid.new scope.new ≡ bits_say named.now (laid_in laid.old scope.old)) }
+{
+    match named {
+        None => laid.add_unnamed_bits(),
+        Some(inner) => {
             let formed = declarator(alloc, inner.get(), scope)?;
-            laid.add_bits(alloc, formed)?;
-            let width = typed(alloc, width.get(), scope)?;
-            laid.add_width(width)
+            laid.add_bits(alloc, formed)
         }
     }
 }
@@ -385,22 +393,12 @@ pub fn declarator(
         Declarator::Array {
             inner,
             words,
-            length: None,
+            length,
             ..
         } => {
             let mut formed = declarator(alloc, inner.get(), scope)?;
-            formed.add_array(words.as_slice(), Counted::new(alloc))?;
-            Ok(formed)
-        }
-        Declarator::Array {
-            inner,
-            words,
-            length: Some(count),
-            ..
-        } => {
-            let mut formed = declarator(alloc, inner.get(), scope)?;
-            let length = typed(alloc, count.get(), scope)?;
-            formed.add_array(words.as_slice(), Counted::by(length)?)?;
+            let length = array_length(alloc, length, scope)?;
+            formed.add_array(words.as_slice(), length)?;
             Ok(formed)
         }
         Declarator::Function {
@@ -415,6 +413,23 @@ pub fn declarator(
             let prototype = prototype(parameters.as_slice(), *variadic);
             formed.add_function(alloc, prototype, listed, scope)?;
             Ok(formed)
+        }
+    }
+}
+
+#[cycle(typing)]
+fn array_length(
+    alloc: Global,
+    length: &Option<Shared<Expr>>,
+    scope: &mut Scope,
+) -> Result<Counted, AllocError>
+    ensures { IfOk result (λ x. counted_in x scope.new ≡ length_says length.now scope.old) }
+{
+    match length {
+        None => Ok(Counted::new(alloc)),
+        Some(length) => {
+            let x = typed(alloc, length.get(), scope)?;
+            Counted::by(x)
         }
     }
 }

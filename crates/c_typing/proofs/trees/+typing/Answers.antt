@@ -1,17 +1,34 @@
-use Rattle.std.proofs.Common.{◌≡◌, pos, Option, Some, [], ap, ◌∙◌}
+use Rattle.std.proofs.Common.{◌≡◌, pos, List, Option, Some, [], map, refl, sym, ap, ◌∙◌}
 use Rattle.std.proofs.lemmas.Result.{IfOk-weaker, on_ok_weaker}
-use Rattle.c_tree.specs.declared.expr.Declarator.{Declarator}
-use Rattle.c_tree.specs.declared.expr.Declarator.TheVariants as declarator
+use Rattle.c_tree.specs.declared.expr.Enumerator.{Enumerator}
+use Rattle.c_tree.specs.declared.expr.Field.{Field}
+use Rattle.c_tree.specs.declared.expr.MemberDeclaration.{MemberDeclaration}
+use Rattle.c_tree.specs.declared.expr.Parameter.{Parameter}
+use Rattle.c_tree.specs.declared.expr.Specifier.{Specifier}
 use Rattle.c_tree.specs.declared.expr.Expr.{Expr}
-use Rattle.c_tree.specs.declared.expr.Field.TheVariants as field
 use Rattle.c_says.specs.Scopes.{Name, look_up}
 use Rattle.c_says.specs.Typing as spec
 use Rattle.c_says.specs.Typing.{typed_in}
+use Rattle.c_says.specs.Declares as spec_
 use Rattle.c_says.specs.Declares.{named, none_laid, none_listed, form_of}
-use Rattle.c_says.specs.Trees.{typed, declarator_says, parameter_says}
-use Rattle.c_declares.specs.declared.declarators.Counted.{Counted}
-use Rattle.c_declares.specs.Views.{formed_in, counted_in}
-use Rattle.c_typing.specs.Behind.{behind}
+use Rattle.c_says.specs.Trees.{
+  Through,
+  through,
+  through_one,
+  typed,
+  declarator_says,
+  specifier_says,
+  field_says,
+  enumerator_says,
+  member_says,
+  parameter_says,
+}
+use Rattle.c_declares.specs.declared.enumerations.Counting.{Counting}
+use Rattle.c_declares.specs.declared.members.Laid.{Laid}
+use Rattle.c_declares.specs.declared.parameters.Listed.{Listed}
+use Rattle.c_declares.specs.declared.said.Said.{Said}
+use Rattle.c_declares.specs.Views.{said_in, formed_in, laid_in, counting_in, listed_in}
+use Rattle.c_typing.specs.Parts.{behind}
 use Rattle.c_typing.proofs.Declares as parts
 use Rattle.c_typing.proofs.Says as says
 use Rattle.c_typing.proofs.trees.+typing.Goals as goal
@@ -165,21 +182,23 @@ declarator-returns-in_ok-add_pointer-in-Pointer t c =
     (parts.of-declarator c.args.scope.now c.in_ok-formed-in-Pointer.ensures c.get-in-Pointer.ensures) c.as_slice.ensures
     (c.in_ok-add_pointer-in-Pointer.ensures c.declarator-in-Pointer.new.scope)
 
-pub declarator-returns-in_ok-add_array-in-Array-default-default-default-None : goal.declarator-returns-in_ok-add_array-in-Array-default-default-default-None
-declarator-returns-in_ok-add_array-in-Array-default-default-default-None t c =
-    let s1 = c.declarator-in-Array-default-default-default-None.new.scope in
-    parts.on-Array-None _ _ c.as_slice-in-Array-default-default-default-None.result.now c.args.scope.now s1
-    c.in_ok-formed-in-Array-default-default-default-None.formed c.add_array.new.self
-    c.new-in-Array-default-default-default-None.result
-    (c.in-Array-default-default-default-None.is ∙ ap (λ (z : Option Expr). declarator.Array c.in-Array-default-default-default-None.at c.in-Array-default-default-default-None.inner c.in-Array-default-default-default-None.words z) c.in-Array-default-default-default-None.length-is)
-    (parts.of-declarator c.args.scope.now c.in_ok-formed-in-Array-default-default-default-None.ensures c.get-in-Array-default-default-default-None.ensures)
-    (ap (λ (z : Counted). counted_in z s1) c.new-in-Array-default-default-default-None.ensures)
-    c.as_slice-in-Array-default-default-default-None.ensures
-    (c.in_ok-add_array-in-Array-default-default-default-None.ensures s1 s1)
+pub declarator-returns-in_ok-add_array-in-Array : goal.declarator-returns-in_ok-add_array-in-Array
+declarator-returns-in_ok-add_array-in-Array t c =
+    parts.on-Array _ _ _ c.as_slice-in-Array.result.now c.args.scope.now c.declarator-in-Array.new.scope c.array_length.new.scope
+    c.in_ok-formed-in-Array.formed c.add_array.new.self c.in_ok-length-in-Array.length c.in-Array.is
+    (parts.of-declarator c.args.scope.now c.in_ok-formed-in-Array.ensures c.get-in-Array.ensures) c.in_ok-length-in-Array.ensures
+    c.as_slice-in-Array.ensures
+    (c.in_ok-add_array-in-Array.ensures c.declarator-in-Array.new.scope c.array_length.new.scope)
 
-pub declarator-returns-in_ok-add_array-in-Array-default-default-default-Some : goal.declarator-returns-in_ok-add_array-in-Array-default-default-default-Some
-declarator-returns-in_ok-add_array-in-Array-default-default-default-Some t c =
-    let h = c.in-Array-default-default-default-Some in ?
+pub array_length-returns-in-None : goal.array_length-returns-in-None
+array_length-returns-in-None t c =
+    parts.no-length c.args.length.now c.args.scope.now c.new.result c.in-None.is c.new.ensures
+
+pub array_length-returns-in_ok-x-in-Some : goal.array_length-returns-in_ok-x-in-Some
+array_length-returns-in_ok-x-in-Some t c =
+    IfOk-weaker c.by.result _ _ (λ n. parts.some-length c.args.length.now c.in-Some.length c.args.scope.now c.typed.new.scope
+    c.in_ok-x-in-Some.x n c.in-Some.is (parts.of-child c.args.scope.now c.in_ok-x-in-Some.ensures c.get.ensures))
+    (c.by.ensures c.typed.new.scope)
 
 pub declarator-returns-in_ok-add_function-in-Function : goal.declarator-returns-in_ok-add_function-in-Function
 declarator-returns-in_ok-add_function-in-Function t c =
@@ -210,19 +229,25 @@ field-returns-in_ok-formed-in-Plain t c =
     c.args.laid.now c.add_member.new.self c.args.ctype.now c.in-Plain.is
     (parts.of-declarator c.args.scope.now c.in_ok-formed-in-Plain.ensures c.get.ensures)) (c.add_member.ensures c.args.scope.now)
 
-pub field-returns-in_ok-width-in-Bits-default-None-default : goal.field-returns-in_ok-width-in-Bits-default-None-default
-field-returns-in_ok-width-in-Bits-default-None-default t c =
-    on_ok_weaker c.add_width.result (parts.on-Bits-None _ _ c.args.scope.now c.typed.new.scope
-    c.in_ok-width-in-Bits-default-None-default.width c.args.laid.now c.add_unnamed_bits.new.self c.add_width.new.self
-    c.args.ctype.now
-    (c.in-Bits-default-None-default.is ∙ ap (λ (z : Option Declarator). field.Bits c.in-Bits-default-None-default.at z c.in-Bits-default-None-default.width) c.in-Bits-default-None-default.declarator-is)
-    (c.in_ok-add_unnamed_bits-in-Bits-default-None-default.ensures c.args.scope.now)
-    (parts.of-child c.args.scope.now c.in_ok-width-in-Bits-default-None-default.ensures c.get-in-Bits-default-None-default.ensures))
-    (c.add_width.ensures c.args.scope.now c.typed.new.scope)
+pub field-returns-in_ok-width-in-Bits : goal.field-returns-in_ok-width-in-Bits
+field-returns-in_ok-width-in-Bits t c =
+    on_ok_weaker c.add_width.result (parts.on-Bits _ _ _ c.args.scope.now c.bits_declarator.new.scope c.typed.new.scope
+    c.in_ok-width-in-Bits.width c.args.laid.now c.bits_declarator.new.laid c.add_width.new.self c.args.ctype.now
+    c.in-Bits.is c.in_ok-bits_declarator-in-Bits.ensures
+    (parts.of-child c.bits_declarator.new.scope c.in_ok-width-in-Bits.ensures c.get-in-Bits.ensures))
+    (c.add_width.ensures c.bits_declarator.new.scope c.typed.new.scope)
 
-pub field-returns-in_ok-width-in-Bits-default-Some-default : goal.field-returns-in_ok-width-in-Bits-default-Some-default
-field-returns-in_ok-width-in-Bits-default-Some-default t c =
-    let h = c.in-Bits-default-Some-default in ?
+pub bits_declarator-returns-in-None : goal.bits_declarator-returns-in-None
+bits_declarator-returns-in-None t c =
+    on_ok_weaker c.add_unnamed_bits.result (parts.no-bits-name c.args.named.now c.args.scope.now c.args.laid.now
+    c.add_unnamed_bits.new.self c.in-None.is) (c.add_unnamed_bits.ensures c.args.scope.now)
+
+pub bits_declarator-returns-in_ok-formed-in-Some : goal.bits_declarator-returns-in_ok-formed-in-Some
+bits_declarator-returns-in_ok-formed-in-Some t c =
+    on_ok_weaker c.add_bits.result (parts.some-bits-name c.args.named.now c.in-Some.inner c.args.scope.now c.declarator.new.scope
+    c.in_ok-formed-in-Some.formed c.args.laid.now c.add_bits.new.self c.in-Some.is
+    (parts.of-declarator c.args.scope.now c.in_ok-formed-in-Some.ensures c.get.ensures))
+    (c.add_bits.ensures c.args.scope.now c.declarator.new.scope)
 
 pub member_declaration-returns : goal.member_declaration-returns
 member_declaration-returns t c =
@@ -302,56 +327,89 @@ specifier-returns-in_ok-counting-in-Enumeration t c =
     (parts.of-enumerators (record { next = Some (pos 0); faults = n.faults; scope = c.begin_enumerators.new.scope })
     c.in_ok-counting-in-Enumeration.ensures c.as_slice-in-Enumeration.ensures)) c.end_enumerators.ensures
 
-pub all_arguments-loop-item-init : goal.all_arguments-loop-item-init
-all_arguments-loop-item-init t c = ?
-
-pub all_arguments-loop-item-preserved : goal.all_arguments-loop-item-preserved
-all_arguments-loop-item-preserved t c = ?
-
-pub all_arguments-returns : goal.all_arguments-returns
-all_arguments-returns t c = ?
-
-pub all_enumerators-loop-item-init : goal.all_enumerators-loop-item-init
-all_enumerators-loop-item-init t c = ?
-
-pub all_enumerators-loop-item-preserved : goal.all_enumerators-loop-item-preserved
-all_enumerators-loop-item-preserved t c = ?
-
-pub all_enumerators-returns : goal.all_enumerators-returns
-all_enumerators-returns t c = ?
-
-pub all_fields-loop-item-init : goal.all_fields-loop-item-init
-all_fields-loop-item-init t c = ?
-
-pub all_fields-loop-item-preserved : goal.all_fields-loop-item-preserved
-all_fields-loop-item-preserved t c = ?
-
-pub all_fields-returns : goal.all_fields-returns
-all_fields-returns t c = ?
-
-pub all_members-loop-item-init : goal.all_members-loop-item-init
-all_members-loop-item-init t c = ?
-
-pub all_members-loop-item-preserved : goal.all_members-loop-item-preserved
-all_members-loop-item-preserved t c = ?
-
-pub all_members-returns : goal.all_members-returns
-all_members-returns t c = ?
-
-pub all_parameters-loop-item-init : goal.all_parameters-loop-item-init
-all_parameters-loop-item-init t c = ?
-
-pub all_parameters-loop-item-preserved : goal.all_parameters-loop-item-preserved
-all_parameters-loop-item-preserved t c = ?
-
-pub all_parameters-returns : goal.all_parameters-returns
-all_parameters-returns t c = ?
-
 pub all_specifiers-loop-item-init : goal.all_specifiers-loop-item-init
-all_specifiers-loop-item-init t c = ?
+all_specifiers-loop-item-init t c =
+    ap (λ (z : Said). spec_.in_order (map specifier_says c.args.items.now) (said_in z c.args.scope.now)) c.new-said.ensures
 
 pub all_specifiers-loop-item-preserved : goal.all_specifiers-loop-item-preserved
-all_specifiers-loop-item-preserved t c = ?
+all_specifiers-loop-item-preserved t c =
+    parts.goes-on (λ (ys : List Specifier) (z : spec_.Said). spec_.in_order (map specifier_says ys) z) {step = specifier_says} (λ _ _ _. refl) c.args.items.now
+    c.loop-item.item-index c.item-item.result c.get.result.now (said_in c.loop-item.said c.loop-item.scope) (said_in c.specifier.new.said c.specifier.new.scope) c.loop-item-test.true c.item-item.is
+    c.get.ensures (c.in_ok-specifier.ensures) c.loop-item.invariant
 
 pub all_specifiers-returns : goal.all_specifiers-returns
-all_specifiers-returns t c = ?
+all_specifiers-returns t c =
+    parts.ends (λ (ys : List Specifier) (z : spec_.Said). spec_.in_order (map specifier_says ys) z) c.args.items.now c.loop-item.item-index (said_in c.loop-item.said c.loop-item.scope) refl c.loop-item-test.false c.loop-item.invariant
+
+pub all_members-loop-item-init : goal.all_members-loop-item-init
+all_members-loop-item-init t c =
+    ap (spec_.in_order (map member_says c.args.items.now)) (c.new-laid.ensures c.args.scope.now)
+
+pub all_members-loop-item-preserved : goal.all_members-loop-item-preserved
+all_members-loop-item-preserved t c =
+    parts.goes-on (λ (ys : List MemberDeclaration) (z : spec_.Laid). spec_.in_order (map member_says ys) z) {step = member_says} (λ _ _ _. refl) c.args.items.now
+    c.loop-item.item-index c.item-item.result c.get.result.now (laid_in c.loop-item.laid c.loop-item.scope) (laid_in c.member_declaration.new.laid c.member_declaration.new.scope) c.loop-item-test.true c.item-item.is
+    c.get.ensures (c.in_ok-member_declaration.ensures) c.loop-item.invariant
+
+pub all_members-returns : goal.all_members-returns
+all_members-returns t c =
+    parts.ends (λ (ys : List MemberDeclaration) (z : spec_.Laid). spec_.in_order (map member_says ys) z) c.args.items.now c.loop-item.item-index (laid_in c.loop-item.laid c.loop-item.scope) refl c.loop-item-test.false c.loop-item.invariant
+
+pub all_enumerators-loop-item-init : goal.all_enumerators-loop-item-init
+all_enumerators-loop-item-init t c =
+    ap (λ (z : Counting). spec_.in_order (map enumerator_says c.args.items.now) (counting_in z c.args.scope.now)) c.new-counting.ensures
+
+pub all_enumerators-loop-item-preserved : goal.all_enumerators-loop-item-preserved
+all_enumerators-loop-item-preserved t c =
+    parts.goes-on (λ (ys : List Enumerator) (z : spec_.Counting). spec_.in_order (map enumerator_says ys) z) {step = enumerator_says} (λ _ _ _. refl) c.args.items.now
+    c.loop-item.item-index c.item-item.result c.get.result.now (counting_in c.loop-item.counting c.loop-item.scope) (counting_in c.enumerator.new.counting c.enumerator.new.scope) c.loop-item-test.true c.item-item.is
+    c.get.ensures (c.in_ok-enumerator.ensures) c.loop-item.invariant
+
+pub all_enumerators-returns : goal.all_enumerators-returns
+all_enumerators-returns t c =
+    parts.ends (λ (ys : List Enumerator) (z : spec_.Counting). spec_.in_order (map enumerator_says ys) z) c.args.items.now c.loop-item.item-index (counting_in c.loop-item.counting c.loop-item.scope) refl c.loop-item-test.false c.loop-item.invariant
+
+pub all_fields-loop-item-init : goal.all_fields-loop-item-init
+all_fields-loop-item-init t c =
+    refl
+
+pub all_fields-loop-item-preserved : goal.all_fields-loop-item-preserved
+all_fields-loop-item-preserved t c =
+    parts.goes-on (λ (ys : List Field) (z : spec_.Laid). spec_.each_field (map field_says ys) c.args.ctype.now z) {step = (λ (f : Field) (z : spec_.Laid). field_says f c.args.ctype.now z)} (λ _ _ _. refl) c.args.items.now
+    c.loop-item.item-index c.item-item.result c.get.result.now (laid_in c.loop-item.laid c.loop-item.scope) (laid_in c.field.new.laid c.field.new.scope) c.loop-item-test.true c.item-item.is
+    c.get.ensures (c.in_ok-field.ensures) c.loop-item.invariant
+
+pub all_fields-returns : goal.all_fields-returns
+all_fields-returns t c =
+    parts.ends (λ (ys : List Field) (z : spec_.Laid). spec_.each_field (map field_says ys) c.args.ctype.now z)
+    c.args.items.now c.loop-item.item-index (laid_in c.loop-item.laid c.loop-item.scope) refl c.loop-item-test.false
+    c.loop-item.invariant ∙ parts.some-fields c.args.items.now c.args.ctype.now (laid_in c.args.laid.now c.args.scope.now)
+    (sym c.is_empty.ensures ∙ c.if-is_empty.false)
+
+pub all_parameters-loop-item-init : goal.all_parameters-loop-item-init
+all_parameters-loop-item-init t c =
+    ap (λ (z : Listed). spec_.listed (listed_in z c.args.scope.now) (map parameter_says c.args.items.now)) c.new-listed.ensures
+
+pub all_parameters-loop-item-preserved : goal.all_parameters-loop-item-preserved
+all_parameters-loop-item-preserved t c =
+    parts.goes-on (λ (ys : List Parameter) (z : spec_.Listed). spec_.listed z (map parameter_says ys)) {step = (λ (p : Parameter) (z : spec_.Listed). spec_.and_parameter z (parameter_says p z.after))} (λ _ _ _. refl) c.args.items.now
+    c.loop-item.item-index c.item-item.result c.get.result.now (listed_in c.loop-item.listed c.loop-item.scope) (listed_in c.add.new.self c.add.new.scope) c.loop-item-test.true c.item-item.is
+    c.get.ensures (c.in_ok-add.ensures c.loop-item.scope ∙ ap (spec_.and_parameter (listed_in c.loop-item.listed c.loop-item.scope)) c.in_ok-named.ensures) c.loop-item.invariant
+
+pub all_parameters-returns : goal.all_parameters-returns
+all_parameters-returns t c =
+    parts.ends (λ (ys : List Parameter) (z : spec_.Listed). spec_.listed z (map parameter_says ys)) c.args.items.now c.loop-item.item-index (listed_in c.loop-item.listed c.loop-item.scope) refl c.loop-item-test.false c.loop-item.invariant
+
+pub all_arguments-loop-item-init : goal.all_arguments-loop-item-init
+all_arguments-loop-item-init t c =
+    ap (λ (z : spec.Arguments). through (behind z c.args.scope.now) (map typed c.args.items.now)) c.no_arguments-all.ensures
+
+pub all_arguments-loop-item-preserved : goal.all_arguments-loop-item-preserved
+all_arguments-loop-item-preserved t c =
+    parts.goes-on (λ (ys : List Expr) (z : Through). through z (map typed ys)) {step = (λ (e : Expr) (z : Through). through_one z (typed e z.after))} (λ _ _ _. refl) c.args.items.now
+    c.loop-item.item-index c.item-item.result c.get.result.now (behind c.loop-item.all c.loop-item.scope) (behind c.in_ok-all.all c.typed.new.scope) c.loop-item-test.true c.item-item.is
+    c.get.ensures (says.one-argument c.loop-item.scope c.typed.new.scope c.in_ok-x.x c.in_ok-x-2.x c.get.result.now c.loop-item.all c.in_ok-all.all c.in_ok-x.ensures c.in_ok-x-2.ensures c.in_ok-all.ensures) c.loop-item.invariant
+
+pub all_arguments-returns : goal.all_arguments-returns
+all_arguments-returns t c =
+    parts.ends (λ (ys : List Expr) (z : Through). through z (map typed ys)) c.args.items.now c.loop-item.item-index (behind c.loop-item.all c.loop-item.scope) refl c.loop-item-test.false c.loop-item.invariant

@@ -11,7 +11,7 @@ use Rattle.c_says.specs.Trees.{
   parameter_says,
 }
 use Rattle.c_declares.specs.Views.{said_in, laid_in, counting_in, listed_in}
-use Rattle.c_typing.specs.Behind.{behind}
+use Rattle.c_typing.specs.Parts.{behind}
 use Rattle.c_typing.proofs.trees.+typing.Given as goal
 
 abbrev pub invariant-all_arguments-loop-item : goal.invariant-all_arguments-loop-item
@@ -27,7 +27,7 @@ invariant-all_specifiers-loop-item l =
 abbrev pub invariant-all_members-loop-item : goal.invariant-all_members-loop-item
 invariant-all_members-loop-item l =
     in_order (map member_says (drop l.item-index l.items)) (laid_in l.laid l.scope) ≡ in_order (map member_says l.items)
-    (none_laid (form_of l.kind) l.fn.faults l.fn.scope)
+    (none_laid (form_of l.fn.kind) l.fn.faults l.fn.scope)
 
 abbrev pub invariant-all_fields-loop-item : goal.invariant-all_fields-loop-item
 invariant-all_fields-loop-item l =
