@@ -11,7 +11,10 @@ mod turning;
 mod values;
 
 pub use calling::call;
-pub use primary::{character_constant, floating_constant, identifier, integer_constant};
+pub use primary::{
+    character_constant, floating_constant, function_name, identifier, integer_constant,
+    string_literal,
+};
 pub use told::{
     arrow, assignment, binary, cast, choice, comma, joined, member, node, operand, postfix,
     refused, size_of_expression, size_of_type, subscript, typeless, unary, used,
