@@ -217,6 +217,7 @@ pub(crate) fn comma(
     forms::comma(at, x, y)
 }
 
+/// Adjacent string literals. It fails for want of memory alone.
 pub(crate) fn string_literal(
     alloc: Global,
     scope: &Scope,
@@ -225,11 +226,12 @@ pub(crate) fn string_literal(
 ) -> Result<Told, AllocError>
     ensures { IfOk result (λ z. z ≡ spec.node at (spec.literal_shown scope.now.tables pieces.now) []) }
 {
-    Err(AllocError)
+    forms::string_literal(alloc, scope.tables(), at, pieces)
 }
 
+/// `__func__`, in the body of a function or outside of any. It fails for want of memory alone.
 pub(crate) fn function_name(alloc: Global, scope: &Scope, at: u32) -> Result<Told, AllocError>
     ensures { IfOk result (λ z. spec.typed_in z scope.now ≡ spec.function_name at scope.now.function scope.now) }
 {
-    Err(AllocError)
+    forms::function_name(alloc, scope.tables(), at, scope.function())
 }

@@ -222,7 +222,8 @@ fn specifier(
         } => {
             let begun = said.begin_members(alloc, *at, *kind, tag, scope)?;
             let laid = all_members(alloc, members.as_slice(), *kind, begun.faults, scope)?;
-            said.end_members(alloc, *kind, begun.number, laid, scope)
+            said.end_members(alloc, *kind, begun.number, laid, scope);
+            Ok(())
         }
         Specifier::EnumTag { at, tag } => said.add_enumeration_tag(alloc, *at, tag, scope),
         Specifier::Enumeration {
@@ -233,7 +234,8 @@ fn specifier(
         } => {
             let begun = said.begin_enumerators(alloc, *at, tag, scope)?;
             let counting = all_enumerators(alloc, enumerators.as_slice(), begun.faults, scope)?;
-            said.end_enumerators(alloc, begun.number, counting, scope)
+            said.end_enumerators(alloc, begun.number, counting, scope);
+            Ok(())
         }
     }
 }
@@ -329,7 +331,7 @@ fn bits_declarator(
         None => laid.add_unnamed_bits(),
         Some(inner) => {
             let formed = declarator(alloc, inner.get(), scope)?;
-            laid.add_bits(alloc, formed)
+            laid.add_bits(formed)
         }
     }
 }

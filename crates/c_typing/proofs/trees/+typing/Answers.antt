@@ -310,22 +310,22 @@ specifier-returns-in-EnumTag t c =
 pub specifier-returns-in_ok-laid-in-Aggregate : goal.specifier-returns-in_ok-laid-in-Aggregate
 specifier-returns-in_ok-laid-in-Aggregate t c =
     let n = c.in_ok-begun-in-Aggregate.begun in
-    on_ok_weaker c.end_members.result (parts.on-Aggregate _ c.in-Aggregate.kind _ _ c.args.scope.now c.begin_members.new.scope
+    parts.on-Aggregate _ c.in-Aggregate.kind _ _ c.args.scope.now c.begin_members.new.scope
     c.all_members.new.scope c.end_members.new.scope c.args.said.now c.begin_members.new.self c.end_members.new.self n
     c.in_ok-laid-in-Aggregate.laid c.in-Aggregate.is c.in_ok-begun-in-Aggregate.ensures.begun
     c.in_ok-begun-in-Aggregate.ensures.said
     (parts.of-members (none_laid (form_of c.in-Aggregate.kind) n.faults c.begin_members.new.scope)
-    c.in_ok-laid-in-Aggregate.ensures c.as_slice.ensures)) c.end_members.ensures
+    c.in_ok-laid-in-Aggregate.ensures c.as_slice.ensures) c.end_members.ensures
 
 pub specifier-returns-in_ok-counting-in-Enumeration : goal.specifier-returns-in_ok-counting-in-Enumeration
 specifier-returns-in_ok-counting-in-Enumeration t c =
     let n = c.in_ok-begun-in-Enumeration.begun in
-    on_ok_weaker c.end_enumerators.result (parts.on-Enumeration _ _ _ _ c.args.scope.now c.begin_enumerators.new.scope
+    parts.on-Enumeration _ _ _ _ c.args.scope.now c.begin_enumerators.new.scope
     c.all_enumerators.new.scope c.end_enumerators.new.scope c.args.said.now c.begin_enumerators.new.self
     c.end_enumerators.new.self n c.in_ok-counting-in-Enumeration.counting c.in-Enumeration.is
     c.in_ok-begun-in-Enumeration.ensures.begun c.in_ok-begun-in-Enumeration.ensures.said
     (parts.of-enumerators (record { next = Some (pos 0); faults = n.faults; scope = c.begin_enumerators.new.scope })
-    c.in_ok-counting-in-Enumeration.ensures c.as_slice-in-Enumeration.ensures)) c.end_enumerators.ensures
+    c.in_ok-counting-in-Enumeration.ensures c.as_slice-in-Enumeration.ensures) c.end_enumerators.ensures
 
 pub all_specifiers-loop-item-init : goal.all_specifiers-loop-item-init
 all_specifiers-loop-item-init t c =
