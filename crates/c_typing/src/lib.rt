@@ -7,3 +7,6 @@ mod forms;
 mod trees;
 
 pub use trees::{declarator, specifiers, type_name, typed};
+
+#[cfg(test)]
+mod tests;

@@ -95,9 +95,9 @@ pub fn typed(alloc: Global, expr: &Expr, scope: &mut Scope) -> Result<Told, Allo
             type_name: name,
             operand,
         } => {
-            let t = type_name(alloc, name.get(), scope)?;
+            let to = type_name(alloc, name.get(), scope)?;
             let x = typed(alloc, operand.get(), scope)?;
-            forms::cast(alloc, scope, *at, t, x)
+            forms::cast(alloc, scope, *at, to, x)
         }
         Expr::Binary {
             at,

@@ -121,8 +121,8 @@ typed-returns-in_ok-t-in-SizeofType t c =
 pub typed-returns-in_ok-x-in-Cast : goal.typed-returns-in_ok-x-in-Cast
 typed-returns-in_ok-x-in-Cast t c =
     IfOk-weaker c.cast.result _ _ (λ z said. says.on-Cast _ _ _ c.args.scope.now c.type_name-in-Cast.new.scope
-    c.typed-in-Cast.new.scope c.in_ok-t-in-Cast.t c.in_ok-x-in-Cast.x z c.in-Cast.is
-    (says.of-name c.args.scope.now c.in_ok-t-in-Cast.ensures c.get-in-Cast.ensures)
+    c.typed-in-Cast.new.scope c.in_ok-to-in-Cast.to c.in_ok-x-in-Cast.x z c.in-Cast.is
+    (says.of-name c.args.scope.now c.in_ok-to-in-Cast.ensures c.get-in-Cast.ensures)
     (says.of-child c.type_name-in-Cast.new.scope c.in_ok-x-in-Cast.ensures c.get-in-Cast-2.ensures) said)
     c.cast.ensures
 
