@@ -322,7 +322,7 @@ module _ {A R W : Type 0} (g : List A → R → W) where
       g (drop i xs) a ≡ w → g (drop (i + 1) xs) b ≡ w
   goes-on {step} steps xs i x y a b within is same said whole =
       let cut : drop i xs ≡ x ∷ drop (i + 1) xs = drop-cons xs i x within
-          ∙ ap (λ (z : A). z ∷ drop (suc i) xs) (sym is) ∙ ap (λ (k : ℕ). x ∷ drop k xs) (sym (add-one i)) in
+      ∙ ap (λ (z : A). z ∷ drop (suc i) xs) (sym is) ∙ ap (λ (k : ℕ). x ∷ drop k xs) (sym (add-one i)) in
       ap (g (drop (i + 1) xs)) (said ∙ ap (λ (z : A). step z a) same) ∙ sym (steps x (drop (i + 1) xs) a)
       ∙ ap (λ (z : List A). g z a) (sym cut) ∙ whole
 

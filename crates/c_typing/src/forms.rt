@@ -4,8 +4,8 @@ ghost use Rattle.c_says.specs.Typing as spec;
 ghost use Rattle.c_says.specs.Scopes as scopes;
 
 use crate::arguments::Arguments;
-use c_declares::TypeSaid;
 use bit_words::Bytes;
+use c_declares::TypeSaid;
 use c_lexer::Name;
 use c_says::{Shown, Told};
 use c_tree::{BinaryOperator, UnaryOperator};

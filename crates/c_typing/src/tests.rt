@@ -104,9 +104,7 @@ fn a_tag_of_the_left_operand_is_in_force_in_the_right_one(rt: HostRuntime) -> Re
 }
 
 #[test]
-fn a_tag_of_the_right_operand_is_not_in_force_in_the_left_one(
-    rt: HostRuntime,
-) -> Result<(), Fail> {
+fn a_tag_of_the_right_operand_is_not_in_force_in_the_left_one(rt: HostRuntime) -> Result<(), Fail> {
     let alloc = rt.alloc();
     let told = typed(alloc, &sum(alloc, false)?, &mut Scope::new(alloc))?;
     let fault = Fault {
@@ -143,7 +141,10 @@ fn parts_of_declarations_are_typed(rt: HostRuntime) -> Result<(), Fail> {
         Some(derivations) => derivations,
         None => Items::new(alloc),
     };
-    assert_eq!(rt; derivations.as_slice(), [Derivation::Array(Some(3))].as_slice());
+    assert_eq!(rt;
+        derivations.as_slice(),
+        [Derivation::Array(Some(3))].as_slice()
+    );
     let structure = type_name(alloc, &type_of_structure(alloc, true)?, &mut scope)?;
     assert_eq!(rt; structure.faults.len(), 0);
     assert!(rt; structure.ctype.is_some());
