@@ -237,9 +237,13 @@ fills_part x p frames y = record y {
   scope = x.after;
 }
 
--- more expressions than parts (C99 6.7.8p2)
+-- more expressions than parts (C99 6.7.8p2): no object is left
 abbrev pub is_surplus : Typed → Fills
-is_surplus x y = record y { faults = y.faults ++ x.faults ++ fault_at x.at rule.TypeMismatch; scope = x.after }
+is_surplus x y = record y {
+  frames = [];
+  faults = y.faults ++ x.faults ++ fault_at x.at rule.TypeMismatch;
+  scope = x.after;
+}
 
 abbrev pub is_scalar_part : CType → Bool
 is_scalar_part t = not (is_array t) && no_number (aggregate_of t)
@@ -248,16 +252,24 @@ is_scalar_part t = not (is_array t) && no_number (aggregate_of t)
     no_number None = true
     no_number (Some n) = false
 
+-- a part, and the frames behind it
+abbrev pub Found : Type 0
+Found = Option (Part × List Frame)
+
 -- the first part of a part, and of that, down to one that the expression initialises as a whole (C99 6.7.8p20)
-abbrev pub descends : ℕ → Tables → Typed → List Frame → Fills
-descends levels tables x [] y = is_surplus x y
-descends zero tables x (f ∷ fs) y = is_surplus x y
-descends (suc levels) tables x (f ∷ fs) y =
+abbrev pub descends : ℕ → Tables → Typed → List Frame → Found
+descends levels tables x [] = None
+descends zero tables x (f ∷ fs) = None
+descends (suc levels) tables x (f ∷ fs) =
     let p = part_at tables f.whole f.next in
-    elim (is_scalar_part p.type || is_whole_of p.type x) as (λ _. Filling) [
-      | true ↦ fills_part x p (stepped f ∷ fs) y
-      | false ↦ descends levels tables x (with_part_left tables (started p ∷ stepped f ∷ fs)) y
+    elim (is_scalar_part p.type || is_whole_of p.type x) as (λ _. Found) [
+      | true ↦ Some (p, stepped f ∷ fs)
+      | false ↦ descends levels tables x (with_part_left tables (started p ∷ stepped f ∷ fs))
     ]
+
+abbrev pub fills_found : Typed → Found → Fills
+fills_found x None y = is_surplus x y
+fills_found x (Some (p, frames)) y = fills_part x p frames y
 
 -- no type has more levels than the longest source has bytes
 abbrev pub most_levels : ℕ
@@ -276,7 +288,7 @@ braced_text (f ∷ fs) x y = record (fills_part x f.whole (record f { next = len
 abbrev pub fills_value : Typed → Fills
 fills_value x y =
     cond (is_braced_text y.frames x) (braced_text y.frames x y)
-    (descends most_levels x.after.tables x (with_part_left x.after.tables y.frames) y)
+    (fills_found x (descends most_levels x.after.tables x (with_part_left x.after.tables y.frames)) y)
 
 -- ---- a list in braces
 
@@ -389,7 +401,8 @@ value_says typed e = record {
 abbrev pub list_says : ℕ → List Fills → InitialSaid
 list_says at fs = record {
   fills = λ y. fills_list at fs (with_part_left y.scope.tables y.frames) y;
-  alone = λ p y. list_alone fs p y }
+  alone = λ p y. list_alone fs p y;
+}
 
 abbrev pub item_says : {E : Type 0} → (E → Scope → Typed) → List (Designates E) → InitialSaid → Fills
 item_says typed ds x y = x.fills (designated_by typed ds y)

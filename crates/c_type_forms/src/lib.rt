@@ -10,9 +10,12 @@ mod told;
 mod turning;
 mod values;
 
-pub use calling::call;
+pub use assigning::{is_assignable, same_aggregate};
+pub use calling::{call, one_fault};
 pub use primary::{character_constant, floating_constant, identifier, integer_constant};
 pub use told::{
     arrow, assignment, binary, cast, choice, comma, joined, member, node, operand, postfix,
-    refused, size_of_expression, size_of_type, subscript, typeless, unary, used,
+    is_floating, refused, size_of_expression, size_of_type, subscript, typeless, unary, used,
 };
+pub use turning::{is_array, is_function, is_void};
+pub use values::has_size;

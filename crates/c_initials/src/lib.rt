@@ -1,0 +1,10 @@
+//! What initializers say (C99 6.7.8): which part of an object each expression initialises, the length that an array of
+//! unknown length gets, and the rules that are broken; exactly the definitions of `c_says`.
+#![tactic(auto)]
+
+mod frames;
+mod parts;
+mod values;
+
+pub use frames::{Frame, Frames};
+pub use parts::Part;
