@@ -3,6 +3,7 @@
 
 mod names;
 mod scope;
+mod tables;
 
 pub use names::{HasName, Named};
 pub use scope::{Block, Scope};

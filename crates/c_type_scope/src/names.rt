@@ -1,6 +1,6 @@
 //! Lists of what has a name, in which the last of a name is found without walking them.
 
-ghost use Rattle.std.specs.Prelude.{◌≡◌, ℕ, List, [], ◌∷◌, ◌++◌, None, OnOk};
+ghost use Rattle.std.specs.Prelude.{◌≡◌, ℕ, List, [], ◌∷◌, ◌++◌, None, IfOk, OnOk};
 ghost use Rattle.std.specs.Option.{option_copied};
 ghost use Rattle.std.specs.Str.{bytes_eq};
 ghost use Rattle.c_says.specs.Scopes.{last_where};
@@ -85,6 +85,17 @@ impl<T: HasName + Drop> Named<T> {
         ensures { option_copied result ≡ last_where (λ x. bytes_eq (T.name_of x) name.now) None self.now }
     {
         self.last.get(name)
+    }
+
+    /// The same values, which are shared. It fails for want of memory alone.
+    pub fn duplicate(&self, alloc: Global) -> Result<Named<T>, AllocError>
+        ensures { IfOk result (λ copy. copy ≡ self.now) }
+    {
+        let mut copy = Named::new(alloc);
+        for item in &self.items {
+            copy.push(item.clone()?)?;
+        }
+        Ok(copy)
     }
 
     /// Puts a value at the end. It fails for want of memory alone, and then changes nothing.

@@ -1,6 +1,6 @@
 //! The names in force (C99 6.2.1 to 6.2.4).
 
-ghost use Rattle.std.specs.Prelude.{◌≡◌, reverse, OnOk};
+ghost use Rattle.std.specs.Prelude.{◌≡◌, reverse, IfOk, OnOk};
 ghost use Rattle.std.specs.Option.{option_copied};
 ghost use Rattle.c_says.specs.Scopes as spec;
 
@@ -65,6 +65,16 @@ impl Block {
     {
         self.tags.push(tag)
     }
+
+    /// A block of the same declarations. It fails for want of memory alone.
+    pub fn duplicate(&self, alloc: Global) -> Result<Block, AllocError>
+        ensures { IfOk result (λ block. block ≡ self.now) }
+    {
+        Ok(Block {
+            entries: self.entries.duplicate(alloc)?,
+            tags: self.tags.duplicate(alloc)?,
+        })
+    }
 }
 
 #[tactic(auto, using(crate::proofs::ByBytes::reverse_snoc))]
@@ -111,7 +121,7 @@ pub struct Scope {
     blocks: Vec<Block>,
     linked: Named<Linked>,
     function: Option<Name>,
-    tables: Tables,
+    pub(crate) tables: Tables,
 }
 
 impl Model for Scope {
@@ -164,11 +174,65 @@ impl Scope {
         Ok(())
     }
 
+    /// Opens a block that declares something. It fails for want of memory alone.
+    pub fn enter_with(&mut self, block: Block) -> Result<(), AllocError>
+        ensures { OnOk result (self.new ≡ spec.enter_with block self.old) }
+    {
+        self.blocks.push(block)?;
+        Ok(())
+    }
+
     /// Leaves the innermost block, where one is open. It takes no memory.
     pub fn leave(&mut self)
         ensures { self.new ≡ spec.leave self.old }
     {
         let _ = self.blocks.pop();
+    }
+
+    /// Leaves the innermost block, and answers what it declares; where none is open, what the file declares. It fails for
+    /// want of memory alone, and takes none where a block is open.
+    pub fn leave_with(&mut self) -> Result<Block, AllocError>
+        ensures block { IfOk result (λ block. block ≡ spec.innermost self.old) }
+        ensures scope { OnOk result (self.new ≡ spec.leave self.old) }
+    {
+        match self.blocks.pop() {
+            Some(block) => Ok(block),
+            None => self.file.duplicate(self.alloc),
+        }
+    }
+
+    /// Declares an ordinary name in the innermost block, or in the file where no block is open. It fails for want of memory
+    /// alone.
+    pub fn declare_entry(&mut self, entry: Shared<Entry>) -> Result<(), AllocError>
+        ensures { OnOk result (self.new ≡ spec.with_innermost (spec.with_entry entry (spec.innermost self.old)) self.old) }
+    {
+        let count = self.blocks.len();
+        if count == 0 {
+            return self.file.add_entry(entry);
+        }
+        let block = &mut self.blocks[count - 1];
+        block.add_entry(entry)?;
+        Ok(())
+    }
+
+    /// Declares a tag in the innermost block, or in the file where no block is open. It fails for want of memory alone.
+    pub fn declare_tag(&mut self, tag: Shared<Tag>) -> Result<(), AllocError>
+        ensures { OnOk result (self.new ≡ spec.with_innermost (spec.with_tag_entry tag (spec.innermost self.old)) self.old) }
+    {
+        let count = self.blocks.len();
+        if count == 0 {
+            return self.file.add_tag(tag);
+        }
+        let block = &mut self.blocks[count - 1];
+        block.add_tag(tag)?;
+        Ok(())
+    }
+
+    /// Whether no block is open.
+    pub fn in_file(&self) -> bool
+        ensures { result ≡ spec.in_file self.now }
+    {
+        self.blocks.is_empty()
     }
 
     /// The tag that is in force.
@@ -204,5 +268,19 @@ impl Scope {
         ensures { OnOk result (self.new ≡ spec.with_linked linked.at linked.name linked.linkage linked.is_defined self.old) }
     {
         self.linked.push(linked)
+    }
+
+    /// The name of the function whose body this is in.
+    pub fn function(&self) -> &Option<Name>
+        ensures { result.now ≡ self.now.function }
+    {
+        &self.function
+    }
+
+    /// Goes into the body of a function of this name, or out of any.
+    pub fn set_function(&mut self, name: Option<Name>)
+        ensures { self.new ≡ record self.old { function = name } }
+    {
+        self.function = name;
     }
 }

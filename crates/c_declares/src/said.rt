@@ -1,0 +1,134 @@
+//! What declaration specifiers say (C99 6.7), each behind what was said before it.
+
+ghost use Rattle.std.specs.Prelude.{◌≡◌, ◌++◌, [], ◌∷◌, true, false, IfOk, OnOk};
+ghost use Rattle.c_type_terms.specs.Types.{unqualified, with_both};
+ghost use Rattle.c_says.specs.Scopes as scopes;
+ghost use Rattle.c_says.specs.Declares as spec;
+ghost use Rattle.c_declares.specs.Views.{said_in};
+
+use c_lexer::Name;
+use c_says::Fault;
+use c_tree::{Qualifier, StorageClass, TypeWord};
+use c_type_scope::Scope;
+use c_type_terms::{CType, Qualifiers};
+use plain_data::Items;
+use std::alloc::{AllocError, Global};
+
+/// What specifiers say, apart from the scope behind them. `alone` tells that no declarator follows, `start` is the byte
+/// offset of the first one. `whole` is the type that a tag or a typedef name says: `Some(None)` where a part breaks a
+/// rule.
+#[derive(Drop)]
+pub struct Said {
+    pub alone: bool,
+    pub start: Option<u32>,
+    pub storage: Option<StorageClass>,
+    pub is_inline: bool,
+    pub qualifiers: Qualifiers,
+    pub words: Items<TypeWord>,
+    pub whole: Option<Option<CType>>,
+    pub faults: Items<Fault>,
+}
+
+impl Said {
+    /// Nothing said yet, behind some faults. It takes no memory.
+    pub fn new(alloc: Global, alone: bool, faults: Items<Fault>) -> Said
+        ensures { result ≡ record { alone = alone; start = None; storage = None; is_inline = false; qualifiers = unqualified; words = []; whole = None; faults = faults } }
+    {
+        Said {
+            alone,
+            start: None,
+            storage: None,
+            is_inline: false,
+            qualifiers: Qualifiers::NONE,
+            words: Items::new(alloc),
+            whole: None,
+            faults,
+        }
+    }
+
+    /// A storage-class specifier (C99 6.7.1).
+    pub fn add_storage(&mut self, at: u32, class: StorageClass)
+        ensures { self.new ≡ record self.old { start = spec.started_at self.old.start at; storage = Some class } }
+    {
+        self.start_at(at);
+        self.storage = Some(class);
+    }
+
+    /// A type qualifier (C99 6.7.3).
+    pub fn add_qualifier(&mut self, at: u32, qualifier: Qualifier)
+        ensures { self.new ≡ record self.old { start = spec.started_at self.old.start at; qualifiers = with_both self.old.qualifiers (spec.of_qualifier qualifier) } }
+    {
+        self.start_at(at);
+        self.qualifiers = self.qualifiers.with(of_qualifier(qualifier));
+    }
+
+    /// The function specifier `inline` (C99 6.7.4).
+    pub fn add_inline(&mut self, at: u32)
+        ensures { self.new ≡ record self.old { start = spec.started_at self.old.start at; is_inline = true } }
+    {
+        self.start_at(at);
+        self.is_inline = true;
+    }
+
+    /// A type specifier that is a word (C99 6.7.2). It fails for want of memory alone.
+    pub fn add_word(&mut self, at: u32, word: TypeWord) -> Result<(), AllocError>
+        ensures { OnOk result (self.new ≡ record self.old { start = spec.started_at self.old.start at; words = self.old.words ++ word ∷ [] }) }
+    {
+        self.words.push(word)?;
+        self.start_at(at);
+        Ok(())
+    }
+
+    /// A typedef name (C99 6.7.7), by its declaration in force. It fails for want of memory alone.
+    pub fn add_typedef_name(
+        &mut self,
+        alloc: Global,
+        at: u32,
+        name: &Name,
+        scope: &Scope,
+    ) -> Result<(), AllocError>
+        ensures { OnOk result (said_in self.new scope.now ≡ spec.typedef_in at (scopes.look_up scope.now name.now) (spec.started at (said_in self.old scope.now))) }
+    {
+        Err(AllocError)
+    }
+
+    /// The type that all specifiers specify, with its qualifiers (C99 6.7.3p3): none where a part breaks a rule. It fails
+    /// for want of memory alone.
+    pub fn specified(&self, alloc: Global) -> Result<Option<CType>, AllocError>
+        ensures { (scope : scopes.Scope) → IfOk result (λ t. t ≡ spec.specified (said_in self.now scope)) }
+    {
+        Err(AllocError)
+    }
+
+    pub(crate) fn start_at(&mut self, at: u32)
+        ensures { self.new ≡ record self.old { start = spec.started_at self.old.start at } }
+    {
+        self.start = match self.start {
+            Some(start) => Some(start),
+            None => Some(at),
+        };
+    }
+}
+
+/// The qualifiers that one word says.
+pub(crate) fn of_qualifier(qualifier: Qualifier) -> Qualifiers
+    ensures { result ≡ spec.of_qualifier qualifier }
+{
+    match qualifier {
+        Qualifier::Const => Qualifiers {
+            is_const: true,
+            is_volatile: false,
+            is_restrict: false,
+        },
+        Qualifier::Restrict => Qualifiers {
+            is_const: false,
+            is_volatile: false,
+            is_restrict: true,
+        },
+        Qualifier::Volatile => Qualifiers {
+            is_const: false,
+            is_volatile: true,
+            is_restrict: false,
+        },
+    }
+}
