@@ -1,8 +1,10 @@
 -- What the code holds of a list in braces (C99 6.7.8): all but the scope behind it.
-use Rattle.std.specs.Prelude.{ℕ, List}
+use Rattle.std.specs.Prelude.{ℕ, Bool, true, false, not, ◌||◌, List, [], ◌∷◌, Option, Some, None, Result, Ok, Err}
+use Rattle.c_type_terms.specs.declared.tables.Tables.{Tables}
 use Rattle.c_says.specs.declared.scope.Fault.{Fault}
 use Rattle.c_says.specs.Scopes.{Scope}
-use Rattle.c_says.specs.Initials.{Part, Frame, Filling}
+use Rattle.c_says.specs.Typing.{Typed}
+use Rattle.c_says.specs.Initials.{Part, Frame, Filling, has_part, part_at, is_scalar_part, is_whole_of, stepped, started}
 
 pub record Filled : Type 0 where
   pub frames : List Frame
@@ -13,3 +15,27 @@ pub record Filled : Type 0 where
 -- in front of a scope
 abbrev pub filling_in : Filled → Scope → Filling
 filling_in x s = record { frames = x.frames; high = x.high; parts = x.parts; faults = x.faults; scope = s }
+
+abbrev pub innermost : List Frame → Option Frame
+innermost [] = None
+innermost (f ∷ fs) = Some f
+
+-- whether the innermost frame has no part left
+abbrev pub full : Tables → List Frame → Bool
+full tables [] = false
+full tables (f ∷ fs) = not (has_part tables f.whole.type f.next)
+
+-- the frame of the braces' object, where it is the only one
+abbrev pub only : List Frame → Option Frame
+only [] = None
+only (f ∷ []) = Some f
+only (f ∷ g ∷ fs) = None
+
+-- one step down: the next part of a frame, where an expression initialises it, or the frames within that part
+abbrev pub descent : Tables → Typed → Frame → List Frame → Result (Part × List Frame) (List Frame)
+descent tables x f fs =
+    let p = part_at tables f.whole f.next in
+    elim (is_scalar_part p.type || is_whole_of p.type x) as (λ _. Result (Part × List Frame) (List Frame)) [
+      | true ↦ Ok (p, stepped f ∷ fs)
+      | false ↦ Err (started p ∷ stepped f ∷ fs)
+    ]

@@ -1,8 +1,9 @@
 //! Where a list in braces has come to (C99 6.7.8p17, p20).
 
-ghost use Rattle.std.specs.Prelude.{◌≡◌, [], ◌∷◌, IfOk, MatchOption, slice_get};
+ghost use Rattle.std.specs.Prelude.{◌≡◌, [], ◌∷◌, IfOk, MatchOption};
 ghost use Rattle.std.specs.Option.{option_copied};
 ghost use Rattle.c_says.specs.Initials as spec;
+ghost use Rattle.c_initials.specs.Filled.{innermost, only, full};
 
 use crate::parts::{Part, has_part};
 use c_type_terms::Tables;
@@ -91,8 +92,62 @@ impl Frames {
     /// The innermost frame.
     #[tactic(auto, using(crate::proofs::Reversed::reverse_snoc))]
     pub fn innermost(&self) -> Option<&Frame>
-        ensures { MatchOption result (self.now ≡ []) (λ frame. slice_get self.now 0 ≡ Some frame.now) }
+        ensures { option_copied result ≡ innermost self.now }
     {
-        self.items.last()
+        match self.items.as_slice().split_last() {
+            Some((frame, _)) => Some(frame),
+            None => None,
+        }
+    }
+
+    /// The only frame, where there is one alone.
+    #[tactic(auto, using(crate::proofs::Reversed::only_one, crate::proofs::Reversed::only_none))]
+    pub fn only(&self) -> Option<&Frame>
+        ensures { option_copied result ≡ only self.now }
+    {
+        match self.items.as_slice().split_first() {
+            Some((frame, rest)) if rest.is_empty() => Some(frame),
+            _ => None,
+        }
+    }
+
+    /// Keeps the frame of the braces' object alone.
+    #[tactic(auto, using(crate::proofs::Reversed::outermost_kept))]
+    pub fn keep_outermost(&mut self)
+        ensures { self.new ≡ spec.outermost self.old }
+    {
+        self.items.truncate(1);
+    }
+
+    /// How many parts of the braces' object were met, where so many were before.
+    #[tactic(auto, using(crate::proofs::Reversed::high_first))]
+    pub fn high(&self, before: u64) -> u64
+        ensures { result ≡ spec.high_of before self.now }
+    {
+        match self.items.as_slice().split_first() {
+            Some((frame, _)) => before.max(frame.next),
+            None => before,
+        }
+    }
+
+    fn is_full(&self, tables: &Tables) -> bool
+        ensures { result ≡ full tables.now self.now }
+    {
+        match self.innermost() {
+            Some(frame) => !has_part(tables, frame.whole.get().ctype.get(), frame.next),
+            None => false,
+        }
+    }
+
+    /// Leaves the frames without a part left.
+    #[tactic(auto, using(crate::proofs::Reversed::left_further, crate::proofs::Reversed::left_here))]
+    pub fn with_part_left(self, tables: &Tables) -> Frames
+        ensures { result ≡ spec.with_part_left tables.now self }
+    {
+        let mut frames = self;
+        'frames: while frames.is_full(tables) {
+            let _ = frames.pop();
+        }
+        frames
     }
 }

@@ -2,9 +2,11 @@
 //! unknown length gets, and the rules that are broken; exactly the definitions of `c_says`.
 #![tactic(auto)]
 
+mod filling;
 mod frames;
 mod parts;
 mod values;
 
+pub use filling::{Filling, fills_value};
 pub use frames::{Frame, Frames};
 pub use parts::Part;
