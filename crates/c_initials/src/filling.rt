@@ -1,8 +1,9 @@
 //! One expression of a list in braces (C99 6.7.8p13, p14, p17, p20).
 
-ghost use Rattle.std.specs.Prelude.{◌≡◌, ◌||◌, [], ◌∷◌, IfOk};
+ghost use Rattle.std.specs.Prelude.{◌≡◌, ◌||◌, [], ◌∷◌, ◌++◌, IfOk};
 ghost use Rattle.c_says.specs.Scopes as scopes;
-ghost use Rattle.c_says.specs.Typing.{typed_in};
+ghost use Rattle.c_says.specs.Typing.{fault_at, typed_in};
+ghost use Rattle.c_says.specs.declared.scope.Rule.TheVariants as rule;
 ghost use Rattle.c_says.specs.Initials as spec;
 ghost use Rattle.c_initials.specs.Filled.{filling_in, descent};
 
@@ -11,7 +12,6 @@ use crate::parts::{Part, part_at};
 use crate::values::{is_scalar_part, is_text_of, is_whole_of, length_of, part_faults};
 use c_says::{Fault, Rule, Told};
 use c_type_scope::Scope;
-use c_type_terms::Tables;
 use plain_data::{Items, Shared};
 use std::alloc::{AllocError, Global};
 use std::marker::Model;
@@ -80,7 +80,7 @@ pub(crate) fn fills_part(
     part: Shared<Part>,
     filling: Filling,
 ) -> Result<Filling, AllocError>
-    ensures { (before : scopes.Scope) → IfOk result (λ z. filling_in z scope.now ≡ spec.fills_part (typed_in told scope.now) part filling.frames (filling_in filling before)) }
+    ensures { IfOk result (λ z. filling_in z scope.now ≡ spec.fills_part (typed_in told scope.now) part filling.frames (filling_in filling scopes.empty)) }
 {
     let faults = part_faults(alloc, scope, part.get().ctype.get(), told)?;
     let mut filling = filling;
@@ -92,7 +92,7 @@ pub(crate) fn fills_part(
 
 /// More expressions than parts (C99 6.7.8p2). It fails for want of memory alone.
 fn surplus(alloc: Global, told: Told, filling: Filling) -> Result<Filling, AllocError>
-    ensures { (scope : scopes.Scope) (before : scopes.Scope) → IfOk result (λ z. filling_in z scope ≡ spec.is_surplus (typed_in told scope) (filling_in filling before)) }
+    ensures { IfOk result (λ z. z ≡ record filling { frames = []; faults = filling.faults ++ told.faults ++ fault_at told.at rule.TypeMismatch }) }
 {
     let mut filling = filling;
     filling.frames = Frames::new(alloc);
@@ -105,7 +105,7 @@ fn surplus(alloc: Global, told: Told, filling: Filling) -> Result<Filling, Alloc
 }
 
 fn is_filled(alloc: Global, part: &Part, told: &Told) -> Result<bool, AllocError>
-    ensures { (scope : scopes.Scope) → IfOk result (λ b. b ≡ (spec.is_scalar_part part.now.type || spec.is_whole_of part.now.type (typed_in told.now scope))) }
+    ensures { IfOk result (λ b. b ≡ (spec.is_scalar_part part.now.type || spec.is_whole_of part.now.type (typed_in told.now scopes.empty))) }
 {
     if is_scalar_part(part.ctype.get()) {
         Ok(true)
@@ -134,14 +134,14 @@ impl Model for Found {
 /// frame.
 fn descended(
     alloc: Global,
-    tables: &Tables,
+    scope: &Scope,
     told: &Told,
     frame: Frame,
     frames: Frames,
 ) -> Result<Result<Found, Frames>, AllocError>
-    ensures { (scope : scopes.Scope) → IfOk result (λ r. r ≡ descent tables.now (typed_in told.now scope) frame frames) }
+    ensures { IfOk result (λ r. r ≡ descent scope.now.tables (typed_in told.now scope.now) frame frames) }
 {
-    let part = part_at(alloc, tables, &frame.whole, frame.next)?;
+    let part = part_at(alloc, scope.tables(), &frame.whole, frame.next)?;
     let frames = frames.with(frame.stepped())?;
     if is_filled(alloc, part.get(), told)? {
         Ok(Ok(Found { part, frames }))
@@ -153,11 +153,11 @@ fn descended(
 /// The first part of a part, and of that, down to one that the expression initialises as a whole (C99 6.7.8p20).
 fn descends(
     alloc: Global,
-    tables: &Tables,
+    scope: &Scope,
     told: &Told,
     frames: Frames,
 ) -> Result<Option<Found>, AllocError>
-    ensures { (scope : scopes.Scope) → IfOk result (λ found. found ≡ spec.descends spec.most_levels tables.now (typed_in told.now scope) frames) }
+    ensures { IfOk result (λ found. found ≡ spec.descends spec.most_levels scope.now.tables (typed_in told.now scope.now) frames) }
 {
     let mut frames = frames;
     let mut levels = MOST_LEVELS;
@@ -165,9 +165,9 @@ fn descends(
         levels -= 1;
         match frames.pop() {
             None => return Ok(None),
-            Some(frame) => match descended(alloc, tables, told, frame, frames)? {
+            Some(frame) => match descended(alloc, scope, told, frame, frames)? {
                 Ok(found) => return Ok(Some(found)),
-                Err(deeper) => frames = deeper.with_part_left(tables),
+                Err(deeper) => frames = deeper.with_part_left(scope.tables()),
             },
         }
     }
@@ -176,7 +176,7 @@ fn descends(
 
 /// Whether a literal in braces initialises the braces' object itself (C99 6.7.8p14). It fails for want of memory alone.
 fn is_braced_text(alloc: Global, frames: &Frames, told: &Told) -> Result<bool, AllocError>
-    ensures { (scope : scopes.Scope) → IfOk result (λ b. b ≡ spec.is_braced_text frames.now (typed_in told.now scope)) }
+    ensures { IfOk result (λ b. b ≡ spec.is_braced_text frames.now (typed_in told.now scopes.empty)) }
 {
     match frames.only() {
         Some(frame) if frame.next == 0 => is_text_of(alloc, frame.whole.get().ctype.get(), told),
@@ -190,7 +190,7 @@ fn braced_text(
     told: Told,
     filling: Filling,
 ) -> Result<Filling, AllocError>
-    ensures { (before : scopes.Scope) → IfOk result (λ z. filling_in z scope.now ≡ spec.braced_text filling.frames (typed_in told scope.now) (filling_in filling before)) }
+    ensures { IfOk result (λ z. filling_in z scope.now ≡ spec.braced_text filling.frames (typed_in told scope.now) (filling_in filling scopes.empty)) }
 {
     let length = length_of(&told.shown);
     let mut filling = filling;
@@ -215,7 +215,7 @@ fn fills_next(
     told: Told,
     filling: Filling,
 ) -> Result<Filling, AllocError>
-    ensures { (before : scopes.Scope) → IfOk result (λ z. filling_in z scope.now ≡ spec.fills_found (typed_in told scope.now) (spec.descends spec.most_levels scope.now.tables (typed_in told scope.now) (spec.with_part_left scope.now.tables filling.frames)) (filling_in filling before)) }
+    ensures { IfOk result (λ z. filling_in z scope.now ≡ spec.fills_found (typed_in told scope.now) (spec.descends spec.most_levels scope.now.tables (typed_in told scope.now) (spec.with_part_left scope.now.tables filling.frames)) (filling_in filling scopes.empty)) }
 {
     let Filling {
         frames,
@@ -224,7 +224,7 @@ fn fills_next(
         faults,
     } = filling;
     let frames = frames.with_part_left(scope.tables());
-    match descends(alloc, scope.tables(), &told, frames)? {
+    match descends(alloc, scope, &told, frames)? {
         None => surplus(
             alloc,
             told,
@@ -257,7 +257,7 @@ pub fn fills_value(
     told: Told,
     filling: Filling,
 ) -> Result<Filling, AllocError>
-    ensures { (before : scopes.Scope) → IfOk result (λ z. filling_in z scope.now ≡ spec.fills_value (typed_in told scope.now) (filling_in filling before)) }
+    ensures { IfOk result (λ z. filling_in z scope.now ≡ spec.fills_value (typed_in told scope.now) (filling_in filling scopes.empty)) }
 {
     if is_braced_text(alloc, &filling.frames, &told)? {
         braced_text(alloc, scope, told, filling)

@@ -35,7 +35,7 @@ fn is_literal(shown: &Option<Shown>) -> bool
 
 /// Whether a string literal initialises a whole array of characters (C99 6.7.8p14). It fails for want of memory alone.
 pub(crate) fn is_text_of(alloc: Global, ctype: &CType, told: &Told) -> Result<bool, AllocError>
-    ensures { (scope : scopes.Scope) → IfOk result (λ b. b ≡ spec.is_text_of ctype.now (typed_in told.now scope)) }
+    ensures { IfOk result (λ b. b ≡ spec.is_text_of ctype.now (typed_in told.now scopes.empty)) }
 {
     if is_literal(&told.shown) {
         let element = ctype.element(alloc)?;
@@ -57,7 +57,7 @@ fn is_same(ctype: &CType, shown: &Option<Shown>) -> bool
 /// Whether an expression of its structure or union type, or a literal, initialises a whole object (C99 6.7.8p13, p14). It
 /// fails for want of memory alone.
 pub(crate) fn is_whole_of(alloc: Global, ctype: &CType, told: &Told) -> Result<bool, AllocError>
-    ensures { (scope : scopes.Scope) → IfOk result (λ b. b ≡ spec.is_whole_of ctype.now (typed_in told.now scope)) }
+    ensures { IfOk result (λ b. b ≡ spec.is_whole_of ctype.now (typed_in told.now scopes.empty)) }
 {
     let is_text = is_text_of(alloc, ctype, told)?;
     Ok(is_text || is_same(ctype, &told.shown))
@@ -100,7 +100,7 @@ fn text_fits(derivations: &[Derivation], bytes: u64) -> bool
 }
 
 fn text_faults(alloc: Global, ctype: &CType, told: &Told) -> Result<Items<Fault>, AllocError>
-    ensures { (scope : scopes.Scope) → IfOk result (λ faults. faults ≡ spec.text_faults ctype.now (typed_in told.now scope)) }
+    ensures { IfOk result (λ faults. faults ≡ spec.text_faults ctype.now (typed_in told.now scopes.empty)) }
 {
     if text_fits(ctype.derivations.as_slice(), length_of(&told.shown)) {
         Ok(Items::new(alloc))
