@@ -1,2 +1,3 @@
 pub mod Reversed
 pub mod Tabled
+pub mod Descending

@@ -1,10 +1,10 @@
 -- What the code holds of a list in braces (C99 6.7.8): all but the scope behind it.
-use Rattle.std.specs.Prelude.{ℕ, Bool, true, false, not, ◌||◌, List, [], ◌∷◌, Option, Some, None, Result, Ok, Err}
+use Rattle.std.specs.Prelude.{ℕ, nat_lt, ℤ, pos, negsuc, Bool, true, false, cond, not, ◌||◌, List, [], ◌∷◌, Option, Some, None, Result, Ok, Err}
 use Rattle.c_type_terms.specs.declared.tables.Tables.{Tables}
 use Rattle.c_says.specs.declared.scope.Fault.{Fault}
 use Rattle.c_says.specs.Scopes.{Scope}
 use Rattle.c_says.specs.Typing.{Typed}
-use Rattle.c_says.specs.Initials.{Part, Frame, Filling, has_part, part_at, is_scalar_part, is_whole_of, stepped, started}
+use Rattle.c_says.specs.Initials.{Part, Frame, Filling, has_part, part_at, is_scalar_part, is_whole_of, stepped, started, part_count}
 
 pub record Filled : Type 0 where
   pub frames : List Frame
@@ -39,3 +39,9 @@ descent tables x f fs =
       | true ↦ Ok (p, stepped f ∷ fs)
       | false ↦ Err (started p ∷ stepped f ∷ fs)
     ]
+
+-- a number from 0 that is below a length, where one is known
+abbrev pub below : Option ℕ → ℤ → Option ℕ
+below length (negsuc n) = None
+below None (pos n) = Some (part_count n)
+below (Some m) (pos n) = cond (nat_lt n m) (Some (part_count n)) None

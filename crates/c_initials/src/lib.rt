@@ -2,6 +2,7 @@
 //! unknown length gets, and the rules that are broken; exactly the definitions of `c_says`.
 #![tactic(auto)]
 
+mod designators;
 mod filling;
 mod frames;
 mod parts;
