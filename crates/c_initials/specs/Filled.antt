@@ -1,10 +1,12 @@
 -- What the code holds of a list in braces (C99 6.7.8): all but the scope behind it.
 use Rattle.std.specs.Prelude.{ℕ, nat_lt, ℤ, pos, negsuc, Bool, true, false, cond, not, ◌||◌, List, [], ◌∷◌, Option, Some, None, Result, Ok, Err}
+use Rattle.c_type_terms.specs.declared.ctype.Derivation.{Derivation}
+use Rattle.c_type_terms.specs.declared.ctype.Derivation.TheVariants as d
 use Rattle.c_type_terms.specs.declared.tables.Tables.{Tables}
 use Rattle.c_says.specs.declared.scope.Fault.{Fault}
 use Rattle.c_says.specs.Scopes.{Scope}
 use Rattle.c_says.specs.Typing.{Typed}
-use Rattle.c_says.specs.Initials.{Part, Frame, Filling, has_part, part_at, is_scalar_part, is_whole_of, stepped, started, part_count}
+use Rattle.c_says.specs.Initials.{Part, Frame, Filling, Fills, at_number, has_part, part_at, is_scalar_part, is_whole_of, stepped, started, part_count}
 
 pub record Filled : Type 0 where
   pub frames : List Frame
@@ -45,3 +47,17 @@ abbrev pub below : Option ℕ → ℤ → Option ℕ
 below length (negsuc n) = None
 below None (pos n) = Some (part_count n)
 below (Some m) (pos n) = cond (nat_lt n m) (Some (part_count n)) None
+
+-- the number of an element, where the derivations make an array
+abbrev pub element_in : List Derivation → ℤ → Option ℕ
+element_in (d.Array length ∷ ds) z = below length z
+element_in _ z = None
+
+-- nothing met so far
+abbrev pub no_filling : Filled
+no_filling = record { frames = []; high = 0; parts = []; faults = [] }
+
+-- the element of a number is next
+abbrev pub value_next : ℕ → ℤ → List Frame → Fills
+value_next at z [] y = y
+value_next at z (f ∷ fs) y = at_number at (element_in f.whole.type.derivations z) (f ∷ fs) y

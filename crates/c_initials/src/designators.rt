@@ -2,13 +2,12 @@
 
 ghost use Rattle.std.specs.Prelude.{◌≡◌, [], map, IfOk};
 ghost use Rattle.c_tree.specs.declared.expr.Expr.{Expr};
-ghost use Rattle.c_type_terms.specs.declared.tables.Tables.{Tables};
 ghost use Rattle.c_says.specs.Scopes as scopes;
 ghost use Rattle.c_says.specs.Typing as typing;
 ghost use Rattle.c_says.specs.Initials as spec;
 ghost use Rattle.c_says.specs.Trees as trees;
 ghost use Rattle.c_says.specs.Units as units;
-ghost use Rattle.c_initials.specs.Filled.{filling_in, below};
+ghost use Rattle.c_initials.specs.Filled.{filling_in, below, element_in, value_next};
 
 use crate::filling::Filling;
 use crate::frames::{Frame, Frames};
@@ -93,11 +92,13 @@ fn to_member(
 
 /// The number of an element of an array: up to 2^64 - 1 where its length isn't known.
 fn element_number(ctype: &CType, value: i128) -> Option<u64>
-    ensures { (tables : Tables) → result ≡ spec.element_number tables ctype.now (Some value) }
+    ensures { result ≡ element_in ctype.now.derivations value }
 {
     match ctype.derivations.as_slice().split_first() {
         Some((Derivation::Array(length), _)) => number_below(*length, value),
-        _ => None,
+        Some((Derivation::Pointer(_), _)) => None,
+        Some((Derivation::Function(_), _)) => None,
+        None => None,
     }
 }
 
@@ -141,25 +142,39 @@ fn not_constant(alloc: Global, at: u32, shown: &Option<Shown>) -> Result<Items<F
     }
 }
 
+fn to_value(
+    alloc: Global,
+    scope: &Scope,
+    at: u32,
+    value: i128,
+    filling: Filling,
+) -> Result<Filling, AllocError>
+    ensures { IfOk result (λ z. filling_in z scope.now ≡ value_next at value filling.frames (filling_in filling scope.now)) }
+{
+    match filling.frames.innermost() {
+        None => Ok(filling),
+        Some(frame) => {
+            let number = element_number(frame.whole.get().ctype.get(), value);
+            at_number(alloc, at, number, filling)
+        }
+    }
+}
+
+#[tactic(auto, using(crate::proofs::Elements::value_named))]
 fn to_constant(
     alloc: Global,
+    scope: &Scope,
     at: u32,
     shown: &Option<Shown>,
     filling: Filling,
 ) -> Result<Filling, AllocError>
-    ensures { (scope : scopes.Scope) → IfOk result (λ z. filling_in z scope ≡ spec.to_constant at (typing.type_in shown.now) (typing.value_in shown.now) filling.frames (filling_in filling scope)) }
+    ensures { IfOk result (λ z. filling_in z scope.now ≡ spec.to_constant at (typing.type_in shown.now) (typing.value_in shown.now) filling.frames (filling_in filling scope.now)) }
 {
     match shown {
         None => Ok(nowhere(alloc, filling)),
         Some(shown) => match shown.value {
             None => Ok(nowhere(alloc, filling)),
-            Some(value) => match filling.frames.innermost() {
-                None => Ok(filling),
-                Some(frame) => {
-                    let number = element_number(frame.whole.get().ctype.get(), value);
-                    at_number(alloc, at, number, filling)
-                }
-            },
+            Some(value) => to_value(alloc, scope, at, value, filling),
         },
     }
 }
@@ -172,8 +187,14 @@ fn nowhere(alloc: Global, filling: Filling) -> Filling
     filling
 }
 
-fn to_element(alloc: Global, at: u32, told: Told, filling: Filling) -> Result<Filling, AllocError>
-    ensures { (scope : scopes.Scope) (before : scopes.Scope) → IfOk result (λ z. filling_in z scope ≡ spec.to_element at (typing.typed_in told scope) (filling_in filling before)) }
+fn to_element(
+    alloc: Global,
+    scope: &Scope,
+    at: u32,
+    told: Told,
+    filling: Filling,
+) -> Result<Filling, AllocError>
+    ensures { IfOk result (λ z. filling_in z scope.now ≡ spec.to_element at (typing.typed_in told scope.now) (filling_in filling scopes.empty)) }
 {
     let Told {
         at: token,
@@ -184,7 +205,7 @@ fn to_element(alloc: Global, at: u32, told: Told, filling: Filling) -> Result<Fi
     let mut filling = filling;
     filling.faults.append(faults)?;
     filling.faults.append(more)?;
-    to_constant(alloc, at, &shown, filling)
+    to_constant(alloc, scope, at, &shown, filling)
 }
 
 fn designates(
@@ -199,7 +220,7 @@ fn designates(
         Designator::Member { at, member } => to_member(alloc, scope, *at, member, filling),
         Designator::Element { at, index } => {
             let told = typed(alloc, index.get(), scope)?;
-            to_element(alloc, *at, told, filling)
+            to_element(alloc, scope, *at, told, filling)
         }
     }
 }

@@ -5,7 +5,7 @@ ghost use Rattle.c_says.specs.Scopes as scopes;
 ghost use Rattle.c_says.specs.Typing.{fault_at, typed_in};
 ghost use Rattle.c_says.specs.declared.scope.Rule.TheVariants as rule;
 ghost use Rattle.c_says.specs.Initials as spec;
-ghost use Rattle.c_initials.specs.Filled.{filling_in, descent};
+ghost use Rattle.c_initials.specs.Filled.{filling_in, descent, no_filling};
 
 use crate::frames::{Frame, Frames};
 use crate::parts::{Part, part_at};
@@ -40,7 +40,7 @@ impl Model for Filling {
 impl Filling {
     /// Nothing is met so far. It takes no memory.
     pub fn new(alloc: Global) -> Filling
-        ensures { result ≡ record { frames = []; high = 0; parts = []; faults = [] } }
+        ensures { result ≡ no_filling }
     {
         Filling {
             frames: Frames::new(alloc),

@@ -6,8 +6,10 @@ mod designators;
 mod filling;
 mod frames;
 mod parts;
+mod trees;
 mod values;
 
 pub use filling::{Filling, fills_value};
 pub use frames::{Frame, Frames};
 pub use parts::Part;
+pub use trees::{filling_of, fills};
