@@ -9,6 +9,7 @@ mod parameters;
 mod said;
 mod tags;
 mod type_names;
+mod types;
 
 pub use declarators::{Counted, Formed, Parameters};
 pub use enumerations::Counting;
@@ -17,3 +18,4 @@ pub use parameters::{Listed, Named, prototype};
 pub use said::Said;
 pub use tags::Begun;
 pub use type_names::TypeSaid;
+pub use types::{derived_from, formed_type};
