@@ -3,6 +3,12 @@
 
 mod again;
 mod completeness;
+mod declarations;
+mod declarators;
+mod functions;
 mod linkage;
 
 pub use completeness::tentative_type;
+pub use declarations::{DeclarationSaid, declaration_says};
+pub use declarators::{Declared, declares};
+pub use functions::{FunctionSaid, function_says};
