@@ -1,7 +1,6 @@
 //! Why a type or a constant has no answer.
 
 use c_says::LayoutRule;
-use std::alloc::AllocError;
 use thiserror::Error;
 
 /// Why there is no type, or no constant value.
@@ -16,7 +15,10 @@ pub enum TypeFault {
     /// An expression that must be constant isn't, or the length of an array is below 0.
     #[error("an expression that must be constant isn't")]
     NotConstant,
+    /// Another rule is broken, here or in a declaration that is in force.
+    #[error("a rule on names or types is broken")]
+    Unknown,
     /// Want of memory.
     #[error("out of memory")]
-    Memory(AllocError),
+    Memory,
 }
