@@ -8,7 +8,7 @@ ghost use Rattle.c_says.specs.Units as units;
 ghost use Rattle.c_declares.specs.Views.{said_in};
 ghost use Rattle.c_declarations.specs.Views as views;
 
-use crate::declarators::declares;
+use crate::declarators::{Declared, declares};
 use c_declares::Said;
 use c_says::{Entry, Fault};
 use c_tree::{Declaration, InitDeclarator, StorageClass};
@@ -26,6 +26,22 @@ pub struct DeclarationSaid {
     pub faults: Items<Fault>,
 }
 
+fn with_entry_of(
+    entries: Items<Shared<Entry>>,
+    entry: Option<Shared<Entry>>,
+) -> Result<Items<Shared<Entry>>, AllocError>
+    ensures { IfOk result (λ all. all ≡ spec.with_entry_of entries entry) }
+{
+    match entry {
+        None => Ok(entries),
+        Some(entry) => {
+            let mut entries = entries;
+            entries.push(entry)?;
+            Ok(entries)
+        }
+    }
+}
+
 /// One more declarator with its initializer.
 fn and_declared(
     alloc: Global,
@@ -39,12 +55,15 @@ fn and_declared(
 {
     let formed = declarator(alloc, &item.declarator, scope)?;
     let declared = declares(alloc, storage, specified, formed, &item.initializer, scope)?;
-    let mut found = found;
-    if let Some(entry) = declared.entry {
-        found.entries.push(entry)?;
-    }
-    found.faults.append(declared.faults)?;
-    Ok(found)
+    let Declared {
+        entry,
+        faults: more,
+    } = declared;
+    let DeclarationSaid { entries, faults } = found;
+    let entries = with_entry_of(entries, entry)?;
+    let mut faults = faults;
+    faults.append(more)?;
+    Ok(DeclarationSaid { entries, faults })
 }
 
 fn each_declarator(

@@ -66,6 +66,7 @@ fn is_unspecified(tables: &Tables, number: u32) -> bool
 }
 
 /// An empty list in a definition says that there are no parameters (C99 6.7.5.3p14).
+#[tactic(auto, using(crate::proofs::Signed::signed_found, crate::proofs::Signed::signed_other))]
 fn defined_signature(alloc: Global, ctype: CType, scope: &mut Scope) -> Result<CType, AllocError>
     ensures { IfOk result (λ t. signed scope.old ctype t scope.new) }
 {
