@@ -129,7 +129,7 @@ fn formed_as(
 }
 
 /// A type where it is known, or the rule that it breaks. It fails for want of memory alone.
-pub(crate) fn formed_type(
+pub fn formed_type(
     alloc: Global,
     tables: &Tables,
     ctype: Option<CType>,
@@ -182,7 +182,7 @@ pub(crate) fn adjusted_type(
 }
 
 /// The derivations in front of a type's own, where both are known. It fails for want of memory alone.
-pub(crate) fn derived_from(
+pub fn derived_from(
     derivations: Option<Items<Derivation>>,
     ctype: &Option<CType>,
 ) -> Result<Option<CType>, AllocError>

@@ -13,6 +13,7 @@ use Rattle.std.specs.Prelude.{
   pos,
   negsuc,
   max,
+  min,
   nat_eq,
   nat_lt,
   nat_le,
@@ -57,7 +58,7 @@ use Rattle.c_type_terms.specs.Types.{
   is_floating,
 }
 use Rattle.c_type_terms.specs.Integers.{bytes_of}
-use Rattle.c_type_terms.specs.Layouts.{size_of, is_sized, is_opaque, members_of}
+use Rattle.c_type_terms.specs.Layouts.{counted, size_of, is_sized, is_opaque, members_of}
 use Rattle.c_says.specs.declared.scope.Fault.{Fault}
 use Rattle.c_says.specs.declared.scope.Rule.{Rule}
 use Rattle.c_says.specs.declared.scope.Rule.TheVariants as rule
@@ -79,7 +80,7 @@ use Rattle.c_says.specs.Declares.{form_at}
 
 -- ---- the objects within an object
 
--- A part of an object: its type, and where it begins in the whole.
+-- A part of an object: its type, and where it begins in the whole, in bytes that are counted as sizes are.
 pub record Part : Type 0 where
   pub type : CType
   pub offset : ℕ
@@ -117,11 +118,11 @@ size_or_none (Some n) = n
 
 abbrev pub element_part : Tables → Part → Option CType → ℕ → Part
 element_part tables p None i = p
-element_part tables p (Some t) i = record { type = t; offset = p.offset + i * size_or_none (size_of tables t) }
+element_part tables p (Some t) i = record { type = t; offset = counted (p.offset + i * size_or_none (size_of tables t)) }
 
 abbrev pub member_part : Part → Option Member → Part
 member_part p None = p
-member_part p (Some m) = record { type = m.ctype; offset = p.offset + m.offset }
+member_part p (Some m) = record { type = m.ctype; offset = counted (p.offset + m.offset) }
 
 abbrev pub part_in : Tables → Part → Class → ℕ → Part
 part_in tables p class.Array i = element_part tables p (element_of p.type) i
@@ -159,9 +160,13 @@ abbrev pub with_part_left : Tables → List Frame → List Frame
 with_part_left tables [] = []
 with_part_left tables (f ∷ fs) = cond (has_part tables f.whole.type f.next) (f ∷ fs) (with_part_left tables fs)
 
+-- Parts are counted up to 2^64 - 1: no array has more elements.
+abbrev pub part_count : ℕ → ℕ
+part_count n = min n 18446744073709551615
+
 -- the part behind the next one of a frame
 abbrev pub stepped : Frame → Frame
-stepped f = record f { next = suc f.next }
+stepped f = record f { next = part_count (suc f.next) }
 
 -- how many parts of the braces' object were met
 abbrev pub high_of : ℕ → List Frame → ℕ
@@ -232,9 +237,13 @@ fills_part x p frames y = record y {
   scope = x.after;
 }
 
--- more expressions than parts (C99 6.7.8p2)
+-- more expressions than parts (C99 6.7.8p2): no object is left
 abbrev pub is_surplus : Typed → Fills
-is_surplus x y = record y { faults = y.faults ++ x.faults ++ fault_at x.at rule.TypeMismatch; scope = x.after }
+is_surplus x y = record y {
+  frames = [];
+  faults = y.faults ++ x.faults ++ fault_at x.at rule.TypeMismatch;
+  scope = x.after;
+}
 
 abbrev pub is_scalar_part : CType → Bool
 is_scalar_part t = not (is_array t) && no_number (aggregate_of t)
@@ -243,16 +252,24 @@ is_scalar_part t = not (is_array t) && no_number (aggregate_of t)
     no_number None = true
     no_number (Some n) = false
 
+-- a part, and the frames behind it
+abbrev pub Found : Type 0
+Found = Option (Part × List Frame)
+
 -- the first part of a part, and of that, down to one that the expression initialises as a whole (C99 6.7.8p20)
-abbrev pub descends : ℕ → Tables → Typed → List Frame → Fills
-descends levels tables x [] y = is_surplus x y
-descends zero tables x (f ∷ fs) y = is_surplus x y
-descends (suc levels) tables x (f ∷ fs) y =
+abbrev pub descends : ℕ → Tables → Typed → List Frame → Found
+descends levels tables x [] = None
+descends zero tables x (f ∷ fs) = None
+descends (suc levels) tables x (f ∷ fs) =
     let p = part_at tables f.whole f.next in
-    elim (is_scalar_part p.type || is_whole_of p.type x) as (λ _. Filling) [
-      | true ↦ fills_part x p (stepped f ∷ fs) y
-      | false ↦ descends levels tables x (with_part_left tables (started p ∷ stepped f ∷ fs)) y
+    elim (is_scalar_part p.type || is_whole_of p.type x) as (λ _. Found) [
+      | true ↦ Some (p, stepped f ∷ fs)
+      | false ↦ descends levels tables x (with_part_left tables (started p ∷ stepped f ∷ fs))
     ]
+
+abbrev pub fills_found : Typed → Found → Fills
+fills_found x None y = is_surplus x y
+fills_found x (Some (p, frames)) y = fills_part x p frames y
 
 -- no type has more levels than the longest source has bytes
 abbrev pub most_levels : ℕ
@@ -271,7 +288,7 @@ braced_text (f ∷ fs) x y = record (fills_part x f.whole (record f { next = len
 abbrev pub fills_value : Typed → Fills
 fills_value x y =
     cond (is_braced_text y.frames x) (braced_text y.frames x y)
-    (descends most_levels x.after.tables x (with_part_left x.after.tables y.frames) y)
+    (fills_found x (descends most_levels x.after.tables x (with_part_left x.after.tables y.frames)) y)
 
 -- ---- a list in braces
 
@@ -288,7 +305,7 @@ fills_within fs p frames y =
           high_of y.high frames;
     }
 
--- a list that initialises the next part (C99 6.7.8p20); there must be one
+-- a list that initialises the next part of the innermost object that has one left (C99 6.7.8p20); there must be one
 abbrev pub fills_list : ℕ → List Fills → List Frame → Fills
 fills_list at fs [] y = fills_all fs (record y { frames = []; faults = y.faults ++ fault_at at rule.TypeMismatch })
 fills_list at fs (f ∷ gs) y = fills_within fs (part_at y.scope.tables f.whole f.next) (stepped f ∷ gs) y
@@ -326,7 +343,7 @@ to_member at name (f ∷ fs) y = at_number at (member_number 0 name (sized_membe
 abbrev pub element_number : Tables → CType → Option ℤ → Option ℕ
 element_number tables t None = None
 element_number tables t (Some (negsuc n)) = None
-element_number tables t (Some (pos n)) = cond (is_array t && has_part tables t n) (Some n) None
+element_number tables t (Some (pos n)) = cond (is_array t && has_part tables t n) (Some (part_count n)) None
 
 abbrev pub to_constant : ℕ → Option CType → Option ℤ → List Frame → Fills
 to_constant at None z fs y = record y { frames = [] }
@@ -382,7 +399,10 @@ value_says typed e = record {
 }
 
 abbrev pub list_says : ℕ → List Fills → InitialSaid
-list_says at fs = record { fills = λ y. fills_list at fs y.frames y; alone = λ p y. list_alone fs p y }
+list_says at fs = record {
+  fills = λ y. fills_list at fs (with_part_left y.scope.tables y.frames) y;
+  alone = λ p y. list_alone fs p y;
+}
 
 abbrev pub item_says : {E : Type 0} → (E → Scope → Typed) → List (Designates E) → InitialSaid → Fills
 item_says typed ds x y = x.fills (designated_by typed ds y)

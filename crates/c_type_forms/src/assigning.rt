@@ -53,7 +53,8 @@ pub(crate) fn stepped(
 
 // ---- assignment
 
-fn same_aggregate(left: Option<u32>, right: Option<u32>) -> bool
+/// Whether both are the number of one structure or union.
+pub fn same_aggregate(left: Option<u32>, right: Option<u32>) -> bool
     ensures { result ≡ spec.same_aggregate left right }
 {
     match (left, right) {
@@ -62,7 +63,8 @@ fn same_aggregate(left: Option<u32>, right: Option<u32>) -> bool
     }
 }
 
-fn is_assignable(to: &CType, from: &CType) -> bool
+/// Whether a value of one type may be assigned to an object of another (C99 6.5.16.1p1).
+pub fn is_assignable(to: &CType, from: &CType) -> bool
     ensures { result ≡ spec.is_assignable to.now from.now }
 {
     (is_scalar(to) && is_scalar(from)) || same_aggregate(to.aggregate(), from.aggregate())

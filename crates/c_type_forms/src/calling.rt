@@ -11,7 +11,8 @@ use c_type_terms::{CType, Class, Derivation, Prototype, Qualifiers, Tables};
 use plain_data::Items;
 use std::alloc::{AllocError, Global};
 
-fn one_fault(alloc: Global, at: u32, rule: Rule) -> Result<Items<Fault>, AllocError>
+/// One broken rule. It fails for want of memory alone.
+pub fn one_fault(alloc: Global, at: u32, rule: Rule) -> Result<Items<Fault>, AllocError>
     ensures { IfOk result (λ faults. faults ≡ spec.fault_at at rule) }
 {
     let mut faults = Items::new(alloc);

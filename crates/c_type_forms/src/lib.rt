@@ -10,12 +10,15 @@ mod told;
 mod turning;
 mod values;
 
-pub use calling::call;
+pub use assigning::{is_assignable, same_aggregate};
+pub use calling::{call, one_fault};
 pub use primary::{
     character_constant, floating_constant, function_name, identifier, integer_constant,
     string_literal,
 };
 pub use told::{
-    arrow, assignment, binary, cast, choice, comma, joined, member, node, operand, postfix,
-    refused, size_of_expression, size_of_type, subscript, typeless, unary, used,
+    arrow, assignment, binary, cast, choice, comma, is_floating, joined, member, node, operand,
+    postfix, refused, size_of_expression, size_of_type, subscript, typeless, unary, used,
 };
+pub use turning::{is_array, is_function, is_void};
+pub use values::has_size;

@@ -35,7 +35,8 @@ pub fn refused(at: u32, rule: Rule, faults: Items<Fault>) -> Result<Told, AllocE
     Ok(typeless(at, faults))
 }
 
-fn is_floating(ctype: &CType) -> bool
+/// Whether this is a floating type.
+pub fn is_floating(ctype: &CType) -> bool
     ensures { result ≡ types.is_floating ctype.now }
 {
     matches!(ctype.class(), Class::Floating)

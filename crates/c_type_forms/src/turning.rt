@@ -11,19 +11,22 @@ use c_tree::UnaryOperator;
 use c_type_terms::{CType, Class, IntegerKind, Qualifiers, Tables};
 use std::alloc::{AllocError, Global};
 
-pub(crate) fn is_function(ctype: &CType) -> bool
+/// Whether this is a function type.
+pub fn is_function(ctype: &CType) -> bool
     ensures { result ≡ types.is_function ctype.now }
 {
     matches!(ctype.class(), Class::Function)
 }
 
-fn is_array(ctype: &CType) -> bool
+/// Whether this is an array type.
+pub fn is_array(ctype: &CType) -> bool
     ensures { result ≡ types.is_array ctype.now }
 {
     matches!(ctype.class(), Class::Array)
 }
 
-pub(crate) fn is_void(ctype: &CType) -> bool
+/// Whether this is `void`, qualified or not.
+pub fn is_void(ctype: &CType) -> bool
     ensures { result ≡ types.is_void ctype.now }
 {
     matches!(ctype.class(), Class::Void)

@@ -66,7 +66,7 @@ pub(crate) fn an_integer(alloc: Global, kind: IntegerKind, value: Option<i128>) 
 }
 
 /// Whether the size of the type is known.
-pub(crate) fn has_size(tables: &Tables, ctype: &CType) -> bool
+pub fn has_size(tables: &Tables, ctype: &CType) -> bool
     ensures { result ≡ is_sized tables.now ctype.now }
 {
     match tables.size_of(ctype) {

@@ -87,6 +87,13 @@ impl<T: HasName + Drop> Named<T> {
         self.last.get(name)
     }
 
+    /// The values in order.
+    pub fn as_slice(&self) -> &[Shared<T>]
+        ensures { result.now ≡ self.now }
+    {
+        self.items.as_slice()
+    }
+
     /// The same values, which are shared. It fails for want of memory alone.
     pub fn duplicate(&self, alloc: Global) -> Result<Named<T>, AllocError>
         ensures { IfOk result (λ copy. copy ≡ self.now) }

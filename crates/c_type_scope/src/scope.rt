@@ -45,6 +45,13 @@ impl Block {
         self.entries.get(name)
     }
 
+    /// The ordinary names that the block declares, in order.
+    pub fn entries(&self) -> &[Shared<Entry>]
+        ensures { result.now ≡ self.now.entries }
+    {
+        self.entries.as_slice()
+    }
+
     /// The last declaration of a tag in the block.
     pub fn tag(&self, name: &[u8]) -> Option<&Shared<Tag>>
         ensures { option_copied result ≡ spec.tag_in self.now name.now }
@@ -247,6 +254,13 @@ impl Scope {
         ensures { option_copied result ≡ spec.own_entry self.now name.now }
     {
         innermost_of(&self.file, &self.blocks).entry(name)
+    }
+
+    /// The last declaration of an ordinary name in the file.
+    pub fn file_entry(&self, name: &[u8]) -> Option<&Shared<Entry>>
+        ensures { option_copied result ≡ spec.entry_in self.now.file name.now }
+    {
+        self.file.entry(name)
     }
 
     /// The last declaration of a tag in the innermost block, or in the file where no block is open.

@@ -1,0 +1,7 @@
+use Rattle.std.proofs.Common.{◌≡◌, ◌++◌, drop}
+use Rattle.c_says.specs.Declarations.{parameters_faults}
+use Rattle.c_declarations.proofs.functions.parameters_faults.Given as goal
+
+abbrev pub invariant-loop-entry : goal.invariant-loop-entry
+invariant-loop-entry l =
+    l.faults ++ parameters_faults l.tables (drop l.entry-index l.entries) ≡ parameters_faults l.tables l.entries

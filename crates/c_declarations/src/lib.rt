@@ -1,0 +1,17 @@
+//! What declarations and the heads of function definitions say (C99 6.7, 6.9): exactly the definitions of `c_says`.
+#![tactic(auto)]
+
+mod again;
+mod completeness;
+mod declarations;
+mod declarators;
+mod functions;
+mod linkage;
+
+pub use completeness::tentative_type;
+pub use declarations::{DeclarationSaid, declaration_says};
+pub use declarators::{Declared, declares};
+pub use functions::{FunctionSaid, function_says};
+
+#[cfg(test)]
+mod tests;
