@@ -1,0 +1,6 @@
+pub mod Worth
+pub mod BankLemmas
+pub mod Equality
+pub mod UnderLemmas
+pub mod ImageLemmas
+pub mod BindingLemmas
