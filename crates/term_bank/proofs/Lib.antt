@@ -4,3 +4,4 @@ pub mod Equality
 pub mod UnderLemmas
 pub mod ImageLemmas
 pub mod BindingLemmas
+pub mod FoldLemmas

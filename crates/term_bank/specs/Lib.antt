@@ -5,3 +5,4 @@ pub mod Banks
 pub mod Under
 pub mod Images
 pub mod Bindings
+pub mod Folds

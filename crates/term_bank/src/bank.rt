@@ -59,8 +59,8 @@ impl Bank {
         }
     }
 
-    /// A node that has the shape's value in every environment: the one that has the shape, where there is one.
-    pub fn add(&mut self, shape: Shape) -> Result<Node, BankFault>
+    /// The node of a shape, which is made where there is none.
+    fn insert(&mut self, shape: Shape) -> Result<Node, BankFault>
         requires { IsWell self.old shape }
         ensures node { IfOk result (IsNode self.new) }
         ensures sort { IfOk result (λ node. node.sort ≡ sort_of shape) }
@@ -79,6 +79,28 @@ impl Bank {
                 sort: shape.sort(),
             }),
             Err(_) => Err(BankFault::Memory),
+        }
+    }
+
+    /// A node that has the shape's value in every environment: the shape's own, which stands once, or one that is
+    /// simpler. An operator on constants is the constant that it gives, two negations go away, and so does a choice of
+    /// one node.
+    pub fn add(&mut self, shape: Shape) -> Result<Node, BankFault>
+        requires { IsWell self.old shape }
+        ensures node { IfOk result (IsNode self.new) }
+        ensures sort { IfOk result (λ node. node.sort ≡ sort_of shape) }
+        ensures value { IfOk result (IsWorth self.new shape) }
+        ensures grows { Grows self.old self.new }
+        ensures err { OnErr result (self.new ≡ self.old) }
+        ensures bank { IsBank self.new }
+    {
+        if let Some(node) = self.same_part(shape) {
+            let _ = &self.alloc;
+            return Ok(node);
+        }
+        match self.known(shape) {
+            Some(known) => self.insert(known),
+            None => self.insert(shape),
         }
     }
 

@@ -3,6 +3,8 @@
 
 mod bank;
 mod binding;
+mod fold;
+mod known;
 mod shape;
 mod sort;
 mod under;
@@ -12,3 +14,6 @@ pub use binding::Binding;
 pub use shape::{Connective, Extension, Shape, WordOperator, WordTest};
 pub use sort::{Node, Sort};
 pub use under::nodes_under;
+
+#[cfg(test)]
+mod tests;
