@@ -1,5 +1,5 @@
 -- Constants, and parts that have their shape's value.
-use Rattle.std.proofs.Common.{◌≡◌, ◌<◌, ◌^◌, ◌∷◌, [], ℕ, List, Some, Bool, true, false, arith, refl, sym, ap, subst, ◌∙◌, cond}
+use Rattle.std.proofs.Common.{◌≡◌, ◌<◌, ◌^◌, ℕ, List, Some, Bool, true, false, refl, sym, ap, subst, ◌∙◌, cond}
 use Rattle.std.specs.Prelude.{slice_get, not, Result, Ok, Err, IfOk}
 use Rattle.std.specs.Option.{option_map}
 use Rattle.bit_words.specs.Words.{bits}
@@ -14,7 +14,7 @@ use Rattle.term_bank.specs.declared.shape.Extension.{Extension}
 use Rattle.term_bank.specs.declared.shape.Shape.{Shape}
 use Rattle.term_bank.specs.declared.shape.Shape.TheVariants.{Flag, Constant, Binary, Test, Convert, Not, Connect, Choose}
 use Rattle.term_bank.specs.Shapes.{IsNode, IsWell, word, sort_of}
-use Rattle.term_bank.specs.Values.{Environment, Worth, Values, Models, Grows, IsWorth, worth, of_word, of_truth, result_of, outcome_of, converted, connected}
+use Rattle.term_bank.specs.Values.{Environment, Worth, Values, Models, Grows, IsWorth, of_word, of_truth, result_of, outcome_of, converted, connected}
 use Rattle.term_bank.specs.Banks.{IsBank}
 use Rattle.term_bank.specs.Folds.{IsConstant, IsSame, IsSamePart}
 use Rattle.term_bank.proofs.Worth.{result_below, converted_below}

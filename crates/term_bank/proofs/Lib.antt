@@ -5,3 +5,4 @@ pub mod UnderLemmas
 pub mod ImageLemmas
 pub mod BindingLemmas
 pub mod FoldLemmas
+pub mod TermLemmas

@@ -6,3 +6,4 @@ pub mod Under
 pub mod Images
 pub mod Bindings
 pub mod Folds
+pub mod Terms

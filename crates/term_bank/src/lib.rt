@@ -3,6 +3,7 @@
 
 mod bank;
 mod binding;
+mod build;
 mod fold;
 mod known;
 mod shape;

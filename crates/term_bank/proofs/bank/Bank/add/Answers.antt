@@ -1,4 +1,3 @@
-use Rattle.std.proofs.Common.{◌≡◌, sym}
 use Rattle.term_bank.proofs.FoldLemmas.{worth_known}
 use Rattle.term_bank.proofs.bank.Bank.add.Goals as goal
 

@@ -1,4 +1,4 @@
-use Rattle.std.proofs.Common.{◌≡◌, ◌∙◌, Some, ap, sym}
+use Rattle.std.proofs.Common.{◌∙◌, Some, ap, sym}
 use Rattle.term_bank.proofs.FoldLemmas.{constant_found}
 use Rattle.term_bank.proofs.bank.Bank.constant.Goals as goal
 

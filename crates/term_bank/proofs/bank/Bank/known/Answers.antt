@@ -1,4 +1,4 @@
-use Rattle.std.proofs.Common.{◌≡◌, ◌∙◌, sym, subst}
+use Rattle.std.proofs.Common.{sym, subst}
 use Rattle.term_bank.specs.declared.shape.Shape.TheVariants.{Constant}
 use Rattle.term_bank.specs.Folds.{IsSame}
 use Rattle.term_bank.proofs.FoldLemmas.{same_binary, same_conversion}
