@@ -5,7 +5,8 @@ ghost use Rattle.term_bank.specs.declared.shape.Shape.TheVariants.{Initial, Writ
 
 use bit_words::Width;
 use c_store::ObjectKind;
-use term_bank::{Bank, BankFault, Node, Shape};
+use crate::seen::seen;
+use term_bank::{Bank, BankFault, Node, Shape, Sort};
 
 /// The memory that holds the world's initial bytes, with no object.
 pub fn initial(bank: &mut Bank) -> Result<Node, BankFault>
@@ -79,7 +80,8 @@ pub fn copy_range(
     })
 }
 
-/// The word at an address, little endian.
+/// The word at an address, little endian. Changes that constants tell to be beside it are passed over, and a word that was
+/// written there last is the answer.
 pub fn read(
     bank: &mut Bank,
     memory: Node,
@@ -90,11 +92,23 @@ pub fn read(
     requires address { IsTerm bank.old (Word W64) address }
     ensures { Makes bank.old bank.new (Read width memory.index address.index) result }
 {
-    bank.add(Shape::Read {
-        width,
-        memory: memory.index,
-        address: address.index,
-    })
+    let seen = seen(bank, memory, address, width);
+    match bank.shape(seen.index) {
+        Some(Shape::Write {
+            width: written,
+            address: to,
+            value,
+            ..
+        }) if written == width && to == address.index => Ok(Node {
+            index: value,
+            sort: Sort::Word(width),
+        }),
+        _ => bank.add(Shape::Read {
+            width,
+            memory: seen.index,
+            address: address.index,
+        }),
+    }
 }
 
 /// The memory in which an object lives.
