@@ -1,6 +1,8 @@
 -- Changes of a memory that don't reach what is read.
-use Rattle.std.proofs.Common.{◌≡◌, ◌<◌, ◌≤◌, ◌+◌, ◌^◌, ◌∷◌, [], ◌⊎◌, ℕ, List, Some, refl, sym, ap, subst, ◌∙◌}
-use Rattle.std.specs.Prelude.{slice_get}
+use Rattle.std.proofs.Common.{◌≡◌, ◌<◌, ◌≤◌, ◌+◌, ◌^◌, ◌∷◌, [], ◌⊎◌, ℕ, List, Some, arith, refl, sym, ap, subst, ◌∙◌}
+use Rattle.std.specs.Prelude.{slice_get, Result, Ok, Err, IfOk}
+use Rattle.term_bank.specs.declared.bank.BankFault.{BankFault}
+use Rattle.term_bank.specs.Terms.{Makes}
 use Rattle.bit_words.specs.declared.width.Width.{Width}
 use Rattle.bit_words.specs.declared.width.Width.TheVariants.{W8, W16, W32, W64}
 use Rattle.c_store.specs.declared.object.ObjectKind.{ObjectKind}
@@ -10,11 +12,11 @@ use Rattle.term_bank.specs.declared.sort.Node.{Node}
 use Rattle.term_bank.specs.declared.shape.Shape.{Shape}
 use Rattle.term_bank.specs.declared.shape.Shape.TheVariants.{Constant, Write, Made, Ended, Read}
 use Rattle.term_bank.specs.Memories.{octets, read, write, behind}
-use Rattle.term_bank.specs.Shapes.{IsNode, memory}
+use Rattle.term_bank.specs.Shapes.{IsNode, memory, word}
 use Rattle.term_bank.specs.Values.{Environment, Worth, Values, Models, Grows, IsWorth, worth, of_word}
 use Rattle.term_bank.specs.Banks.{IsBank}
 use Rattle.term_bank.specs.Folds.{IsConstant}
-use Rattle.term_bank.proofs.BankLemmas.{weaken}
+use Rattle.term_bank.proofs.BankLemmas.{weaken, stays}
 use Rattle.term_bank.proofs.BindingLemmas.{node_sorted}
 use Rattle.bit_words.specs.Words.{bits}
 use Rattle.mem_terms.specs.Reads.{IsApart, AreApart, ReadsAlike, IsBefore}
@@ -90,3 +92,22 @@ last_written shapes w a address seen now x bank alike old is same = record {
 
 pub read_alike : (shapes new : List Shape) (w : Width) (address : Node) (now seen : ℕ) (node : Node) → Grows shapes new → ReadsAlike shapes (octets w) address now seen → IsWorth new (Read w seen address.index) node → IsWorth new (Read w now address.index) node
 read_alike shapes new w address now seen node g alike h = record { is = λ e v m. h.is e v m ∙ ap of_word (sym (alike.alike e v (weaken g m))) }
+
+pub written_at : (shapes : List Shape) (now : ℕ) (w : Width) (old to x : ℕ) → IsBank shapes → slice_get shapes now ≡ Some (Write w old to x) → IsNode shapes (word W64 to)
+written_at shapes now w old to x bank is = (bank.well now (Write w old to x) is).each_part.1.0.stands
+
+pub read_mapped : (shapes new : List Shape) (w : Width) (address : Node) (now seen : ℕ) (r : Result Node BankFault) → Grows shapes new → ReadsAlike shapes (octets w) address now seen → IfOk r (IsWorth new (Read w seen address.index)) → IfOk r (IsWorth new (Read w now address.index))
+read_mapped shapes new w address now seen (Ok n) g alike h = read_alike shapes new w address now seen n g alike h
+read_mapped shapes new w address now seen (Err e) g alike h = tt
+
+-- the answer where the word was written last
+pub forwarded : (shapes : List Shape) (w written : Width) (to : ℕ) (address : Node) (seen now old x : ℕ) → IsBank shapes → ReadsAlike shapes (octets w) address now seen → slice_get shapes seen ≡ Some (Write written old to x) → written ≡ w → to ≡ address.index → Makes shapes shapes (Read w now address.index) (Ok (record { index = x; sort = Word w }))
+forwarded shapes w written to address seen now old x bank alike is same place =
+    let here : slice_get shapes seen ≡ Some (Write w old to x) = is ∙ ap (λ u. Some (Write u old to x)) same in
+    record {
+      node = record { stands = (bank.well seen (Write w old to x) here).each_part.1.1.0.stands.sorted; same = refl };
+      value = last_written shapes w to address seen now x bank alike old here place;
+      grows = stays;
+      err = tt;
+      bank = bank;
+    }

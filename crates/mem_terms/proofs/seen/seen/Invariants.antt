@@ -7,7 +7,7 @@ use Rattle.mem_terms.proofs.seen.seen.Given as goal
 abbrev pub invariant-changes : goal.invariant-changes
 invariant-changes l = record {
   stands : IsNode l.bank (memory l.index);
-  alike : ReadsAlike l.bank (octets l.width) l.address l.memory.index l.index;
+  alike : ReadsAlike l.bank (octets l.width) l.address l.fn.memory.index l.index;
 }
 
 abbrev pub decreases-changes : goal.decreases-changes
