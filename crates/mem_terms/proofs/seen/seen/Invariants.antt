@@ -1,0 +1,14 @@
+use Rattle.std.proofs.Common.{ℕ}
+use Rattle.term_bank.specs.Memories.{octets}
+use Rattle.term_bank.specs.Shapes.{IsNode, memory}
+use Rattle.mem_terms.specs.Reads.{ReadsAlike}
+use Rattle.mem_terms.proofs.seen.seen.Given as goal
+
+abbrev pub invariant-changes : goal.invariant-changes
+invariant-changes l = record {
+  stands : IsNode l.bank (memory l.index);
+  alike : ReadsAlike l.bank (octets l.width) l.address l.fn.memory.index l.index;
+}
+
+abbrev pub decreases-changes : goal.decreases-changes
+decreases-changes l = l.index

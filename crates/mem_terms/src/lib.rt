@@ -1,0 +1,11 @@
+//! Terms of memory, the truths that undefined behaviour of memory asks of one, and reads.
+#![tactic(auto)]
+
+mod memory;
+mod seen;
+
+pub use memory::{
+    choose, copy_range, ended, has_kind, initial, is_live, made, object_size, read, write,
+    zero_range,
+};
+pub use seen::octets;

@@ -1,0 +1,100 @@
+-- Constants, and parts that have their shape's value.
+use Rattle.std.proofs.Common.{◌≡◌, ◌<◌, ◌^◌, ℕ, List, Some, Bool, true, false, refl, sym, ap, subst, ◌∙◌, cond}
+use Rattle.std.specs.Prelude.{slice_get, not, Result, Ok, Err, IfOk}
+use Rattle.std.specs.Option.{option_map}
+use Rattle.bit_words.specs.Words.{bits}
+use Rattle.bit_words.specs.declared.width.Width.{Width}
+use Rattle.term_bank.specs.declared.sort.Sort.{Sort}
+use Rattle.term_bank.specs.declared.sort.Sort.TheVariants as sort
+use Rattle.term_bank.specs.declared.sort.Node.{Node}
+use Rattle.term_bank.specs.declared.shape.WordOperator.{WordOperator}
+use Rattle.term_bank.specs.declared.shape.WordTest.{WordTest}
+use Rattle.term_bank.specs.declared.shape.Connective.{Connective}
+use Rattle.term_bank.specs.declared.shape.Extension.{Extension}
+use Rattle.term_bank.specs.declared.shape.Shape.{Shape}
+use Rattle.term_bank.specs.declared.shape.Shape.TheVariants.{Flag, Constant, Binary, Test, Convert, Not, Connect, Choose}
+use Rattle.term_bank.specs.Shapes.{IsNode, IsWell, word, sort_of}
+use Rattle.term_bank.specs.Values.{Environment, Worth, Values, Models, Grows, IsWorth, of_word, of_truth, result_of, outcome_of, converted, connected}
+use Rattle.term_bank.specs.Banks.{IsBank}
+use Rattle.term_bank.specs.Folds.{IsConstant, IsSame, IsSamePart}
+use Rattle.term_bank.proofs.Worth.{result_below, converted_below}
+use Rattle.term_bank.proofs.BankLemmas.{weaken}
+use Rattle.term_bank.proofs.BindingLemmas.{node_sorted}
+
+pub constant_found : (shapes : List Shape) (n : ℕ) (w u : Width) (x : ℕ) → IsBank shapes → IsNode shapes (word w n) → slice_get shapes n ≡ Some (Constant x u) → IsConstant shapes n w x
+constant_found shapes n w u x bank node is =
+    let sorts : Some (sort.Word u) ≡ Some (sort.Word w) = sym (ap (option_map sort_of) is) ∙ node.sorted in
+    let same : u ≡ w = cc in
+    subst (λ t. IsConstant shapes n t x) same (record { is = is; below = (bank.well n (Constant x u) is).in_width })
+
+word_is : (shapes : List Shape) (e : Environment) (v : Values) (n : ℕ) (w : Width) (x : ℕ) → Models shapes e v → IsConstant shapes n w x → (v n).word ≡ x
+word_is shapes e v n w x m h = ap (λ (y : Worth). y.word) (m.has n (Constant x w) h.is)
+
+truth_is : (shapes : List Shape) (e : Environment) (v : Values) (n : ℕ) (b : Bool) → Models shapes e v → slice_get shapes n ≡ Some (Flag b) → (v n).truth ≡ b
+truth_is shapes e v n b m h = ap (λ (y : Worth). y.truth) (m.has n (Flag b) h)
+
+pub same_binary : (shapes : List Shape) (op : WordOperator) (w : Width) (l r a b x : ℕ) → IsConstant shapes l w a → IsConstant shapes r w b → x ≡ result_of op w a b → IsSame shapes (Binary op w l r) (Constant x w)
+same_binary shapes op w l r a b x h k is = record {
+  well = record { parts_stand = tt; in_width = subst (λ y. y < 2 ^ bits w) (sym is) (result_below op w a b h.below k.below) };
+  sort = refl;
+  value = λ e v m. ap of_word is ∙ rw (word_is shapes e v l w a m h, word_is shapes e v r w b m k) refl;
+}
+
+pub same_test : (shapes : List Shape) (t : WordTest) (w : Width) (l r a b : ℕ) (x : Bool) → IsConstant shapes l w a → IsConstant shapes r w b → x ≡ outcome_of t w a b → IsSame shapes (Test t w l r) (Flag x)
+same_test shapes t w l r a b x h k is = record {
+  well = record { parts_stand = tt; in_width = tt };
+  sort = refl;
+  value = λ e v m. ap of_truth is ∙ rw (word_is shapes e v l w a m h, word_is shapes e v r w b m k) refl;
+}
+
+pub same_conversion : (shapes : List Shape) (x : Extension) (from to : Width) (n a y : ℕ) → IsConstant shapes n from a → y ≡ converted x from to a → IsSame shapes (Convert x from to n) (Constant y to)
+same_conversion shapes x from to n a y h is = record {
+  well = record { parts_stand = tt; in_width = subst (λ z. z < 2 ^ bits to) (sym is) (converted_below x from to a) };
+  sort = refl;
+  value = λ e v m. ap of_word is ∙ rw (word_is shapes e v n from a m h) refl;
+}
+
+pub same_not : (shapes : List Shape) (n : ℕ) (b x : Bool) → slice_get shapes n ≡ Some (Flag b) → x ≡ not b → IsSame shapes (Not n) (Flag x)
+same_not shapes n b x h is = record {
+  well = record { parts_stand = tt; in_width = tt };
+  sort = refl;
+  value = λ e v m. ap of_truth is ∙ rw (truth_is shapes e v n b m h) refl;
+}
+
+pub same_connect : (shapes : List Shape) (c : Connective) (l r : ℕ) (a b x : Bool) → slice_get shapes l ≡ Some (Flag a) → slice_get shapes r ≡ Some (Flag b) → x ≡ connected c a b → IsSame shapes (Connect c l r) (Flag x)
+same_connect shapes c l r a b x h k is = record {
+  well = record { parts_stand = tt; in_width = tt };
+  sort = refl;
+  value = λ e v m. ap of_truth is ∙ rw (truth_is shapes e v l a m h, truth_is shapes e v r b m k) refl;
+}
+
+twice : (b : Bool) → b ≡ not (not b)
+twice true = refl
+twice false = refl
+
+pub part_not : (shapes : List Shape) (n k : ℕ) → IsBank shapes → slice_get shapes n ≡ Some (Not k) → IsSamePart shapes (Not n) (record { index = k; sort = sort.Truth })
+part_not shapes n k bank is =
+    let part = (bank.well n (Not k) is).each_part.0 in
+    record {
+      stands = part.stands;
+      sort = refl;
+      value = λ e v m.
+          let inner : (v n).truth ≡ not (v k).truth = ap (λ (y : Worth). y.truth) (m.has n (Not k) is) in
+          node_sorted shapes e v (record { index = k; sort = sort.Truth }) bank part.stands m ∙ ap of_truth (twice (v k).truth) ∙ ap (λ b. of_truth (not b)) (sym inner);
+    }
+
+either_arm : (c : Bool) (x : Worth) → x ≡ cond c x x
+either_arm true x = refl
+either_arm false x = refl
+
+pub part_choose : (shapes : List Shape) (s : Sort) (c n k : ℕ) → IsWell shapes (Choose s c n k) → n ≡ k → IsSamePart shapes (Choose s c n k) (record { index = n; sort = s })
+part_choose shapes s c n k well same = record {
+  stands = well.parts_stand.1.0;
+  sort = refl;
+  value = λ e v m. either_arm (v c).truth (v n) ∙ ap (λ i. cond (v c).truth (v n) (v i)) same;
+}
+
+-- a node that has the value of a shape that is the same
+pub worth_known : {E : Type 0} (old new : List Shape) (shape known : Shape) (r : Result Node E) → IsSame old shape known → Grows old new → IfOk r (IsWorth new known) → IfOk r (IsWorth new shape)
+worth_known old new shape known (Ok n) same g h = record { is = λ e v m. h.is e v m ∙ same.value e v (weaken g m) }
+worth_known old new shape known (Err e) same g h = tt

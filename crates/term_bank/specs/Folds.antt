@@ -1,0 +1,26 @@
+-- What has a shape's value without being it.
+use Rattle.std.specs.Prelude.{◌≡◌, ◌<◌, ◌^◌, ℕ, List, Some, slice_get}
+use Rattle.bit_words.specs.Words.{bits}
+use Rattle.bit_words.specs.declared.width.Width.{Width}
+use Rattle.term_bank.specs.declared.sort.Node.{Node}
+use Rattle.term_bank.specs.declared.shape.Shape.{Shape}
+use Rattle.term_bank.specs.declared.shape.Shape.TheVariants.{Constant}
+use Rattle.term_bank.specs.Shapes.{IsNode, IsWell, sort_of}
+use Rattle.term_bank.specs.Values.{Environment, Values, Models, worth}
+
+-- the node of this number is a constant of this width
+pub record IsConstant (shapes : List Shape) (n : ℕ) (w : Width) (x : ℕ) : Type 0 where
+  pub is : slice_get shapes n ≡ Some (Constant x w)
+  pub below : x < 2 ^ bits w
+
+-- another shape of the same sort and value
+pub record IsSame (shapes : List Shape) (shape other : Shape) : Type 0 where
+  pub well : IsWell shapes other
+  pub sort : sort_of other ≡ sort_of shape
+  pub value : (e : Environment) (v : Values) → Models shapes e v → worth e v other ≡ worth e v shape
+
+-- a node of the shape's sort and value
+pub record IsSamePart (shapes : List Shape) (shape : Shape) (node : Node) : Type 0 where
+  pub stands : IsNode shapes node
+  pub sort : node.sort ≡ sort_of shape
+  pub value : (e : Environment) (v : Values) → Models shapes e v → v node.index ≡ worth e v shape

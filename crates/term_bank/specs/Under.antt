@@ -1,0 +1,40 @@
+-- The nodes under roots, as numbers.
+use Rattle.std.specs.Prelude.{◌≡◌, ℕ, List, [], ◌∷◌, true, Some, ◌⊎◌, slice_get}
+use Rattle.std.specs.Ordering.{nat_cmp}
+use Rattle.std.specs.BTreeSet.{BTreeSet, contains}
+use Rattle.term_bank.specs.declared.sort.Node.{Node}
+use Rattle.term_bank.specs.declared.shape.Shape.{Shape}
+use Rattle.term_bank.specs.Shapes.{Each, parts}
+
+abbrev pub Among : ℕ → List ℕ → Type 0
+Among x [] = ⊥
+Among x (y ∷ ys) = (x ≡ y) ⊎ Among x ys
+
+abbrev pub numbers_of : List Node → List ℕ
+numbers_of [] = []
+numbers_of (n ∷ ns) = n.index ∷ numbers_of ns
+
+abbrev pub In : BTreeSet ℕ → ℕ → Type 0
+In set x = contains nat_cmp set x ≡ true
+
+-- the new set has the old one's numbers, those of the list, and no others
+pub record Adds (old new : BTreeSet ℕ) (xs : List ℕ) : Type 0 where
+  pub kept : (q : ℕ) → In old q → In new q
+  pub added : (q : ℕ) → Among q xs → In new q
+  pub only : (q : ℕ) → In new q → In old q ⊎ Among q xs
+
+-- the node of this number has a shape each part of which is in the list or has the property
+pub record StandsOver (shapes : List Shape) (P : ℕ → Type 0) (n : ℕ) (ns : List ℕ) : Type 0 where
+  pub shape : Shape
+  pub is : slice_get shapes n ≡ Some shape
+  pub parts_in : Each (λ p. Among p.index ns ⊎ P p.index) (parts shape)
+
+-- each part of a node of the list stands behind it or has the property
+abbrev pub IsHeld : List Shape → (ℕ → Type 0) → List ℕ → Type 0
+IsHeld shapes P [] = Unit {0}
+IsHeld shapes P (n ∷ ns) = StandsOver shapes P n ns × IsHeld shapes P ns
+
+-- the list has the roots, and behind each node its parts
+pub record IsCut (shapes : List Shape) (roots : List Node) (numbers : List ℕ) : Type 0 where
+  pub rooted : Each (λ r. Among r.index numbers) roots
+  pub held : IsHeld shapes (λ n. ⊥) numbers

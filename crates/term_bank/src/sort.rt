@@ -1,0 +1,19 @@
+use bit_words::Width;
+
+/// What a node's value is.
+#[derive(Clone, Copy, Debug, PartialEq, Eq, Hash)]
+pub enum Sort {
+    /// A truth value.
+    Truth,
+    /// A word of this width.
+    Word(Width),
+    /// A memory: a byte at each address, and the live objects.
+    Memory,
+}
+
+/// A node of a bank: its number there, and its sort.
+#[derive(Clone, Copy, Debug, PartialEq, Eq, Hash)]
+pub struct Node {
+    pub index: u32,
+    pub sort: Sort,
+}
