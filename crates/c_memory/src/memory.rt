@@ -45,11 +45,13 @@ impl Memory {
 
     /// Whether these addresses are of one live object; with no length, whether the address is in one or one past it.
     pub fn is_live(&self, address: u64, length: u64) -> bool
-        requires { length < 2 ^ 63 }
         ensures exact { (world : _) → result ≡ access.is_live (store_of world self.now.cells) address length }
         ensures room { IsTrue result → offset_of address + length ≤ 2 ^ 32 }
     {
-        reaches(self.object(address / ROOM), address % ROOM + length)
+        reaches(
+            self.object(address / ROOM),
+            u128::from(address % ROOM) + u128::from(length),
+        )
     }
 
     /// Whether both addresses are in, or one past, one live object.
@@ -61,7 +63,6 @@ impl Memory {
 
     /// Whether each of these bytes is of a live object.
     pub fn can_access(&self, address: u64, length: u64) -> bool
-        requires { length < 2 ^ 63 }
         ensures exact { (world : _) → result ≡ access.can_access (store_of world self.now.cells) address length }
         ensures room { IsTrue result → offset_of address + length ≤ 2 ^ 32 }
     {
@@ -185,12 +186,12 @@ impl Memory {
 }
 
 /// Whether an object has this many bytes.
-fn reaches(object: Option<Object>, end: u64) -> bool
+fn reaches(object: Option<Object>, end: u128) -> bool
     ensures exact { result ≡ access.reaches object end }
     ensures room { IsTrue result → end ≤ 2 ^ 32 }
 {
     match object {
-        Some(object) => end <= u64::from(object.size),
+        Some(object) => end <= u128::from(object.size),
         None => false,
     }
 }
