@@ -1,0 +1,140 @@
+-- Numbers and the bytes that spell them.
+use Rattle.std.proofs.Common.{◌≡◌, ◌<◌, ◌≤◌, ◌+◌, ◌*◌, ◌/◌, ◌%◌, ◌^◌, ◌-◌, ℕ, zero, suc, ℤ, pos, Bool, true, false, cond, List, [], ◌∷◌, ◌++◌}
+use Rattle.std.proofs.Common.{length, drop, get_or, refl, sym, ap, ◌∙◌, arith, append_assoc, pow-suc}
+use mir.Val.{SFits, to_z, of_z}
+use mir.Syntax.{w128}
+use Rattle.std.specs.Prelude.{All, unsigned_abs, not}
+use Rattle.std.proofs.Math.Nat.{div-div-eq-div-mul, zero-div}
+use Rattle.std.proofs.lemmas.Int.{to_z-of_z}
+use Rattle.std.proofs.lemmas.List.Elements.{All-from_get_or}
+use Rattle.bit_words.specs.declared.width.Width.{Width}
+use Rattle.bit_words.specs.declared.width.Width.TheVariants as w
+use Rattle.bit_words.specs.Words.{word, bits, from_bytes, to_bytes}
+use Rattle.bit_words.proofs.WordLaws.{word-word, from_bytes_below, from_bytes-to_bytes}
+use Rattle.c_type_terms.specs.declared.ctype.IntegerKind.{IntegerKind}
+use Rattle.c_type_terms.specs.declared.ctype.IntegerKind.TheVariants as k
+use Rattle.c_type_terms.specs.Integers.{converted, is_zero, width_of, bits_of, bytes_of, is_bool, number_of, value_of_word}
+
+-- a number as an enum keeps it
+pub kept : (z x : ℤ) → SFits w128 z → z ≡ x → to_z w128 (of_z w128 z) ≡ x
+kept z x fits is = to_z-of_z w128 z fits ∙ is
+
+-- ---- conversion sees the lowest 64 bits, and whether the value is 0
+
+at_most_64 : (v : Width) → bits v ≤ 64
+at_most_64 w.W8 = omega arith
+at_most_64 w.W16 = omega arith
+at_most_64 w.W32 = omega arith
+at_most_64 w.W64 = omega arith
+
+word_alike : (v : Width) (z y : ℤ) → word w.W64 z ≡ word w.W64 y → word v z ≡ word v y
+word_alike v z y same =
+    sym (word-word v w.W64 z (at_most_64 v)) ∙ ap (λ n. word v (pos n)) same ∙ word-word v w.W64 y (at_most_64 v)
+
+pub converted_alike : (kind : IntegerKind) (z y : ℤ) → word w.W64 z ≡ word w.W64 y → is_zero z ≡ is_zero y →
+    converted kind z ≡ converted kind y
+unfolding converted
+converted_alike kind z y same truth = rw (word_alike (width_of kind) z y same, truth) refl
+
+-- ---- bytes of an integer type
+
+bytes_and_bits : (kind : IntegerKind) → 256 ^ bytes_of kind ≡ 2 ^ bits_of kind
+bytes_and_bits k.Bool = refl
+bytes_and_bits k.Char = refl
+bytes_and_bits k.SignedChar = refl
+bytes_and_bits k.UnsignedChar = refl
+bytes_and_bits k.Short = refl
+bytes_and_bits k.UnsignedShort = refl
+bytes_and_bits k.Int = refl
+bytes_and_bits k.UnsignedInt = refl
+bytes_and_bits k.Long = refl
+bytes_and_bits k.UnsignedLong = refl
+bytes_and_bits k.LongLong = refl
+bytes_and_bits k.UnsignedLongLong = refl
+
+fits_64 : (kind : IntegerKind) → 2 ^ bits_of kind ≤ 2 ^ 64
+fits_64 k.Bool = omega arith
+fits_64 k.Char = omega arith
+fits_64 k.SignedChar = omega arith
+fits_64 k.UnsignedChar = omega arith
+fits_64 k.Short = omega arith
+fits_64 k.UnsignedShort = omega arith
+fits_64 k.Int = omega arith
+fits_64 k.UnsignedInt = omega arith
+fits_64 k.Long = omega arith
+fits_64 k.UnsignedLong = omega arith
+fits_64 k.LongLong = omega arith
+fits_64 k.UnsignedLongLong = omega arith
+
+low_same : (n x y : ℕ) → n ≤ 2 ^ 64 → x < n → y ≡ x % 2 ^ 64 → y ≡ x
+low_same n x y few less is = omega arith
+
+pub low_below : (kind : IntegerKind) (n x y : ℕ) → x < 256 ^ n → n ≡ bytes_of kind → y ≡ x % 2 ^ 64 →
+    (y ≡ x) × (y < 2 ^ bits_of kind)
+low_below kind n x y less is low =
+    let few : x < 2 ^ bits_of kind = rw (← bytes_and_bits kind, ← is) less in
+    let same = low_same (2 ^ bits_of kind) x y (fits_64 kind) few low in
+    (same, rw same few)
+
+-- ---- lists of bytes
+
+-- a byte in front
+div_first : (b f m : ℕ) → b < 256 → (b + 256 * f) / (256 * m) ≡ f / m
+div_first b f m less = sym (div-div-eq-div-mul (b + 256 * f) 256 m) ∙ ap (λ x. x / m) (behind b f less)
+  where
+    behind : (b f : ℕ) → b < 256 → (b + 256 * f) / 256 ≡ f
+    behind b f less = omega arith
+
+pub from_drop : (bytes : List ℕ) (n : ℕ) → ((i : ℕ) → get_or bytes i 0 < 256) →
+    from_bytes (drop n bytes) ≡ from_bytes bytes / 256 ^ n
+from_drop bytes zero small = omega arith
+from_drop [] (suc n) small = nothing (256 ^ suc n)
+  where
+    nothing : (m : ℕ) → 0 ≡ 0 / m
+    nothing m = sym (zero-div m)
+from_drop (b ∷ bytes) (suc n) small =
+    from_drop bytes n (λ i. small (suc i))
+    ∙ sym (div_first b (from_bytes bytes) (256 ^ n) (small 0))
+    ∙ ap (λ m. (b + 256 * from_bytes bytes) / m) (power n)
+  where
+    power : (n : ℕ) → 256 * 256 ^ n ≡ 256 ^ suc n
+    power n = omega (arith, pow-suc 256 n)
+
+pub bytes_small : (bytes : List ℕ) → ((i : ℕ) → get_or bytes i 0 < 256) → from_bytes bytes < 256 ^ length bytes
+bytes_small bytes small = from_bytes_below bytes (All-from_get_or (λ b. b < 256) bytes 0 (λ i less. small i))
+
+pub past_the_end : (bytes : List ℕ) (n : ℕ) → ((i : ℕ) → get_or bytes i 0 < 256) → length bytes < n →
+    from_bytes (drop (length bytes) bytes) ≡ from_bytes bytes / 256 ^ n
+past_the_end bytes n small far =
+    ap from_bytes (drop_all bytes (length bytes) (omega arith) ∙ sym (drop_all bytes n (omega arith))) ∙ from_drop bytes n small
+  where
+    drop_all : (bytes : List ℕ) (n : ℕ) → length bytes ≤ n → drop n bytes ≡ []
+    drop_all [] zero h = refl
+    drop_all [] (suc n) h = refl
+    drop_all (b ∷ bytes) zero h = absurd (omega arith)
+    drop_all (b ∷ bytes) (suc n) h = drop_all bytes n (omega arith)
+
+-- one byte of those that are asked for
+pub one_more : (found front : List ℕ) (left b : ℕ) (more all : List ℕ) (rest : List ℕ) → b < 256 → 0 < left →
+    rest ≡ b ∷ more → front ≡ found ++ b ∷ [] → found ++ to_bytes left (from_bytes rest) ≡ all →
+    front ++ to_bytes (left - 1) (from_bytes more) ≡ all
+one_more found front (suc left) b more all rest small some is put so_far =
+    let e : suc left - 1 ≡ left = omega arith in
+    rw (put, e)
+    (append_assoc found (b ∷ []) (to_bytes left (from_bytes more))
+    ∙ ap (λ xs. found ++ xs) (first b (from_bytes more) left small)
+    ∙ ap (λ r. found ++ to_bytes (suc left) (from_bytes r)) (sym is)
+    ∙ so_far)
+  where
+    first : (b f left : ℕ) → b < 256 → b ∷ to_bytes left f ≡ to_bytes (suc left) (b + 256 * f)
+    first b f left small =
+        let low : (b + 256 * f) % 256 ≡ b = omega arith in
+        let high : (b + 256 * f) / 256 ≡ f = omega arith in
+        rw (low, high) refl
+one_more found front zero b more all rest small some is put so_far = absurd (omega arith)
+
+-- sixteen bytes have the number
+pub sixteen : (x n : ℕ) → x ≤ 2 ^ 127 → (all behind : List ℕ) → all ≡ to_bytes 16 x →
+    from_bytes behind ≡ from_bytes all / n → from_bytes behind ≡ x / n
+sixteen x n few all behind is rest =
+    rest ∙ ap (λ bs. from_bytes bs / n) is ∙ ap (λ y. y / n) (from_bytes-to_bytes 16 x (omega arith))
