@@ -1,8 +1,8 @@
 //! All objects.
-ghost use Rattle.std.specs.Prelude.{◌≡◌, ◌≤◌, ◌<◌, ◌+◌, ◌^◌, length, slice_index, IsTrue, IsSome, IfOk, OnOk, None};
+ghost use Rattle.std.specs.Prelude.{◌≡◌, ◌≤◌, ◌<◌, ◌+◌, ◌^◌, length, slice_index, IsTrue, IsSome, IfOk, OnOk};
 ghost use Rattle.std.specs.BTreeMap.{get};
 ghost use Rattle.std.specs.Ordering.{nat_cmp};
-ghost use Rattle.c_store.specs.Store.{offset_of, read, write, lay, zero_range, make, end};
+ghost use Rattle.c_store.specs.Store.{offset_of, read, write, lay, zero_range, make, end, initial};
 ghost use Rattle.c_store.specs.Access as access;
 ghost use Rattle.c_memory.specs.Memories.{initial_bytes, store_of, Holds};
 
@@ -25,7 +25,7 @@ pub struct Memory {
 impl Memory {
     /// A memory without objects.
     pub fn new(alloc: Global) -> Memory
-        ensures { (number : _) → (store_of (λ _. 0) result.cells).objects number ≡ None }
+        ensures { (world : _) → store_of world result.cells ≡ initial world }
     {
         Memory {
             alloc,
