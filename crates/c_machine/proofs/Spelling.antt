@@ -3,14 +3,17 @@ use Rattle.std.proofs.Common.{◌≡◌, ◌<◌, ◌≤◌, ◌+◌, ◌*◌, �
 use Rattle.std.proofs.Common.{length, drop, get_or, refl, sym, ap, ◌∙◌, arith, append_assoc, pow-suc}
 use mir.Val.{SFits, to_z, of_z}
 use mir.Syntax.{w128}
-use Rattle.std.specs.Prelude.{All, unsigned_abs, not}
+use Rattle.std.specs.Prelude.{All, slice_index}
 use Rattle.std.proofs.Math.Nat.{div-div-eq-div-mul, zero-div}
 use Rattle.std.proofs.lemmas.Int.{to_z-of_z}
 use Rattle.std.proofs.lemmas.List.Elements.{All-from_get_or}
 use Rattle.bit_words.specs.declared.width.Width.{Width}
 use Rattle.bit_words.specs.declared.width.Width.TheVariants as w
 use Rattle.bit_words.specs.Words.{word, bits, from_bytes, to_bytes}
-use Rattle.bit_words.proofs.WordLaws.{word-word, from_bytes_below, from_bytes-to_bytes}
+use Rattle.bit_words.proofs.WordLaws.{word-word, from_bytes_below, from_bytes-to_bytes, length-to_bytes}
+use Rattle.c_store.specs.Store.{Store, spelt, lay, write, byte_of}
+use Rattle.c_store.proofs.Laws.{lay_same}
+use Rattle.c_memory.specs.Memories.{Holds}
 use Rattle.c_type_terms.specs.declared.ctype.IntegerKind.{IntegerKind}
 use Rattle.c_type_terms.specs.declared.ctype.IntegerKind.TheVariants as k
 use Rattle.c_type_terms.specs.Integers.{converted, is_zero, width_of, bits_of, bytes_of, is_bool, number_of, value_of_word}
@@ -138,3 +141,52 @@ pub sixteen : (x n : ℕ) → x ≤ 2 ^ 127 → (all behind : List ℕ) → all 
     from_bytes behind ≡ from_bytes all / n → from_bytes behind ≡ x / n
 sixteen x n few all behind is rest =
     rest ∙ ap (λ bs. from_bytes bs / n) is ∙ ap (λ y. y / n) (from_bytes-to_bytes 16 x (omega arith))
+
+-- the number in bytes that are held
+pub read_held : (f : ℕ → ℕ) (a n : ℕ) (bytes : List ℕ) → Holds f a n bytes → from_bytes bytes ≡ spelt n f a
+read_held f a zero [] holds = refl
+read_held f a zero (b ∷ bytes) holds = absurd (no (length bytes) holds.count)
+  where
+    no : (m : ℕ) → suc m ≡ 0 → ⊥
+    no m is = omega arith
+read_held f a (suc n) [] holds = absurd (no n holds.count)
+  where
+    no : (m : ℕ) → 0 ≡ suc m → ⊥
+    no m is = omega arith
+read_held f a (suc n) (b ∷ bytes) holds =
+    let first : b ≡ f (a + 0) = holds.each 0 (omega arith) in
+    let here : b ≡ f a = first ∙ ap f (omega arith) in
+    let small : b < 256 = holds.small 0 in
+    let mod : b ≡ f a % 256 = small_mod b (f a) small here in
+    rw (← mod, read_held f (suc a) n bytes (record {
+      count = count_less (length bytes) n holds.count;
+      each = λ i less. holds.each (suc i) (omega arith) ∙ ap f (further a i);
+      small = λ i. holds.small (suc i);
+    })) refl
+  where
+    small_mod : (b x : ℕ) → b < 256 → b ≡ x → b ≡ x % 256
+    small_mod b x less is = omega arith
+
+    count_less : (m n : ℕ) → suc m ≡ suc n → m ≡ n
+    count_less m n is = omega arith
+
+    further : (a i : ℕ) → a + suc i ≡ suc a + i
+    further a i = omega arith
+
+pub laid_count : (n x : ℕ) (bytes : List ℕ) → bytes ≡ to_bytes n (x / 256 ^ 0) → length bytes ≡ n
+laid_count n x bytes is = ap length is ∙ length-to_bytes n (x / 256 ^ 0)
+
+-- bytes laid are the number written
+pub laid_bytes : (n a x : ℕ) (bytes laid : List ℕ) (s : Store) → bytes ≡ to_bytes n (x / 256 ^ 0) → laid ≡ bytes →
+    lay a (length laid) (slice_index laid) s ≡ write n a x s
+laid_bytes n a x bytes laid s is same =
+    let all : laid ≡ to_bytes n x = same ∙ is ∙ ap (to_bytes n) (whole x) in
+    rw (all, length-to_bytes n x) (lay_same a n (slice_index (to_bytes n x)) (byte_of x) s (λ i less. each n x i less))
+  where
+    whole : (x : ℕ) → x / 256 ^ 0 ≡ x
+    whole x = omega arith
+
+    each : (n x i : ℕ) → i < n → slice_index (to_bytes n x) i ≡ byte_of x i
+    each zero x i less = absurd (omega arith)
+    each (suc n) x zero less = refl
+    each (suc n) x (suc i) less = each n (x / 256) i (omega arith)

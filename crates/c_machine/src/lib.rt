@@ -1,7 +1,14 @@
 //! The machine that runs expressions of C: a state of the definition, kept as data, with one call for each operation that
 //! the definition names.
-#![tactic(auto)]
+#![tactic(auto, unfolding(crate::specs::States::state))]
 
+mod halt;
+mod machine;
+mod objects;
+mod operators;
 mod value;
 
+pub use halt::Halt;
+pub use machine::Machine;
+pub use operators::Operand;
 pub use value::Value;

@@ -65,6 +65,7 @@ pub holds_none : (world : ℕ → ℕ) (m : Cells) (c : Cell) (a n : ℕ) (bytes
 holds_none world m c a n bytes is none room holds = record {
   count = holds.count;
   each = λ i less. holds.each i less ∙ here i less;
+  small = holds.small;
 }
   where
     same : (i : ℕ) → i < n → object_of (a + i) ≡ object_of a
@@ -90,6 +91,7 @@ pub holds_cell : (world : ℕ → ℕ) (m : Cells) (c : Cell) (a n : ℕ) (bytes
 holds_cell world m c a n bytes is room holds = record {
   count = holds.count;
   each = λ i less. holds.each i less ∙ here i less;
+  small = holds.small;
 }
   where
     same : (i : ℕ) → i < n → object_of (a + i) ≡ object_of a

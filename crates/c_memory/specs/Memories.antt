@@ -25,6 +25,7 @@ pub record Lays (world : ℕ → ℕ) (c d : Cell) (a n : ℕ) (f : ℕ → ℕ)
 pub record Holds (f : ℕ → ℕ) (a n : ℕ) (bytes : List ℕ) : Type 0 where
   pub count : length bytes ≡ n
   pub each : (i : ℕ) → i < n → slice_index bytes i ≡ f (a + i)
+  pub small : (i : ℕ) → slice_index bytes i < 256
 
 abbrev pub Cells : Type 0
 Cells = BTreeMap ℕ Cell
