@@ -157,8 +157,8 @@ read_held f a (suc n) (b ∷ bytes) holds =
     let first : b ≡ f (a + 0) = holds.each 0 (omega arith) in
     let here : b ≡ f a = first ∙ ap f (omega arith) in
     let small : b < 256 = holds.small 0 in
-    let mod : b ≡ f a % 256 = small_mod b (f a) small here in
-    rw (← mod, read_held f (suc a) n bytes (record {
+    let low : b ≡ f a % 256 = small_mod b (f a) small here in
+    rw (← low, read_held f (suc a) n bytes (record {
       count = count_less (length bytes) n holds.count;
       each = λ i less. holds.each (suc i) (omega arith) ∙ ap f (further a i);
       small = λ i. holds.small (suc i);

@@ -62,7 +62,14 @@ impl Machine {
     fn can_load(&self, class: Class, count: u64, rooted: bool, address: u64) -> bool
         ensures { result ≡ rooted || not (objects.is_read class) || access.can_access (state self.now).store address count }
     {
-        rooted || !is_read(class) || self.memory.can_access(address, count)
+        if rooted {
+            return true;
+        }
+        if is_read(class) {
+            self.memory.can_access(address, count)
+        } else {
+            true
+        }
     }
 
     fn can_reach(&self, count: u64, rooted: bool, address: u64) -> bool
