@@ -1,5 +1,5 @@
 -- The state of the definition that the machine is, and what a call of the machine answers by it.
-use Rattle.std.specs.Prelude.{◌≡◌, ℕ, ℤ, Bool, true, false, Option, Some, None, Result, Ok, Err}
+use Rattle.std.specs.Prelude.{◌≡◌, ◌≤◌, ◌^◌, ℕ, ℤ, pos, negsuc, Bool, true, false, Option, Some, None, IsSome, Result, Ok, Err}
 use Rattle.std.specs.declared.alloc.AllocError.{AllocError}
 use Rattle.bit_words.specs.declared.run.Side.TheVariants as side
 use Rattle.bit_words.specs.declared.run.Happening.TheVariants.{Branch}
@@ -10,9 +10,9 @@ use Rattle.c_memory.specs.Memories.{store_of, initial_bytes}
 use Rattle.c_machine.specs.declared.halt.Halt.{Halt}
 use Rattle.c_machine.specs.declared.halt.Halt.TheVariants.{Over, Memory}
 use Rattle.c_machine.specs.declared.machine.Machine.{Machine}
-use Rattle.c_machine.specs.declared.operators.Operand.{Operand}
+use Rattle.c_machine.specs.declared.operand.Operand.{Operand}
 use Rattle.c_machine.specs.declared.value.Value.{Value}
-use Rattle.c_machine.specs.Worth.{worth}
+use Rattle.c_machine.specs.Worth.{worth, IsNumber}
 
 unfoldable pub state : Machine → State
 state m = record {
@@ -45,6 +45,18 @@ Branches (Ok true) d at z before = (is_zero z ≡ false) × (d ≡ note (Branch 
 Branches (Ok false) d at z before = (is_zero z ≡ true) × (d ≡ note (Branch at side.No) before)
 Branches (Err e) d at z before = Unit {0}
 
--- an operand as the definition has it
+-- an operand as the definition has it: an integer is kept as a number
 abbrev pub seen : Operand → means.Operand
-seen x = record { kind = x.kind; element = x.element; value = x.value }
+seen x = record { kind = x.kind; element = x.element; value = worth x.value }
+
+abbrev pub HasNumber : Operand → Type 0
+HasNumber x = IsSome x.kind → IsNumber x.value
+
+-- the address to which a number leads, or that there is none
+abbrev pub IsFar : ℤ → Type 0
+IsFar (pos n) = 2 ^ 64 ≤ n
+IsFar (negsuc n) = Unit {0}
+
+abbrev pub Leads : Option ℕ → ℤ → Type 0
+Leads (Some to) z = z ≡ pos to
+Leads None z = IsFar z

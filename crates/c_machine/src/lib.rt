@@ -5,10 +5,12 @@
 mod halt;
 mod machine;
 mod objects;
+mod operand;
 mod operators;
+mod pointers;
 mod value;
 
 pub use halt::Halt;
 pub use machine::Machine;
-pub use operators::Operand;
+pub use operand::Operand;
 pub use value::Value;

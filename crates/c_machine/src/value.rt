@@ -106,6 +106,7 @@ impl Value {
     pub fn scalar(&self) -> i128
         ensures word { word W64 result ≡ word W64 (worth self.now) }
         ensures zero { is_zero result ≡ is_zero (worth self.now) }
+        ensures number { IsNumber self.now → result ≡ worth self.now }
     {
         match self {
             Value::Number(number) => *number,

@@ -11,8 +11,10 @@ mod turning;
 mod values;
 
 pub use calling::call;
+pub use operators::worked;
 pub use primary::{character_constant, floating_constant, identifier, integer_constant};
 pub use told::{
     arrow, assignment, binary, cast, choice, comma, joined, member, node, operand, postfix,
     refused, size_of_expression, size_of_type, subscript, typeless, unary, used,
 };
+pub use turning::turned;
