@@ -2,7 +2,9 @@
 //! the definition names.
 #![tactic(auto, unfolding(crate::specs::States::state))]
 
+mod calls;
 mod halt;
+mod lives;
 mod machine;
 mod objects;
 mod operand;
@@ -10,6 +12,7 @@ mod operators;
 mod pointers;
 mod value;
 
+pub use calls::Caller;
 pub use halt::Halt;
 pub use machine::Machine;
 pub use operand::Operand;
