@@ -4,7 +4,7 @@ use Rattle.std.proofs.Common.{length, drop, get_or, refl, sym, ap, ◌∙◌, ar
 use mir.Val.{SFits, to_z, of_z}
 use mir.Syntax.{w128}
 use Rattle.std.specs.Prelude.{All, slice_index}
-use Rattle.std.proofs.Math.Nat.{div-div-eq-div-mul, zero-div}
+use Rattle.std.proofs.Math.Nat.{div-div-eq-div-mul, zero-div, mod-lt, mod-add-div, add-mul-mod_self_left, mod-eq_of_lt, mul_assoc, mul_comm}
 use Rattle.std.proofs.lemmas.Int.{to_z-of_z}
 use Rattle.std.proofs.lemmas.List.Elements.{All-from_get_or}
 use Rattle.bit_words.specs.declared.width.Width.{Width}
@@ -190,3 +190,36 @@ laid_bytes n a x bytes laid s is same =
     each zero x i less = absurd (omega arith)
     each (suc n) x zero less = refl
     each (suc n) x (suc i) less = each n (x / 256) i (omega arith)
+
+-- so many bytes are the number modulo so many bytes
+pub from_to_mod : (n y : ℕ) → from_bytes (to_bytes n y) ≡ y % 256 ^ n
+from_to_mod zero y = omega arith
+from_to_mod (suc n) y =
+    ap (λ f. y % 256 + 256 * f) (from_to_mod n (y / 256))
+    ∙ wider (256 ^ n) y (pow_pos n)
+    ∙ ap (λ m. y % m) (power n)
+  where
+    power : (n : ℕ) → 256 ^ n * 256 ≡ 256 ^ suc n
+    power n = sym (pow-suc 256 n)
+
+    pow_pos : (n : ℕ) → 0 < 256 ^ n
+    pow_pos zero = omega arith
+    pow_pos (suc n) = omega (arith, pow-suc 256 n, pow_pos n)
+
+    wider : (m y : ℕ) → 0 < m → y % 256 + 256 * (y / 256 % m) ≡ y % (m * 256)
+    wider m y some =
+        let q = y / 256 in
+        let few : q % m < m = mod-lt q some in
+        let small : y % 256 + 256 * (q % m) < m * 256 = omega arith in
+        let whole : y ≡ (y % 256 + 256 * (q % m)) + m * 256 * (q / m) = all m y q (q / m) (q % m) refl (mod-add-div q m) in
+        sym (ap (λ z. z % (m * 256)) whole
+        ∙ add-mul-mod_self_left (y % 256 + 256 * (q % m)) (m * 256) (q / m)
+        ∙ mod-eq_of_lt small)
+      where
+        times : (m a : ℕ) → m * 256 * a ≡ 256 * (m * a)
+        times m a = mul_assoc m 256 a ∙ ap (λ z. m * z) (mul_comm 256 a) ∙ sym (mul_assoc m a 256) ∙ mul_comm (m * a) 256
+
+        all : (m y q a b : ℕ) → q ≡ y / 256 → b + m * a ≡ q → y ≡ (y % 256 + 256 * b) + m * 256 * a
+        all m y q a b is parts =
+            let t = times m a in
+            omega (arith, t, parts, is)

@@ -7,6 +7,7 @@ ghost use Rattle.c_means.specs.Values as values;
 ghost use Rattle.c_machine.specs.Worth.{worth, IsNumber, IsScalar};
 
 use bit_words::{Bytes, Width, wrap};
+use crate::objects::bytes_as;
 use c_type_terms::Class;
 use std::alloc::{AllocError, Global};
 
@@ -149,6 +150,29 @@ impl Value {
             }
             Value::Bytes(bytes) => first(alloc, behind(bytes.as_slice(), offset), count),
         }
+    }
+
+    /// Whether the value is 0.
+    pub fn is_zero(&self) -> bool
+        ensures { result ≡ is_zero (worth self.now) }
+    {
+        self.scalar() == 0
+    }
+
+    /// The value of a type that stands in the bytes of this one, from an offset on (C99 6.5.2.3p3). It fails for want of
+    /// memory alone.
+    pub fn part(
+        &self,
+        alloc: Global,
+        offset: u64,
+        class: Class,
+        size: Option<u64>,
+    ) -> Result<Value, AllocError>
+        ensures value { IfOk result (λ v. worth v ≡ values.value_of_bytes class (values.bytes_within offset (values.bytes_as class size) (unsigned_abs (worth self.now)))) }
+        ensures number { IfOk result (λ v. IsScalar class → IsNumber v) }
+    {
+        let bytes = self.bytes(alloc, offset, bytes_as(class, size))?;
+        Ok(Value::of_bytes(class, size, bytes))
     }
 
     /// The value of a type whose bytes these are: a `_Bool` of a byte other than 0 is 1 (C99 6.2.6.1p4).
