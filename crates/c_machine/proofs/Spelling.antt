@@ -158,11 +158,14 @@ read_held f a (suc n) (b ∷ bytes) holds =
     let here : b ≡ f a = first ∙ ap f (omega arith) in
     let small : b < 256 = holds.small 0 in
     let low : b ≡ f a % 256 = small_mod b (f a) small here in
-    rw (← low, read_held f (suc a) n bytes (record {
-      count = count_less (length bytes) n holds.count;
-      each = λ i less. holds.each (suc i) (omega arith) ∙ ap f (further a i);
-      small = λ i. holds.small (suc i);
-    })) refl
+    rw (
+      ← low,
+      read_held f (suc a) n bytes (record {
+        count = count_less (length bytes) n holds.count;
+        each = λ i less. holds.each (suc i) (omega arith) ∙ ap f (further a i);
+        small = λ i. holds.small (suc i);
+      }),
+    ) refl
   where
     small_mod : (b x : ℕ) → b < 256 → b ≡ x → b ≡ x % 256
     small_mod b x less is = omega arith

@@ -111,7 +111,10 @@ impl Machine {
             self.note(Happening::Branch { at, side: Side::No })?;
             return Ok(false);
         }
-        self.note(Happening::Branch { at, side: Side::Yes })?;
+        self.note(Happening::Branch {
+            at,
+            side: Side::Yes,
+        })?;
         Ok(true)
     }
 }

@@ -116,19 +116,19 @@ impl Machine {
     }
 
     /// So many elements of a size in front of an address.
-fn target_back(element: u64, count: i128, address: u64) -> Option<u64>
-    ensures { Leads result (pos address +ℤ neg_ℤ count *ℤ pos element) }
-{
-    match count.checked_mul(i128::from(element)) {
-        Some(distance) => match i128::from(address).checked_sub(distance) {
-            Some(number) => as_address(number),
+    fn target_back(element: u64, count: i128, address: u64) -> Option<u64>
+        ensures { Leads result (pos address +ℤ neg_ℤ count *ℤ pos element) }
+    {
+        match count.checked_mul(i128::from(element)) {
+            Some(distance) => match i128::from(address).checked_sub(distance) {
+                Some(number) => as_address(number),
+                None => None,
+            },
             None => None,
-        },
-        None => None,
+        }
     }
-}
 
-/// How many elements of a size are between two addresses in, or one past, one live object (C99 6.5.6p9).
+    /// How many elements of a size are between two addresses in, or one past, one live object (C99 6.5.6p9).
     pub fn apart(&mut self, at: u32, element: u64, one: u64, other: u64) -> Result<i128, Halt>
         ensures world { self.new.world ≡ self.old.world }
         ensures runs { Runs result (state self.new) (pointers.apart at element one other (state self.old)) }

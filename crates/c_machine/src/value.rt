@@ -6,8 +6,8 @@ ghost use Rattle.c_type_terms.specs.Integers.{is_zero};
 ghost use Rattle.c_means.specs.Values as values;
 ghost use Rattle.c_machine.specs.Worth.{worth, IsNumber, IsScalar};
 
-use bit_words::{Bytes, Width, wrap};
 use crate::objects::bytes_as;
+use bit_words::{Bytes, Width, wrap};
 use c_type_terms::Class;
 use std::alloc::{AllocError, Global};
 

@@ -1,7 +1,6 @@
 use Rattle.std.proofs.Common.{ap}
 use Rattle.c_means.specs.Parts.{with_store}
 use Rattle.c_memory.specs.Memories.{initial_bytes}
-
 use Rattle.c_machine.specs.States.{state}
 use Rattle.c_machine.proofs.machine.Machine.end_object.Goals as goal
 
