@@ -15,5 +15,6 @@ mod value;
 pub use calls::Caller;
 pub use halt::Halt;
 pub use machine::Machine;
+pub use objects::bytes_as;
 pub use operand::Operand;
 pub use value::Value;

@@ -1,0 +1,13 @@
+//! Expressions of C, run on a machine: one function a form, over the functions that run its parts.
+#![tactic(auto)]
+
+mod below;
+mod binary;
+mod context;
+mod facts;
+mod frame;
+
+pub use below::Below;
+pub use context::Context;
+pub use facts::{Facts, Found, Placed};
+pub use frame::Frame;
