@@ -21,7 +21,7 @@ use std::alloc::{AllocError, Global};
 impl<
     'a,
     L: Context,
-    V: Fn(Global, &L, &Frame, &Expr, &mut Scope, u64, &mut Machine) -> Result<Found, Halt>,
+    V: Fn(Global, &L, &Frame, &Expr, bool, &mut Scope, u64, &mut Machine) -> Result<Found, Halt>,
     P: Fn(Global, &L, &Frame, &Expr, &mut Scope, u64, &mut Machine) -> Result<Placed, Halt>,
     K: Fn(Global, &L, &Expr, &mut Scope, u64) -> Result<Facts, AllocError>,
 > Below<'a, L, V, P, K> {

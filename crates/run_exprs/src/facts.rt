@@ -1,16 +1,16 @@
 //! What is known of an expression besides its value.
-ghost use Rattle.std.specs.Prelude.{◌≡◌, IfOk};
+ghost use Rattle.std.specs.Prelude.{◌≡◌, false, None, IfOk};
 ghost use Rattle.c_says.specs.Typing.{type_in};
 ghost use Rattle.c_type_terms.specs.Types.{target_of};
 ghost use Rattle.c_means.specs.Operators as means;
-ghost use Rattle.c_means.specs.Values.{bytes_of};
+ghost use Rattle.c_means.specs.Values.{bytes_of, class_in, converted_to};
 ghost use Rattle.c_machine.specs.States.{seen, HasNumber};
 ghost use Rattle.c_machine.specs.Worth.{worth};
 
 use bit_words::Bytes;
 use c_machine::{Operand, Value, bytes_as};
 use c_says::Told;
-use c_type_terms::{CType, Tables};
+use c_type_terms::{CType, Class, Tables};
 use std::alloc::{AllocError, Global};
 
 /// What the types say of an expression, whether the root of the lvalue that it is is a name, its bytes where it is a
@@ -44,6 +44,47 @@ pub struct Used {
 pub struct Placed {
     pub facts: Facts,
     pub address: u64,
+}
+
+/// A value that is no lvalue's.
+pub(crate) fn valued(told: Told, next: u64, value: Value) -> Found
+    ensures { result ≡ record { facts = record { told = told; rooted = false; text = None; next = next }; value = value } }
+{
+    Found {
+        facts: Facts {
+            told,
+            rooted: false,
+            text: None,
+            next,
+        },
+        value,
+    }
+}
+
+pub(crate) fn numbered(told: Told, next: u64, number: i128) -> Found
+    ensures facts { result.facts ≡ record { told = told; rooted = false; text = None; next = next } }
+    ensures value { worth result.value ≡ number }
+{
+    valued(told, next, Value::Number(number))
+}
+
+/// The class of the type that an expression has.
+pub(crate) fn class_of(told: &Told) -> Class
+    ensures { result ≡ class_in (type_in told.now.shown) }
+{
+    match &told.shown {
+        Some(shown) => shown.ctype.class(),
+        None => Class::Void,
+    }
+}
+
+/// A value that is converted to the type of the whole.
+pub(crate) fn chosen(told: Told, next: u64, value: Value) -> Found
+    ensures facts { result.facts ≡ record { told = told; rooted = false; text = None; next = next } }
+    ensures value { worth result.value ≡ converted_to (class_in (type_in told.shown)) (worth value) }
+{
+    let value = value.converted(class_of(&told));
+    valued(told, next, value)
 }
 
 /// The bytes of what a pointer type points to: none where it is no pointer type.

@@ -3,11 +3,13 @@
 
 mod below;
 mod binary;
+mod choices;
 mod context;
 mod facts;
 mod frame;
+mod places;
 
 pub use below::Below;
 pub use context::Context;
-pub use facts::{Facts, Found, Placed};
+pub use facts::{Facts, Found, Placed, Used};
 pub use frame::Frame;
