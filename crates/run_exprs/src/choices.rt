@@ -15,7 +15,7 @@ use crate::facts::{Facts, Found, Placed, Used, chosen, numbered, valued};
 use crate::frame::Frame;
 use c_machine::{Halt, Machine};
 use c_tree::{BinaryOperator, Expr};
-use c_type_forms::{binary, choice, comma, used};
+use c_type_forms::{binary, choice, comma};
 use c_type_scope::Scope;
 use std::alloc::{AllocError, Global};
 
@@ -169,8 +169,11 @@ impl<
         ensures facts { let p = part left.now scope.old in let q = part right.now p.typed.after in IfOk result (λ x. Tells (L.level self.now.context.now) base scope.new x.facts (form.comma at p q)) }
     {
         let Found { facts: x, .. } = self.value(left, false, scope, base, m)?;
-        let Facts { told, next, .. } = x;
-        let left = used(self.alloc, scope.tables(), told)?;
+        let Facts {
+            told: left,
+            next,
+            ..
+        } = x;
         let Used { told, value, next } = self.used(right, scope, next, m)?;
         let told = comma(at, left, told)?;
         Ok(valued(told, next, value))
