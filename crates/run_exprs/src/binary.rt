@@ -10,7 +10,7 @@ ghost use Rattle.run_exprs.specs.Tells.{Tells};
 
 use crate::below::Below;
 use crate::context::Context;
-use crate::facts::{Facts, Found, Placed, Used, operand};
+use crate::facts::{Facts, Found, Placed, Used, operate};
 use crate::frame::Frame;
 use c_machine::{Halt, Machine, Value};
 use c_tree::{BinaryOperator, Expr};
@@ -57,9 +57,17 @@ impl<
             value: w,
             next,
         } = y;
-        let one = operand(self.alloc, scope.tables(), &left, v)?;
-        let other = operand(self.alloc, scope.tables(), &right, w)?;
-        let number = m.operated(at, operator, &one, &other)?;
+        let number = operate(
+            self.alloc,
+            scope.tables(),
+            at,
+            operator,
+            &left,
+            v,
+            &right,
+            w,
+            m,
+        )?;
         let told = binary(self.alloc, scope.tables(), at, operator, left, right)?;
         Ok(Found {
             facts: Facts {

@@ -4,12 +4,13 @@ ghost use Rattle.c_says.specs.Typing.{type_in};
 ghost use Rattle.c_type_terms.specs.Types.{target_of};
 ghost use Rattle.c_means.specs.Operators as means;
 ghost use Rattle.c_means.specs.Values.{bytes_of, class_in, converted_to};
-ghost use Rattle.c_machine.specs.States.{seen, HasNumber};
+ghost use Rattle.c_machine.specs.States.{state, Runs, seen, HasNumber};
 ghost use Rattle.c_machine.specs.Worth.{worth};
 
 use bit_words::Bytes;
-use c_machine::{Operand, Value, bytes_as};
+use c_machine::{Halt, Machine, Operand, Value, bytes_as};
 use c_says::Told;
+use c_tree::BinaryOperator;
 use c_type_terms::{CType, Class, Tables};
 use std::alloc::{AllocError, Global};
 
@@ -99,7 +100,7 @@ fn element_bytes(alloc: Global, tables: &Tables, ctype: &CType) -> Result<u64, A
 
 /// What an operator sees of a value, whose types are told as they are used. It fails for want of memory alone: an
 /// integer that is kept as bytes, which no accepted program has, counts as too long.
-pub(crate) fn operand(
+fn operand(
     alloc: Global,
     tables: &Tables,
     used: &Told,
@@ -137,4 +138,26 @@ pub(crate) fn operand(
             })
         }
     }
+}
+
+/// A binary operator over two values, whose types are told as they are used (C99 6.5.5 to 6.5.12).
+pub(crate) fn operate(
+    alloc: Global,
+    tables: &Tables,
+    at: u32,
+    operator: BinaryOperator,
+    left: &Told,
+    v: Value,
+    right: &Told,
+    w: Value,
+    m: &mut Machine,
+) -> Result<i128, Halt>
+    ensures world { m.new.world ≡ m.old.world }
+    ensures runs { Runs result (state m.new) (means.operated at operator
+        (means.operand_of tables.now (type_in left.now.shown) (worth v))
+        (means.operand_of tables.now (type_in right.now.shown) (worth w)) (state m.old)) }
+{
+    let x = operand(alloc, tables, left, v)?;
+    let y = operand(alloc, tables, right, w)?;
+    m.operated(at, operator, &x, &y)
 }

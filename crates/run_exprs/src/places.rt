@@ -10,7 +10,7 @@ ghost use Rattle.run_exprs.specs.Tells.{Tells};
 
 use crate::below::Below;
 use crate::context::Context;
-use crate::facts::{Facts, Found, Placed, Used, operand};
+use crate::facts::{Facts, Found, Placed, Used, operate};
 use crate::frame::Frame;
 use c_machine::{Halt, Machine, Value};
 use c_tree::{BinaryOperator, Expr, UnaryOperator};
@@ -54,9 +54,17 @@ impl<
             value: w,
             next,
         } = y;
-        let one = operand(self.alloc, scope.tables(), &left, v)?;
-        let other = operand(self.alloc, scope.tables(), &right, w)?;
-        let sum = m.operated(at, BinaryOperator::Add, &one, &other)?;
+        let sum = operate(
+            self.alloc,
+            scope.tables(),
+            at,
+            BinaryOperator::Add,
+            &left,
+            v,
+            &right,
+            w,
+            m,
+        )?;
         let told = subscript(self.alloc, scope.tables(), at, left, right)?;
         Ok(Placed {
             facts: Facts {
