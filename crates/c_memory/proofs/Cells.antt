@@ -1,15 +1,15 @@
 -- Bytes of cells, and the stores that they are.
-use Rattle.std.proofs.Common.{◌≡◌, ◌<◌, ◌≤◌, ◌+◌, ◌-◌, ◌*◌, ◌%◌, ◌/◌, ◌^◌, ◌⊎◌, ℕ, zero, suc, Bool, true, false, cond, List}
+use Rattle.std.proofs.Common.{◌≡◌, ◌<◌, ◌≤◌, ◌+◌, ◌-◌, ◌*◌, ◌/◌, ◌^◌, ◌⊎◌, ℕ, zero, suc, Bool, true, false, cond, List, []}
 use Rattle.std.proofs.Common.{nat_eq, nat_le, nat_lt, arith, refl, sym, ap, ◌∙◌, Option, Some, None, inl, inr}
 use Rattle.std.specs.Prelude.{IsSome, Result, Ok, Err, OnOk, IfOk}
-use Rattle.std.specs.BTreeMap.{BTreeMap, get, WritesThrough}
+use Rattle.std.specs.BTreeMap.{get, WritesThrough}
 use Rattle.std.specs.Ordering.{nat_cmp, is_eq}
 use Rattle.c_store.specs.declared.object.Object.{Object}
-use Rattle.c_store.specs.Store.{Store, object_of, offset_of, spelt, lay, within, byte_of, make}
-use Rattle.c_store.specs.Access.{is_live, reaches, can_access}
+use Rattle.c_store.specs.Store.{Store, object_of, offset_of, spelt, lay, within, byte_of, set_at}
+use Rattle.c_store.specs.Access.{is_live, can_access}
 use Rattle.c_store.proofs.Laws.{spelt_below, spelt_same, store_ext, within_yes, within_low, within_high}
 use Rattle.c_memory.specs.declared.cell.Cell.{Cell}
-use Rattle.c_memory.specs.Memories.{Cells, byte_in, byte_at, object_at, store_of, forget, Lays, Holds}
+use Rattle.c_memory.specs.Memories.{Cells, byte_in, byte_at, object_at, store_of, Lays, Holds}
 
 -- ---- results
 
@@ -40,14 +40,6 @@ spelt_fits f b n v x less is small = let h : v < 256 ^ n = rw is (spelt_below n 
 
 -- ---- what is live
 
--- nothing is live where there is no cell
-pub live_none : {A : Type 0} (world : ℕ → ℕ) (m : Cells) (a n : ℕ) → None ≡ get nat_cmp m (object_of a) →
-    is_live (store_of world m) a n ≡ true → A
-live_none world m a n is live = absurd (no (rw (← is) at live))
-  where
-    no : false ≡ true → ⊥
-    no h = cc
-
 pub access_some : (s : Store) (a n : ℕ) (r : Bool) → (n ≡ 0 → ⊥) → r ≡ is_live s a n → r ≡ can_access s a n
 access_some s a n r some is = rw (no n some) is
   where
@@ -56,7 +48,33 @@ access_some s a n r some is = rw (no n some) is
 
 -- ---- reads
 
--- the bytes of a live range are its cell's
+-- where there is no cell, the bytes are the world's, as those of a cell in which none was laid
+pub read_none : (world : ℕ → ℕ) (m : Cells) (c : Cell) (a n : ℕ) → None ≡ get nat_cmp m (object_of a) → c.bytes ≡ [] →
+    offset_of a + n ≤ 2 ^ 32 → spelt n (byte_in world c) a ≡ spelt n (store_of world m).bytes a
+read_none world m c a n is none room = spelt_same n (byte_in world c) (store_of world m).bytes a a each
+  where
+    same : (i : ℕ) → i < n → object_of (i + a) ≡ object_of a
+    same i less = omega arith
+
+    each : (i : ℕ) → i < n → byte_in world c (i + a) ≡ byte_at world (get nat_cmp m (object_of (i + a))) (i + a)
+    each i less = rw (same i less, ← is, none) refl
+
+pub holds_none : (world : ℕ → ℕ) (m : Cells) (c : Cell) (a n : ℕ) (bytes : List ℕ) →
+    None ≡ get nat_cmp m (object_of a) → c.bytes ≡ [] → offset_of a + n ≤ 2 ^ 32 →
+    Holds (byte_in world c) a n bytes → Holds (store_of world m).bytes a n bytes
+holds_none world m c a n bytes is none room holds = record {
+  count = holds.count;
+  each = λ i less. holds.each i less ∙ here i less;
+  small = holds.small;
+}
+  where
+    same : (i : ℕ) → i < n → object_of (a + i) ≡ object_of a
+    same i less = omega arith
+
+    here : (i : ℕ) → i < n → byte_in world c (a + i) ≡ byte_at world (get nat_cmp m (object_of (a + i))) (a + i)
+    here i less = rw (same i less, ← is, none) refl
+
+-- the bytes of a range are its cell's
 pub read_cell : (world : ℕ → ℕ) (m : Cells) (c : Cell) (a n : ℕ) → Some c ≡ get nat_cmp m (object_of a) →
     offset_of a + n ≤ 2 ^ 32 → spelt n (byte_in world c) a ≡ spelt n (store_of world m).bytes a
 read_cell world m c a n is room = spelt_same n (byte_in world c) (store_of world m).bytes a a each
@@ -73,6 +91,7 @@ pub holds_cell : (world : ℕ → ℕ) (m : Cells) (c : Cell) (a n : ℕ) (bytes
 holds_cell world m c a n bytes is room holds = record {
   count = holds.count;
   each = λ i less. holds.each i less ∙ here i less;
+  small = holds.small;
 }
   where
     same : (i : ℕ) → i < n → object_of (a + i) ≡ object_of a
@@ -85,6 +104,9 @@ holds_cell world m c a n bytes is room holds = record {
 
 key_equal : (p q : ℕ) → is_eq (nat_cmp p q) ≡ true → q ≡ p
 key_equal p q h = grind arith
+
+key_same : (p q : ℕ) → is_eq (nat_cmp p q) ≡ true → nat_eq q p ≡ true
+key_same p q h = grind arith
 
 key_other : (p q : ℕ) → is_eq (nat_cmp p q) ≡ false → nat_eq q p ≡ false
 key_other p q h = grind arith
@@ -99,7 +121,7 @@ cell_lays world m k c d a n f here gets room lays = store_ext _ _ bytes objects
     objects q = rw (gets q) (elim (is_eq (nat_cmp (object_of a) q)) as
         (λ t. is_eq (nat_cmp (object_of a) q) ≡ t →
         object_at (cond t (Some d) (get nat_cmp m q)) ≡ object_at (get nat_cmp m q)) [
-          | true ↦ λ is. rw (key_equal (object_of a) q is, here) (ap (λ z. Some z) lays.object)
+          | true ↦ λ is. rw (key_equal (object_of a) q is, here) lays.object
           | false ↦ λ is. refl
         ] refl)
 
@@ -125,6 +147,55 @@ lent_lays world m k c d a n f there writes room lays =
     let is : get nat_cmp m (object_of a) ≡ Some c = sym there in
     let some : IsSome (get nat_cmp m (object_of a)) = rw is refl in
     cell_lays world m k c d a n f is (writes.3 some).0 room lays
+
+-- the same behind a step that left the store as it was
+pub lent_lays_in : (world : ℕ → ℕ) (s : Store) (m k : Cells) (c d : Cell) (a n : ℕ) (f : ℕ → ℕ) →
+    store_of world m ≡ s → Some c ≡ get nat_cmp m (object_of a) → WritesThrough nat_cmp (nat_cmp (object_of a)) m d k →
+    offset_of a + n ≤ 2 ^ 32 → Lays world c d a n f → store_of world k ≡ lay a n f s
+lent_lays_in world s m k c d a n f same there writes room lays =
+    lent_lays world m k c d a n f there writes room lays ∙ ap (lay a n f) same
+
+-- there is a cell
+pub there_is : {A : Type 0} (m : Cells) (p : ℕ) → None ≡ get nat_cmp m p → IsSome (get nat_cmp m p) → A
+there_is m p none some = absurd (no (get nat_cmp m p) none some)
+  where
+    no : (o : Option Cell) → None ≡ o → IsSome o → ⊥
+    no None is h = cc
+    no (Some c) is h = cc
+
+-- ---- objects
+
+-- a cell's object is another one
+object_set : (world : ℕ → ℕ) (m k : Cells) (c d : Cell) (p : ℕ) (o : Option Object) → get nat_cmp m p ≡ Some c →
+    d ≡ record c { object = o } → ((q : ℕ) → get nat_cmp k q ≡ cond (is_eq (nat_cmp p q)) (Some d) (get nat_cmp m q)) →
+    store_of world k ≡ record { bytes = (store_of world m).bytes; objects = set_at p o (store_of world m).objects }
+object_set world m k c d p o here is gets = store_ext _ _ bytes objects
+  where
+    objects : (q : ℕ) → object_at (get nat_cmp k q) ≡ cond (nat_eq q p) o (object_at (get nat_cmp m q))
+    objects q = rw (gets q) (elim (is_eq (nat_cmp p q)) as
+        (λ t. is_eq (nat_cmp p q) ≡ t →
+        object_at (cond t (Some d) (get nat_cmp m q)) ≡ cond (nat_eq q p) o (object_at (get nat_cmp m q))) [
+          | true ↦ λ same. rw (key_same p q same, is) refl
+          | false ↦ λ other. rw (key_other p q other) refl
+        ] refl)
+
+    bytes : (b : ℕ) → byte_at world (get nat_cmp k (object_of b)) b ≡ byte_at world (get nat_cmp m (object_of b)) b
+    bytes b = rw (gets (object_of b)) (elim (is_eq (nat_cmp p (object_of b))) as
+        (λ t. is_eq (nat_cmp p (object_of b)) ≡ t →
+        byte_at world (cond t (Some d) (get nat_cmp m (object_of b))) b ≡ byte_at world (get nat_cmp m (object_of b)) b) [
+          | true ↦ λ same. rw (key_equal p (object_of b) same, here, is) refl
+          | false ↦ λ other. refl
+        ] refl)
+
+pub lent_object : (world : ℕ → ℕ) (s : Store) (m k : Cells) (c d : Cell) (p : ℕ) (o : Option Object) →
+    store_of world m ≡ s → Some c ≡ get nat_cmp m p → d ≡ record c { object = o } →
+    WritesThrough nat_cmp (nat_cmp p) m d k →
+    store_of world k ≡ record { bytes = s.bytes; objects = set_at p o s.objects }
+lent_object world s m k c d p o same there is writes =
+    let here : get nat_cmp m p ≡ Some c = sym there in
+    let some : IsSome (get nat_cmp m p) = rw here refl in
+    object_set world m k c d p o here is (writes.3 some).0
+    ∙ ap (λ t. record { bytes = t.bytes; objects = set_at p o t.objects }) same
 
 -- ---- one more byte of a number
 

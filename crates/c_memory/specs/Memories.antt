@@ -1,5 +1,5 @@
 -- The store that a memory is, over the initial bytes of a world.
-use Rattle.std.specs.Prelude.{◌≡◌, ◌<◌, ◌+◌, ◌-◌, ℕ, List, length, cond, nat_eq, Option, Some, None, unwrap_or, slice_get, slice_index}
+use Rattle.std.specs.Prelude.{◌≡◌, ◌<◌, ◌+◌, ◌-◌, ℕ, List, length, cond, Option, Some, None, unwrap_or, slice_get, slice_index}
 use Rattle.std.specs.BTreeMap.{BTreeMap, get}
 use Rattle.std.specs.Ordering.{nat_cmp}
 use Rattle.bit_words.specs.Worlds.{WorldTables, value_at}
@@ -25,6 +25,7 @@ pub record Lays (world : ℕ → ℕ) (c d : Cell) (a n : ℕ) (f : ℕ → ℕ)
 pub record Holds (f : ℕ → ℕ) (a n : ℕ) (bytes : List ℕ) : Type 0 where
   pub count : length bytes ≡ n
   pub each : (i : ℕ) → i < n → slice_index bytes i ≡ f (a + i)
+  pub small : (i : ℕ) → slice_index bytes i < 256
 
 abbrev pub Cells : Type 0
 Cells = BTreeMap ℕ Cell
@@ -35,18 +36,11 @@ byte_at world (Some c) a = byte_in world c a
 
 abbrev pub object_at : Option Cell → Option Object
 object_at None = None
-object_at (Some c) = Some c.object
+object_at (Some c) = c.object
 
--- where no object is alive, the bytes are the world's
+-- where no byte was laid, it is the world's
 abbrev pub store_of : (ℕ → ℕ) → Cells → Store
 store_of world cells = record {
   bytes = λ a. byte_at world (get nat_cmp cells (object_of a)) a;
   objects = λ p. object_at (get nat_cmp cells p);
-}
-
--- an object ends, and its addresses have the world's bytes again
-abbrev pub forget : (ℕ → ℕ) → ℕ → Store → Store
-forget world p s = record {
-  bytes = λ a. cond (nat_eq (object_of a) p) (world a) (s.bytes a);
-  objects = λ q. cond (nat_eq q p) None (s.objects q);
 }

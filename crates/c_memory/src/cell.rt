@@ -1,4 +1,4 @@
-//! One live object and its bytes.
+//! What stands at the addresses of one object.
 ghost use Rattle.std.specs.Prelude.{◌≡◌, ◌≤◌, ◌<◌, ◌+◌, ◌^◌, length, slice_index, [], IfOk, OnOk};
 ghost use Rattle.c_store.specs.Store.{offset_of, byte_of, spelt};
 ghost use Rattle.c_memory.specs.Memories.{byte_in, initial_bytes, Lays, Holds};
@@ -11,16 +11,17 @@ use std::alloc::{AllocError, Global};
 /// How many addresses an object has at most.
 pub const ROOM: u64 = 1 << 32;
 
-/// A live object, with its bytes as far as one was laid; those behind them are the world's.
+/// The addresses of one number: the object that lives there, if one does, and its bytes as far as one was laid; those
+/// behind them are the world's. The bytes stay when the object ends.
 #[derive(Drop)]
 pub struct Cell {
-    pub object: Object,
+    pub object: Option<Object>,
     pub bytes: Items<u8>,
 }
 
 impl Cell {
-    /// An object of which no byte was laid.
-    pub fn new(alloc: Global, object: Object) -> Cell
+    /// Addresses at which no byte was laid.
+    pub fn new(alloc: Global, object: Option<Object>) -> Cell
         ensures object { result.object ≡ object }
         ensures bytes { result.bytes ≡ [] }
     {

@@ -1,8 +1,10 @@
-//! All live objects.
-ghost use Rattle.std.specs.Prelude.{◌≡◌, ◌≤◌, ◌<◌, ◌+◌, ◌^◌, true, length, slice_index, IsTrue, IfOk, OnOk, None};
-ghost use Rattle.c_store.specs.Store.{offset_of, read, write, lay, zero_range, copy_range, make};
+//! All objects.
+ghost use Rattle.std.specs.Prelude.{◌≡◌, ◌≤◌, ◌<◌, ◌+◌, ◌^◌, length, slice_index, IsTrue, IsSome, IfOk, OnOk};
+ghost use Rattle.std.specs.BTreeMap.{get};
+ghost use Rattle.std.specs.Ordering.{nat_cmp};
+ghost use Rattle.c_store.specs.Store.{offset_of, read, write, lay, zero_range, make, end, initial};
 ghost use Rattle.c_store.specs.Access as access;
-ghost use Rattle.c_memory.specs.Memories.{initial_bytes, store_of, forget, Holds};
+ghost use Rattle.c_memory.specs.Memories.{initial_bytes, store_of, Holds};
 
 use crate::cell::{Cell, ROOM};
 use bit_words::World;
@@ -11,8 +13,9 @@ use plain_data::Items;
 use std::alloc::{AllocError, Global};
 use std::collections::BTreeMap;
 
-/// The live objects by their numbers. Object p has the addresses from p * 2^32. A byte of a live object that was never
-/// laid is the world's, and so is each byte of an object that isn't alive: an ended object takes no memory.
+/// The objects by their numbers. Object p has the addresses from p * 2^32. A byte that was never laid is the world's. An
+/// ended object keeps its bytes, so that this is exactly the definition's store; a run keeps the place of each object
+/// that it makes anyway.
 #[derive(Drop)]
 pub struct Memory {
     alloc: Global,
@@ -22,7 +25,7 @@ pub struct Memory {
 impl Memory {
     /// A memory without objects.
     pub fn new(alloc: Global) -> Memory
-        ensures { (number : _) → (store_of (λ _. 0) result.cells).objects number ≡ None }
+        ensures { (world : _) → store_of world result.cells ≡ initial world }
     {
         Memory {
             alloc,
@@ -35,18 +38,20 @@ impl Memory {
         ensures { (world : _) → result ≡ (store_of world self.now.cells).objects number }
     {
         match self.cells.get(&number) {
-            Some(cell) => Some(cell.object),
+            Some(cell) => cell.object,
             None => None,
         }
     }
 
     /// Whether these addresses are of one live object; with no length, whether the address is in one or one past it.
     pub fn is_live(&self, address: u64, length: u64) -> bool
-        requires { length < 2 ^ 63 }
         ensures exact { (world : _) → result ≡ access.is_live (store_of world self.now.cells) address length }
         ensures room { IsTrue result → offset_of address + length ≤ 2 ^ 32 }
     {
-        reaches(self.object(address / ROOM), address % ROOM + length)
+        reaches(
+            self.object(address / ROOM),
+            u128::from(address % ROOM) + u128::from(length),
+        )
     }
 
     /// Whether both addresses are in, or one past, one live object.
@@ -58,7 +63,6 @@ impl Memory {
 
     /// Whether each of these bytes is of a live object.
     pub fn can_access(&self, address: u64, length: u64) -> bool
-        requires { length < 2 ^ 63 }
         ensures exact { (world : _) → result ≡ access.can_access (store_of world self.now.cells) address length }
         ensures room { IsTrue result → offset_of address + length ≤ 2 ^ 32 }
     {
@@ -82,25 +86,23 @@ impl Memory {
     /// The number in the bytes at an address, little endian.
     pub fn load(&self, world: &World, address: u64, width: u64) -> u64
         requires width { width ≤ 8 }
-        requires live { access.is_live (store_of (initial_bytes world.now) self.now.cells) address width ≡ true }
         requires room { offset_of address + width ≤ 2 ^ 32 }
         ensures { result ≡ read width (store_of (initial_bytes world.now) self.now.cells) address }
     {
         match self.cells.get(&(address / ROOM)) {
             Some(cell) => cell.read(world, address, width),
-            None => 0,
+            None => Cell::new(self.alloc, None).read(world, address, width),
         }
     }
 
     /// A copy of the bytes at an address. It fails for want of memory alone.
     pub fn bytes(&self, world: &World, address: u64, count: u64) -> Result<Items<u8>, AllocError>
-        requires live { access.is_live (store_of (initial_bytes world.now) self.now.cells) address count ≡ true }
         requires room { offset_of address + count ≤ 2 ^ 32 }
         ensures { IfOk result (λ bytes. Holds (store_of (initial_bytes world.now) self.now.cells).bytes address count bytes) }
     {
         match self.cells.get(&(address / ROOM)) {
             Some(cell) => cell.copy(self.alloc, world, address, count),
-            None => Ok(Items::new(self.alloc)),
+            None => Cell::new(self.alloc, None).copy(self.alloc, world, address, count),
         }
     }
 
@@ -112,11 +114,11 @@ impl Memory {
         width: u64,
         value: u64,
     ) -> Result<(), AllocError>
-        requires live { access.is_live (store_of (initial_bytes world.now) self.old.cells) address width ≡ true }
         requires room { offset_of address + width ≤ 2 ^ 32 }
         ensures { OnOk result (store_of (initial_bytes world.now) self.new.cells
             ≡ write width address value (store_of (initial_bytes world.now) self.old.cells)) }
     {
+        self.hold(address / ROOM)?;
         match self.cells.get_mut(&(address / ROOM)) {
             Some(cell) => cell.write(world, address, width, value),
             None => Ok(()),
@@ -125,11 +127,11 @@ impl Memory {
 
     /// Writes these bytes at an address. It fails for want of memory alone.
     pub fn lay(&mut self, world: &World, address: u64, bytes: &[u8]) -> Result<(), AllocError>
-        requires live { access.is_live (store_of (initial_bytes world.now) self.old.cells) address (length bytes.now) ≡ true }
         requires room { offset_of address + length bytes.now ≤ 2 ^ 32 }
         ensures { OnOk result (store_of (initial_bytes world.now) self.new.cells
             ≡ lay address (length bytes.now) (slice_index bytes.now) (store_of (initial_bytes world.now) self.old.cells)) }
     {
+        self.hold(address / ROOM)?;
         match self.cells.get_mut(&(address / ROOM)) {
             Some(cell) => cell.lay(world, address, bytes),
             None => Ok(()),
@@ -138,42 +140,58 @@ impl Memory {
 
     /// Writes zeros at an address. It fails for want of memory alone.
     pub fn zero(&mut self, world: &World, address: u64, count: u64) -> Result<(), AllocError>
-        requires live { access.is_live (store_of (initial_bytes world.now) self.old.cells) address count ≡ true }
         requires room { offset_of address + count ≤ 2 ^ 32 }
         ensures { OnOk result (store_of (initial_bytes world.now) self.new.cells
             ≡ zero_range address count (store_of (initial_bytes world.now) self.old.cells)) }
     {
+        self.hold(address / ROOM)?;
         match self.cells.get_mut(&(address / ROOM)) {
             Some(cell) => cell.zero(world, address, count),
             None => Ok(()),
         }
     }
 
-    /// Makes an object, in place of one that has its number. It fails for want of memory alone.
+    /// Makes an object, which has the bytes that stood at its addresses. It fails for want of memory alone.
     pub fn make(&mut self, number: u64, object: Object) -> Result<(), AllocError>
-        requires unused { (store_of (λ _. 0) self.old.cells).objects number ≡ None }
         ensures { (world : _) → OnOk result (store_of world self.new.cells ≡ make number object (store_of world self.old.cells)) }
     {
-        let cell = Cell::new(self.alloc, object);
-        self.cells.insert(number, cell)?;
+        self.hold(number)?;
+        match self.cells.get_mut(&number) {
+            Some(cell) => cell.object = Some(object),
+            None => {}
+        }
         Ok(())
     }
 
-    /// Ends an object, whose bytes are forgotten.
+    /// Ends an object, whose bytes stay.
     pub fn end(&mut self, number: u64)
-        ensures { (world : _) → store_of world self.new.cells ≡ forget world number (store_of world self.old.cells) }
+        ensures { (world : _) → store_of world self.new.cells ≡ end number (store_of world self.old.cells) }
     {
-        self.cells.remove(&number);
+        match self.cells.get_mut(&number) {
+            Some(cell) => cell.object = None,
+            None => {}
+        }
+    }
+
+    /// Sees that there is a cell of a number. It fails for want of memory alone.
+    fn hold(&mut self, number: u64) -> Result<(), AllocError>
+        ensures same { (world : _) → OnOk result (store_of world self.new.cells ≡ store_of world self.old.cells) }
+        ensures there { OnOk result (IsSome (get nat_cmp self.new.cells number)) }
+    {
+        if !self.cells.contains_key(&number) {
+            self.cells.insert(number, Cell::new(self.alloc, None))?;
+        }
+        Ok(())
     }
 }
 
 /// Whether an object has this many bytes.
-fn reaches(object: Option<Object>, end: u64) -> bool
+fn reaches(object: Option<Object>, end: u128) -> bool
     ensures exact { result ≡ access.reaches object end }
     ensures room { IsTrue result → end ≤ 2 ^ 32 }
 {
     match object {
-        Some(object) => end <= u64::from(object.size),
+        Some(object) => end <= u128::from(object.size),
         None => false,
     }
 }

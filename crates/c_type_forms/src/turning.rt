@@ -69,7 +69,8 @@ pub(crate) fn indirection(alloc: Global, x: &Shown) -> Result<Result<Shown, Rule
     }
 }
 
-fn turned(operator: UnaryOperator, kind: IntegerKind, value: i128) -> Result<i128, Undefined>
+/// What an operator makes of a number, brought to the promoted type; `!` takes it as it is.
+pub fn turned(operator: UnaryOperator, kind: IntegerKind, value: i128) -> Result<i128, Undefined>
     ensures { result ≡ spec.turned operator kind value }
 {
     match operator {

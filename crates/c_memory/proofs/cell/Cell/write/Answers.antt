@@ -1,4 +1,4 @@
-use Rattle.std.proofs.Common.{arith, ap, ◌∙◌, ◌+◌, ◌/◌, ◌%◌, ◌≡◌, ℕ}
+use Rattle.std.proofs.Common.{arith, ap, ◌∙◌, ◌+◌, ◌%◌, ◌≡◌}
 use Rattle.c_store.specs.Store.{byte_of, object_of}
 use Rattle.c_memory.specs.Memories.{initial_bytes}
 use Rattle.c_memory.proofs.Cells.{lays_more, rest_later}

@@ -1,6 +1,6 @@
 use Rattle.std.proofs.Common.{◌∙◌}
 use Rattle.c_memory.specs.Memories.{initial_bytes}
-use Rattle.c_memory.proofs.Cells.{read_cell, live_none}
+use Rattle.c_memory.proofs.Cells.{read_cell, read_none}
 use Rattle.c_memory.proofs.memory.Memory.load.Goals as goal
 
 pub returns-in-Some : goal.returns-in-Some
@@ -11,4 +11,6 @@ returns-in-Some c =
 
 pub returns-in-None : goal.returns-in-None
 returns-in-None c =
-    live_none (initial_bytes c.args.world.now) c.args.self.now.cells c.args.address c.args.width (cc (c.in-None.ensures.value)) c.requires.live
+    c.read-in-None.ensures
+    ∙ read_none (initial_bytes c.args.world.now) c.args.self.now.cells c.new.result c.args.address c.args.width
+    (cc (c.in-None.ensures.value)) c.new.ensures.bytes c.requires.room

@@ -1,0 +1,3 @@
+pub mod Worth
+pub mod States
+pub mod Callers
