@@ -235,6 +235,13 @@ impl Scope {
         Ok(())
     }
 
+    /// What the file declares.
+    pub fn file(&self) -> &Block
+        ensures { result.now ≡ self.now.file }
+    {
+        &self.file
+    }
+
     /// Whether no block is open.
     pub fn in_file(&self) -> bool
         ensures { result ≡ spec.in_file self.now }
