@@ -3,6 +3,10 @@
 # the text that stands there: offsets too, each less 2^31.
 set -eu
 cd "$(dirname "$0")/.."
+if ! command -v python3 >/dev/null; then
+    echo "prelude: skipped, there is no python3"
+    exit 0
+fi
 program=$(tools/program.sh rows) || exit 1
 table=$(mktemp)
 trap 'rm -f "$table"' EXIT
