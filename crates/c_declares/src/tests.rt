@@ -236,7 +236,10 @@ fn enumerators_count_from_the_last_value(rt: HostRuntime) -> Result<(), Fail> {
     assert_eq!(rt; value_of(&scope, b"B"), Some(5));
     assert_eq!(rt; value_of(&scope, b"C"), Some(6));
     assert_eq!(rt; said.faults.len(), 1);
-    assert_eq!(rt; class_of(&said.specified(alloc)?), Some(Class::Integer(IntegerKind::Int)));
+    assert_eq!(rt;
+        class_of(&said.specified(alloc)?),
+        Some(Class::Integer(IntegerKind::Int))
+    );
     Ok(())
 }
 

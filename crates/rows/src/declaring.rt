@@ -83,8 +83,17 @@ fn put_member(
 }
 
 /// An object's size and alignment, and its members.
-fn put_object(alloc: Global, text: &mut String, scope: &Scope, name: &str, ctype: &CType) -> Result<()> {
-    match (scope.tables().size_of(ctype), scope.tables().align_of(ctype)) {
+fn put_object(
+    alloc: Global,
+    text: &mut String,
+    scope: &Scope,
+    name: &str,
+    ctype: &CType,
+) -> Result<()> {
+    match (
+        scope.tables().size_of(ctype),
+        scope.tables().align_of(ctype),
+    ) {
         (Some(size), Some(align)) => {
             text.push_str(format!(in alloc; "object {name} {size} {align}\n")?.as_str())?;
         }
@@ -141,7 +150,10 @@ fn value_text(alloc: Global, expr: &Shared<Expr>, scope: &mut Scope) -> Result<S
 /// The expression that initializes an object of integer type.
 fn initial_value<'a>(entry: &Entry, item: &'a InitDeclarator) -> Option<&'a Shared<Expr>> {
     match (&entry.means, &item.initializer) {
-        (Means::Object { ctype, .. }, Some(Initializer::Value { value })) => match ctype.get().class() {
+        (Means::Object { ctype, .. }, Some(Initializer::Value { value })) => match ctype
+            .get()
+            .class()
+        {
             Class::Integer(_) => Some(value),
             _ => None,
         },
@@ -184,7 +196,13 @@ fn put_name(
 }
 
 /// The enumeration constants among declarations of the file from this number on, and how many declarations there are.
-fn put_constants(alloc: Global, text: &mut String, shows: Shows, scope: &Scope, seen: usize) -> Result<usize> {
+fn put_constants(
+    alloc: Global,
+    text: &mut String,
+    shows: Shows,
+    scope: &Scope,
+    seen: usize,
+) -> Result<usize> {
     let entries = scope.file().entries();
     for entry in entries.iter().skip(seen) {
         let entry = entry.get();
@@ -211,7 +229,12 @@ fn put_declaration(
     let said = declare(alloc, declaration, scope)?;
     put_faults(alloc, text, said.faults.as_slice())?;
     let seen = put_constants(alloc, text, shows, scope, seen)?;
-    for (entry, item) in said.entries.as_slice().iter().zip(declaration.declarators.as_slice()) {
+    for (entry, item) in said
+        .entries
+        .as_slice()
+        .iter()
+        .zip(declaration.declarators.as_slice())
+    {
         put_name(alloc, text, shows, entry.get(), item, scope)?;
     }
     Ok(seen)

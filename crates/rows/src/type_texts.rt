@@ -1,8 +1,8 @@
 //! Types as text, in words: `pointer to array 3 of const int`. A structure, union or enumeration is shown by its number.
 use anyhow::Result;
 use c_types::{
-    AggregateForm, Base, CType, Derivation, Domain, FloatingKind, IntegerKind, Prototype, Qualifiers,
-    RealKind, Tables,
+    AggregateForm, Base, CType, Derivation, Domain, FloatingKind, IntegerKind, Prototype,
+    Qualifiers, RealKind, Tables,
 };
 use std::alloc::Global;
 
