@@ -21,6 +21,3 @@ pub use parameters::{Listed, Named, prototype};
 pub use said::Said;
 pub use tags::Begun;
 pub use type_names::TypeSaid;
-
-#[cfg(test)]
-mod tests;
