@@ -7,3 +7,6 @@ mod tables;
 
 pub use names::{HasName, Named};
 pub use scope::{Block, Scope};
+
+#[cfg(test)]
+mod tests;
