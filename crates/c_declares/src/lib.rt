@@ -22,6 +22,3 @@ pub use said::Said;
 pub use tags::Begun;
 pub use type_names::TypeSaid;
 pub use types::{derived_from, formed_type};
-
-#[cfg(test)]
-mod tests;
