@@ -76,7 +76,7 @@ one_arrow false f f' g g' d h i = i
 
 -- ---- objects of a block
 
-born_same : (t : Taking Output) (ms : List Made) (d : State) → t ≡ plain → born t ms (as_done d) ≡ as_done
+pub born_same : (t : Taking Output) (ms : List Made) (d : State) → t ≡ plain → born t ms (as_done d) ≡ as_done
     (runs.born ms d)
 born_same t ms d e = ap (λ t. born t ms (as_done d)) e ∙ plainly ms d where
   plainly : (ms : List Made) (d : State) → born plain ms (as_done d) ≡ as_done (runs.born ms d)
@@ -84,7 +84,7 @@ born_same t ms d e = ap (λ t. born t ms (as_done d)) e ∙ plainly ms d where
   plainly (m ∷ ms) d = plainly ms (c.meet m.place (c.with_store (make m.place
       (record { kind = Automatic; size = m.size }) d.store) d))
 
-dead_same : (ms : List Made) (d : State) → dead ms (as_done d) ≡ as_done (runs.dead ms d)
+pub dead_same : (ms : List Made) (d : State) → dead ms (as_done d) ≡ as_done (runs.dead ms d)
 dead_same [] d = refl
 dead_same (m ∷ ms) d = dead_same ms (c.with_store (end m.place d.store) d)
 

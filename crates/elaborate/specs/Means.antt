@@ -12,6 +12,13 @@ use Rattle.c_means.specs.Parts.{State, Env, Part}
 use Rattle.c_means.specs.Parts as c
 use Rattle.c_runs.specs.Items.{Made}
 use Rattle.c_runs.specs.Items as runs
+use Rattle.c_says.specs.declared.scope.Entry.{Entry}
+use Rattle.c_says.specs.Scopes.{Scope}
+use Rattle.c_runs.specs.Programs.{Function}
+use Rattle.c_runs.specs.Runs as whole
+use Rattle.core_tree.specs.declared.program.Parameter.{Parameter}
+use Rattle.core_tree.specs.Memory.{stored}
+use Rattle.core_tree.specs.Programs.{Body}
 use Rattle.core_tree.specs.declared.code.Code.{Code}
 use Rattle.c_means.specs.Expressions.{Passed}
 use Rattle.core_tree.specs.declared.expr.Callee.{Callee}
@@ -128,3 +135,22 @@ abbrev pub AreArguments : (ℕ → ℕ) → List Expr → List Passed → Type 0
 AreArguments static [] [] = Unit {0}
 AreArguments static (e ∷ es) (q ∷ qs) = IsArgument static e q × AreArguments static es qs
 AreArguments static _ _ = ⊥
+
+-- ---- functions
+
+-- a parameter, whose object takes its argument as a value of its type
+pub record IsParameter (s : Scope) (p : Parameter) (e : Entry) : Type 0 where
+  pub at : p.at ≡ e.at
+  pub size : size_of p.stored ≡ whole.parameter_size s e
+  pub stores : (a : ℕ) (z : ℤ) (d : State) → stored p.stored a z (as_done d) ≡ as_done (whole.passes_as s.tables e.means a z d)
+
+abbrev pub AreParameters : Scope → List Parameter → List Entry → Type 0
+AreParameters s [] [] = Unit {0}
+AreParameters s (p ∷ ps) (e ∷ es) = IsParameter s p e × AreParameters s ps es
+AreParameters s _ _ = ⊥
+
+-- the core of a function, whose block holds items that do what those of its body do
+pub record IsBodyOf (static : ℕ → ℕ) (x : Body Output) (f : Function) (i : runs.Item) : Type 0 where
+  pub parameters : AreParameters f.inside x.function.parameters f.parameters
+  pub items : Acts static x.item i
+  pub body : f.body ≡ runs.node i
