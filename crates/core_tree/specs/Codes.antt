@@ -21,7 +21,8 @@ use Rattle.core_tree.specs.declared.expr.Expr.{Expr}
 use Rattle.core_tree.specs.declared.types.WordType.{WordType}
 use Rattle.core_tree.specs.Numbers.{wrapped}
 use Rattle.core_tree.specs.Memory.{stored}
-use Rattle.core_tree.specs.States.{Taking, Done, Arrow, Acts, Level, Measures, Needs, onward, stay, running, arrive, become}
+use Rattle.core_tree.specs.States.{Taking, Done, Arrow, Acts, Level, Measures, Needs, onward, stay, running, arrive}
+use Rattle.core_tree.specs.States.{become}
 use Rattle.core_tree.specs.States.{with_value, with_store, on_branch, one_of, note, born, dead, finished}
 use Rattle.core_tree.specs.Values.{Value, value, all_sizes}
 

@@ -1,6 +1,7 @@
 -- The run of a program of the core: calls by body, by the depth that is left; the objects that are made before `main`
 -- is called; and the run, for any way of taking what it prints.
-use Rattle.std.specs.Prelude.{ℕ, zero, suc, ◌+◌, ◌-◌, ◌*◌, ◌%◌, ℤ, pos, Bool, true, false, cond, List, [], ◌∷◌, length, map, ◌^◌}
+use Rattle.std.specs.Prelude.{ℕ, zero, suc, ◌+◌, ◌-◌, ◌*◌, ◌%◌, ℤ, pos, Bool, true, false, cond, List, []}
+use Rattle.std.specs.Prelude.{◌∷◌, length, map, ◌^◌}
 use Rattle.std.specs.Prelude.{Option, Some, None, slice_get}
 use Rattle.bit_words.specs.declared.run.Run.{Run}
 use Rattle.c_store.specs.declared.object.ObjectKind.TheVariants as object

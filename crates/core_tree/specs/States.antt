@@ -159,7 +159,8 @@ with_value (Some (Err d)) f = Some d
 -- a value is taken as a condition, and the branch is noted
 abbrev pub on_branch : {O A : Type 0} → Taking O → ℕ → ℤ → (Bool → Done O → A) → Done O → A
 on_branch t at z f d =
-    cond (is_zero z) (f false (note t (happening.Branch at side.No) d)) (f true (note t (happening.Branch at side.Yes) d))
+    cond (is_zero z) (f false (note t (happening.Branch at side.No) d))
+    (f true (note t (happening.Branch at side.Yes) d))
 
 abbrev pub one_of : {A : Type 0} → Bool → A → A → A
 one_of true a b = a

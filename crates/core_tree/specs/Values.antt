@@ -23,7 +23,8 @@ use Rattle.core_tree.specs.declared.types.WordType.{WordType}
 use Rattle.core_tree.specs.Numbers.{size_of, converted_to, value_of_bytes, turned}
 use Rattle.core_tree.specs.Memory.{load, put, operated}
 use Rattle.core_tree.specs.Callees.{callee_size, callee_room, called}
-use Rattle.core_tree.specs.States.{Done, Outcome, ◌>>=◌, found, stop, or_stop, note, on_branch, returned, Level, Measures}
+use Rattle.core_tree.specs.States.{Done, Outcome, ◌>>=◌, found, stop, or_stop, note, on_branch, returned, Level}
+use Rattle.core_tree.specs.States.{Measures}
 use Rattle.core_tree.specs.States.{Needs, Run}
 
 -- how many nodes and places an expression takes, and what it is worth

@@ -19,7 +19,19 @@ use Rattle.core_tree.specs.declared.expr.Callee.{Callee}
 use Rattle.core_tree.specs.declared.expr.Expr.{Expr}
 use Rattle.core_tree.specs.declared.expr.Expr.TheVariants as expr
 use Rattle.core_tree.specs.declared.types.ValueType.{ValueType}
-use Rattle.core_tree.specs.States.{Output, plain, Taking, Done, Outcome, Level, ◌>>=◌, found, note, returned, returned_in}
+use Rattle.core_tree.specs.States.{
+  Output,
+  plain,
+  Taking,
+  Done,
+  Outcome,
+  Level,
+  ◌>>=◌,
+  found,
+  note,
+  returned,
+  returned_in,
+}
 use Rattle.core_tree.specs.Values.{Value, value, arguments, acting, needed, all_rooms, all_sizes}
 use Rattle.core_tree.specs.Callees as core
 use Rattle.core_tree.proofs.Equations as eq
@@ -40,7 +52,8 @@ returned_same d r = by_kind r.kind where
   by_kind k.Defaulting = refl
   by_kind (k.Ended f) = refl
 
-grouped : {A B C : Type 0} (o : Outcome Output A) (f : A × Done Output → Outcome Output B) (g : B × Done Output → Outcome Output C)
+grouped : {A B C : Type 0} (o : Outcome Output A) (f : A × Done Output → Outcome Output B)
+    (g : B × Done Output → Outcome Output C)
     → ((o >>= f) >>= g) ≡ (o >>= (λ x. f x >>= g))
 grouped None f g = refl
 grouped (Some (Ok x)) f g = refl
@@ -49,14 +62,16 @@ grouped (Some (Err d)) f g = refl
 module _ (static : ℕ → ℕ) where
   -- ---- arguments, from left to right
 
-  rooms_same : (es : List Expr) (qs : List Passed) → AreArguments static es qs → (l : c.Level) (k : Level Output) → Like static l k
+  rooms_same : (es : List Expr) (qs : List Passed) → AreArguments static es qs → (l : c.Level) (k : Level Output) →
+      Like static l k
       → all_rooms (map (value {O = Output}) es) k.measures ≡ forms.all_rooms qs l
   rooms_same [] [] h l k like = refl
   rooms_same [] (q ∷ qs) h l k like = absurd h
   rooms_same (e ∷ es) [] h l k like = absurd h
   rooms_same (e ∷ es) (q ∷ qs) h l k like = ap₂ (λ a b. a + b) (h.0.room l k like) (rooms_same es qs h.1 l k like)
 
-  sizes_same : (es : List Expr) (qs : List Passed) → AreArguments static es qs → (l : c.Level) (k : Level Output) → Like static l k
+  sizes_same : (es : List Expr) (qs : List Passed) → AreArguments static es qs → (l : c.Level) (k : Level Output) →
+      Like static l k
       → all_sizes (map (value {O = Output}) es) k.measures ≡ forms.all_sizes qs l
   sizes_same [] [] h l k like = refl
   sizes_same [] (q ∷ qs) h l k like = absurd h
@@ -64,91 +79,114 @@ module _ (static : ℕ → ℕ) where
   sizes_same (e ∷ es) (q ∷ qs) h l k like = ap₂ (λ a b. a + b) (h.0.size l k like) (sizes_same es qs h.1 l k like)
 
   -- a value that is converted before the next argument
-  converted_then : {A B : Type 0} (o : c.Outcome A) (g : A → A) (f : A × State → c.Outcome B) → c.◌>>=◌ (c.◌>>=◌ o (λ v. Ok (g v.0, v.1))) f ≡ c.◌>>=◌ o (λ v. f (g v.0, v.1))
+  converted_then : {A B : Type 0} (o : c.Outcome A) (g : A → A) (f : A × State → c.Outcome B) → c.◌>>=◌
+      (c.◌>>=◌ o (λ v. Ok (g v.0, v.1))) f ≡ c.◌>>=◌ o (λ v. f (g v.0, v.1))
   converted_then (Ok x) g f = refl
   converted_then (Err d) g f = refl
 
-  arguments_same : (es : List Expr) (qs : List Passed) → AreArguments static es qs → (l : c.Level) (k : Level Output) → Like static l k → (env : Env) (base : ℕ) (d : State)
+  arguments_same : (es : List Expr) (qs : List Passed) → AreArguments static es qs → (l : c.Level) (k : Level Output)
+      → Like static l k → (env : Env) (base : ℕ) (d : State)
       → arguments (map value es) k env base (as_done d) ≡ as_found (forms.arguments qs l env base d)
   arguments_same [] [] h l k like env base d = refl
   arguments_same [] (q ∷ qs) h l k like env base d = absurd h
   arguments_same (e ∷ es) [] h l k like env base d = absurd h
   arguments_same (e ∷ es) (q ∷ qs) h l k like env base d =
       let convert = values.converted_to (values.class_in q.ctype) in
-      ap (λ o. o >>= (λ v. arguments (map value es) k env (base + (value {O = Output} e).needs.room k.measures) v.1 >>= (λ vs. found (v.0 ∷ vs.0) vs.1))) (h.0.runs l k like env base d)
+      ap (λ o. o >>= (λ v. arguments (map value es) k env (base + (value {O = Output} e).needs.room k.measures) v.1
+      >>= (λ vs. found (v.0 ∷ vs.0) vs.1))) (h.0.runs l k like env base d)
       ∙ then_same (c.◌>>=◌ (q.part.run l env base d) (λ v. Ok (convert v.0, v.1)))
       (λ v. c.◌>>=◌ (forms.arguments qs l env (base + q.part.room l) v.1) (λ vs. Ok (v.0 ∷ vs.0, vs.1)))
-      (λ v. arguments (map value es) k env (base + (value {O = Output} e).needs.room k.measures) v.1 >>= (λ vs. found (v.0 ∷ vs.0) vs.1))
-      (λ v d. ap (λ m. arguments (map value es) k env (base + m) (as_done d) >>= (λ vs. found (v ∷ vs.0) vs.1)) (h.0.room l k like)
+      (λ v. arguments (map value es) k env (base + (value {O = Output} e).needs.room k.measures) v.1 >>=
+      (λ vs. found (v.0 ∷ vs.0) vs.1))
+      (λ v d. ap (λ m. arguments (map value es) k env (base + m) (as_done d) >>= (λ vs. found (v ∷ vs.0) vs.1))
+      (h.0.room l k like)
       ∙ ap (λ o. o >>= (λ vs. found (v ∷ vs.0) vs.1)) (arguments_same es qs h.1 l k like env (base + q.part.room l) d)
-      ∙ then_same (forms.arguments qs l env (base + q.part.room l) d) (λ vs. Ok (v ∷ vs.0, vs.1)) (λ vs. found (v ∷ vs.0) vs.1) (λ vs d. refl))
-      ∙ ap as_found (converted_then (q.part.run l env base d) convert (λ v. c.◌>>=◌ (forms.arguments qs l env (base + q.part.room l) v.1) (λ vs. Ok (v.0 ∷ vs.0, vs.1))))
+      ∙ then_same (forms.arguments qs l env (base + q.part.room l) d) (λ vs. Ok (v ∷ vs.0, vs.1))
+      (λ vs. found (v ∷ vs.0) vs.1) (λ vs d. refl))
+      ∙ ap as_found (converted_then (q.part.run l env base d) convert
+      (λ v. c.◌>>=◌ (forms.arguments qs l env (base + q.part.room l) v.1) (λ vs. Ok (v.0 ∷ vs.0, vs.1))))
 
   -- ---- a call
 
-  module _ (at : ℕ) (es : List Expr) (qs : List Passed) (callee : Callee) (t : ValueType) (x : Typed) (g : c.Level → c.Site)
-      (h : AreArguments static es qs) (i : IsCallOf static callee at t g) (same_at : (l : c.Level) → (g l).at ≡ at) where
-    -- what is called, behind the event
-    acting_same : (l : c.Level) (k : Level Output) → Like static l k → (env : Env) (vs : List ℤ) (base : ℕ) (d : State)
-        → acting callee at t k env vs base (note k.taking (happening.Call at) (as_done d))
-        ≡ as_found (c.returned (c.note (happening.Call (g l).at) d) (l.call (g l) env vs base d.store d.count))
-    acting_same l k like env vs base d =
-        ap (λ y. acting_by y k env vs base d) like.taking
-        ∙ ap (λ o. returned plain (as_done (c.note (happening.Call at) d)) o) (i.runs l k like env vs base d.store (record { count = d.count; printed = d.printed; met = d.met }))
-        ∙ returned_same (c.note (happening.Call at) d) (l.call (g l) env vs base d.store d.count)
-        ∙ ap (λ a. as_found (c.returned (c.note (happening.Call a) d) (l.call (g l) env vs base d.store d.count))) (sym (same_at l))
-      where
-        acting_by : Taking Output → Level Output → Env → List ℤ → ℕ → State → Outcome Output (Option ℤ)
-        acting_by y k env vs base d = returned y (note y (happening.Call at) (as_done d))
-            (core.called k callee at t env vs base d.store (record { count = d.count; printed = d.printed; met = d.met }))
+  module _ (at : ℕ) (es : List Expr) (qs : List Passed) (callee : Callee) (t : ValueType) (x : Typed)
+      (g : c.Level → c.Site)
+      (h : AreArguments static es qs) (i : IsCallOf static callee at t g) (same_at : (l : c.Level) → (g l).at ≡ at)
+    where
+      -- what is called, behind the event
+      acting_same : (l : c.Level) (k : Level Output) → Like static l k → (env : Env) (vs : List ℤ) (base : ℕ) (d : State)
+          → acting callee at t k env vs base (note k.taking (happening.Call at) (as_done d))
+          ≡ as_found (c.returned (c.note (happening.Call (g l).at) d) (l.call (g l) env vs base d.store d.count))
+      acting_same l k like env vs base d =
+          ap (λ y. acting_by y k env vs base d) like.taking
+          ∙ ap (λ o. returned plain (as_done (c.note (happening.Call at) d)) o)
+          (i.runs l k like env vs base d.store (record { count = d.count; printed = d.printed; met = d.met }))
+          ∙ returned_same (c.note (happening.Call at) d) (l.call (g l) env vs base d.store d.count)
+          ∙ ap (λ a. as_found (c.returned (c.note (happening.Call a) d) (l.call (g l) env vs base d.store d.count)))
+          (sym (same_at l))
+        where
+          acting_by : Taking Output → Level Output → Env → List ℤ → ℕ → State → Outcome Output (Option ℤ)
+          acting_by y k env vs base d = returned y (note y (happening.Call at) (as_done d))
+              (core.called k callee at t env vs base d.store (record
+              { count = d.count; printed = d.printed; met = d.met }))
 
-    calling_same : (l : c.Level) (k : Level Output) → Like static l k → (env : Env) (base : ℕ) (d : State)
-        → (arguments (map value es) k env base (as_done d) >>= (λ vs. acting callee at t k env vs.0 (base + all_rooms (map (value {O = Output}) es) k.measures) (note k.taking (happening.Call at) vs.1)))
-        ≡ as_found (forms.calling g qs l env base d)
-    calling_same l k like env base d =
-        ap₂ (λ o m. o >>= (λ vs. acting callee at t k env vs.0 (base + m) (note k.taking (happening.Call at) vs.1))) (arguments_same es qs h l k like env base d) (rooms_same es qs h l k like)
-        ∙ then_same (forms.arguments qs l env base d) _ (λ vs. acting callee at t k env vs.0 (base + forms.all_rooms qs l) (note k.taking (happening.Call at) vs.1))
-        (λ vs d. acting_same l k like env vs (base + forms.all_rooms qs l) d)
+      calling_same : (l : c.Level) (k : Level Output) → Like static l k → (env : Env) (base : ℕ) (d : State)
+          → (arguments (map value es) k env base (as_done d) >>= (λ vs. acting callee at t k env vs.0
+          (base + all_rooms (map (value {O = Output}) es) k.measures) (note k.taking (happening.Call at) vs.1)))
+          ≡ as_found (forms.calling g qs l env base d)
+      calling_same l k like env base d =
+          ap₂ (λ o m. o >>= (λ vs. acting callee at t k env vs.0 (base + m) (note k.taking (happening.Call at) vs.1)))
+          (arguments_same es qs h l k like env base d) (rooms_same es qs h l k like)
+          ∙ then_same (forms.arguments qs l env base d) _ (λ vs. acting callee at t k env vs.0
+          (base + forms.all_rooms qs l) (note k.taking (happening.Call at) vs.1))
+          (λ vs d. acting_same l k like env vs (base + forms.all_rooms qs l) d)
 
-    call_needs : (used : Bool) (run : c.Level → c.Run ℤ)
-        → ((l : c.Level) (k : Level Output) → Like static l k → (env : Env) (base : ℕ) (d : State) → (value (expr.Call at es callee t used)).run k env base (as_done d) ≡ as_found (run l env base d))
-        → Does static (value (expr.Call at es callee t used)) (λ l. suc (forms.all_sizes qs l + l.size (g l))) (λ l. forms.all_rooms qs l + l.room (g l)) run
-    call_needs used run same = record {
-      size = λ l k like. ap (λ (w : Value Output). w.needs.size k.measures) (eq.worth-Call at es callee t used)
-          ∙ ap₂ (λ a b. suc (a + b)) (sizes_same es qs h l k like) (i.size l k like);
-      room = λ l k like. ap (λ (w : Value Output). w.needs.room k.measures) (eq.worth-Call at es callee t used)
-          ∙ ap₂ (λ a b. a + b) (rooms_same es qs h l k like) (i.room l k like);
-      runs = same;
-    }
+      call_needs : (used : Bool) (run : c.Level → c.Run ℤ)
+          → ((l : c.Level) (k : Level Output) → Like static l k → (env : Env) (base : ℕ) (d : State) →
+          (value (expr.Call at es callee t used)).run k env base (as_done d) ≡ as_found (run l env base d))
+          → Does static (value (expr.Call at es callee t used)) (λ l. suc (forms.all_sizes qs l + l.size (g l)))
+          (λ l. forms.all_rooms qs l + l.room (g l)) run
+      call_needs used run same = record {
+        size = λ l k like. ap (λ (w : Value Output). w.needs.size k.measures) (eq.worth-Call at es callee t used)
+            ∙ ap₂ (λ a b. suc (a + b)) (sizes_same es qs h l k like) (i.size l k like);
+        room = λ l k like. ap (λ (w : Value Output). w.needs.room k.measures) (eq.worth-Call at es callee t used)
+            ∙ ap₂ (λ a b. a + b) (rooms_same es qs h l k like) (i.room l k like);
+        runs = same;
+      }
 
-    -- the call, and what is done with its value
-    with_value_same : (used : Bool) (f : Option ℤ → State → c.Outcome ℤ) → ((z : Option ℤ) (d : State) → needed used at t z (as_done d) ≡ as_found (f z d))
-        → (l : c.Level) (k : Level Output) → Like static l k → (env : Env) (base : ℕ) (d : State)
-        → (value (expr.Call at es callee t used)).run k env base (as_done d) ≡ as_found (c.◌>>=◌ (forms.calling g qs l env base d) (λ v. f v.0 v.1))
-    with_value_same used f same l k like env base d =
-        ap (λ (w : Value Output). w.run k env base (as_done d)) (eq.worth-Call at es callee t used)
-        ∙ sym (grouped (arguments (map value es) k env base (as_done d))
-        (λ vs. acting callee at t k env vs.0 (base + all_rooms (map (value {O = Output}) es) k.measures) (note k.taking (happening.Call at) vs.1)) (λ v. needed used at t v.0 v.1))
-        ∙ ap (λ o. o >>= (λ v. needed used at t v.0 v.1)) (calling_same l k like env base d)
-        ∙ then_same (forms.calling g qs l env base d) (λ v. f v.0 v.1) (λ v. needed used at t v.0 v.1) same
+      -- the call, and what is done with its value
+      with_value_same : (used : Bool) (f : Option ℤ → State → c.Outcome ℤ) →
+          ((z : Option ℤ) (d : State) → needed used at t z (as_done d) ≡ as_found (f z d))
+          → (l : c.Level) (k : Level Output) → Like static l k → (env : Env) (base : ℕ) (d : State)
+          → (value (expr.Call at es callee t used)).run k env base (as_done d) ≡ as_found
+          (c.◌>>=◌ (forms.calling g qs l env base d) (λ v. f v.0 v.1))
+      with_value_same used f same l k like env base d =
+          ap (λ (w : Value Output). w.run k env base (as_done d)) (eq.worth-Call at es callee t used)
+          ∙ sym (grouped (arguments (map value es) k env base (as_done d))
+          (λ vs. acting callee at t k env vs.0 (base + all_rooms (map (value {O = Output}) es) k.measures)
+          (note k.taking (happening.Call at) vs.1)) (λ v. needed used at t v.0 v.1))
+          ∙ ap (λ o. o >>= (λ v. needed used at t v.0 v.1)) (calling_same l k like env base d)
+          ∙ then_same (forms.calling g qs l env base d) (λ v. f v.0 v.1) (λ v. needed used at t v.0 v.1) same
 
-    -- where its value isn't used
-    pub call_effect : IsEffectOf static (expr.Call at es callee t false) (forms.direct_call at x g qs)
-    call_effect = call_needs false (forms.direct_call at x g qs).effect
-        (with_value_same false (λ z d. Ok (unwrap_or z (pos 0), d)) unused)
-      where
-        unused : (z : Option ℤ) (d : State) → needed false at t z (as_done d) ≡ as_found (Ok (unwrap_or z (pos 0), d))
-        unused None d = refl
-        unused (Some z) d = refl
+      -- where its value isn't used
+      pub call_effect : IsEffectOf static (expr.Call at es callee t false) (forms.direct_call at x g qs)
+      call_effect = call_needs false (forms.direct_call at x g qs).effect
+          (with_value_same false (λ z d. Ok (unwrap_or z (pos 0), d)) unused)
+        where
+          unused : (z : Option ℤ) (d : State) → needed false at t z (as_done d) ≡ as_found (Ok (unwrap_or z (pos 0), d))
+          unused None d = refl
+          unused (Some z) d = refl
 
-    -- where it is used
-    pub call_value : ((z : Option ℤ) (d : State) → needed true at t z (as_done d) ≡ as_found (forms.needed at (values.class_in (type_of x)) z d))
-        → IsValueOf static (expr.Call at es callee t true) (forms.direct_call at x g qs)
-    call_value same = call_needs true (forms.direct_call at x g qs).run (with_value_same true (forms.needed at (values.class_in (type_of x))) same)
+      -- where it is used
+      pub call_value : ((z : Option ℤ) (d : State) → needed true at t z (as_done d) ≡ as_found
+          (forms.needed at (values.class_in (type_of x)) z d))
+          → IsValueOf static (expr.Call at es callee t true) (forms.direct_call at x g qs)
+      call_value same = call_needs true (forms.direct_call at x g qs).run
+          (with_value_same true (forms.needed at (values.class_in (type_of x))) same)
 
 -- ---- a value that must be there
 
-pub needed_same : (at : ℕ) (cl : Class) (n : ℕ) (z : Option ℤ) (d : State) → needed true at (value_type cl n) z (as_done d) ≡ as_found (forms.needed at cl z d)
+pub needed_same : (at : ℕ) (cl : Class) (n : ℕ) (z : Option ℤ) (d : State) → needed true at (value_type cl n) z
+    (as_done d) ≡ as_found (forms.needed at cl z d)
 needed_same at class.Void n None d = refl
 needed_same at class.Void n (Some z) d = refl
 needed_same at (class.Integer int_.Bool) n None d = refl

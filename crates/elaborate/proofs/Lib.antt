@@ -8,3 +8,4 @@ pub mod Codes
 pub mod Choices
 pub mod Calls
 pub mod Rules
+pub mod Bodies

@@ -44,7 +44,8 @@ converted_same k.UnsignedLong z = refl
 converted_same k.LongLong z = refl
 converted_same k.UnsignedLongLong z = refl
 
-pub wrapped_same : (kind : IntegerKind) → is_bool kind ≡ false → (z : ℤ) → core.wrapped (word_type kind) z ≡ integers.converted kind z
+pub wrapped_same : (kind : IntegerKind) → is_bool kind ≡ false → (z : ℤ) → core.wrapped (word_type kind) z ≡
+    integers.converted kind z
 unfolding integers.converted core.wrapped
 wrapped_same k.Bool h z = cc
 wrapped_same k.Char h z = refl
@@ -59,7 +60,8 @@ wrapped_same k.UnsignedLong h z = refl
 wrapped_same k.LongLong h z = refl
 wrapped_same k.UnsignedLongLong h z = refl
 
-pub exact_same : (kind : IntegerKind) → is_bool kind ≡ false → (z : ℤ) → core.exact (word_type kind) z ≡ operators.exact kind z
+pub exact_same : (kind : IntegerKind) → is_bool kind ≡ false → (z : ℤ) → core.exact (word_type kind) z ≡
+    operators.exact kind z
 unfolding integers.converted core.wrapped operators.exact core.exact
 exact_same k.Bool h z = cc
 exact_same k.Char h z = refl
@@ -74,7 +76,8 @@ exact_same k.UnsignedLong h z = refl
 exact_same k.LongLong h z = refl
 exact_same k.UnsignedLongLong h z = refl
 
-pub word_same : (kind : IntegerKind) → is_bool kind ≡ false → (n : ℕ) → core.value_of_word (word_type kind) n ≡ integers.value_of_word kind n
+pub word_same : (kind : IntegerKind) → is_bool kind ≡ false → (n : ℕ) → core.value_of_word (word_type kind) n ≡
+    integers.value_of_word kind n
 word_same k.Bool h z = cc
 word_same k.Char h z = refl
 word_same k.SignedChar h z = refl
@@ -132,22 +135,35 @@ module _ (kind : IntegerKind) (h : is_bool kind ≡ false) where
   -- what a binary operator is worth on the operands of its type
   pub worked_same : (op : BinaryOperator) (b : Arithmetic) (x y : ℤ) → arithmetic op ≡ Some b
       → core.worked b (word_type kind) x y ≡ says.worked op kind x y
-  worked_same o.Multiply b x y e = ap (λ c. core.worked (given c) (word_type kind) x y) (sym e) ∙ both_fit (λ a b. a *ℤ b) x y
+  worked_same o.Multiply b x y e = ap (λ c. core.worked (given c) (word_type kind) x y) (sym e) ∙ both_fit
+      (λ a b. a *ℤ b) x y
   worked_same o.Divide b x y e = ap (λ c. core.worked (given c) (word_type kind) x y) (sym e) ∙ quotient_same x y
-  worked_same o.Remainder b x y e = ap (λ c. core.worked (given c) (word_type kind) x y) (sym e) ∙ ap₂ (λ q (w : ℤ → ℤ). where_in q (int_rem (w x) (w y))) (quotient_same x y) wrap
-  worked_same o.Add b x y e = ap (λ c. core.worked (given c) (word_type kind) x y) (sym e) ∙ both_fit (λ a b. a +ℤ b) x y
-  worked_same o.Subtract b x y e = ap (λ c. core.worked (given c) (word_type kind) x y) (sym e) ∙ both_fit (λ a b. a -ℤ b) x y
+  worked_same o.Remainder b x y e = ap (λ c. core.worked (given c) (word_type kind) x y) (sym e) ∙ ap₂
+      (λ q (w : ℤ → ℤ). where_in q (int_rem (w x) (w y))) (quotient_same x y) wrap
+  worked_same o.Add b x y e = ap (λ c. core.worked (given c) (word_type kind) x y) (sym e) ∙ both_fit (λ a b. a +ℤ b)
+      x y
+  worked_same o.Subtract b x y e = ap (λ c. core.worked (given c) (word_type kind) x y) (sym e) ∙ both_fit
+      (λ a b. a -ℤ b) x y
   worked_same o.ShiftLeft b x y e = ap (λ c. core.worked (given c) (word_type kind) x y) (sym e) ∙ left_same x y
   worked_same o.ShiftRight b x y e = ap (λ c. core.worked (given c) (word_type kind) x y) (sym e) ∙ right_same x y
-  worked_same o.Less b x y e = ap (λ c. core.worked (given c) (word_type kind) x y) (sym e) ∙ ap (λ b. Ok (number_of b)) (compared_same (λ w. int_lt (w x) (w y)))
-  worked_same o.Greater b x y e = ap (λ c. core.worked (given c) (word_type kind) x y) (sym e) ∙ ap (λ b. Ok (number_of b)) (compared_same (λ w. int_lt (w y) (w x)))
-  worked_same o.LessEqual b x y e = ap (λ c. core.worked (given c) (word_type kind) x y) (sym e) ∙ ap (λ b. Ok (number_of (not b))) (compared_same (λ w. int_lt (w y) (w x)))
-  worked_same o.GreaterEqual b x y e = ap (λ c. core.worked (given c) (word_type kind) x y) (sym e) ∙ ap (λ b. Ok (number_of (not b))) (compared_same (λ w. int_lt (w x) (w y)))
-  worked_same o.Equal b x y e = ap (λ c. core.worked (given c) (word_type kind) x y) (sym e) ∙ ap (λ b. Ok (number_of (not b))) (compared_same (λ w. int_lt (w x) (w y) || int_lt (w y) (w x)))
-  worked_same o.NotEqual b x y e = ap (λ c. core.worked (given c) (word_type kind) x y) (sym e) ∙ ap (λ b. Ok (number_of b)) (compared_same (λ w. int_lt (w x) (w y) || int_lt (w y) (w x)))
-  worked_same o.BitAnd b x y e = ap (λ c. core.worked (given c) (word_type kind) x y) (sym e) ∙ ap (λ f. Ok (f (bit_and (word (width_of kind) x) (word (width_of kind) y)))) of_word
-  worked_same o.BitXor b x y e = ap (λ c. core.worked (given c) (word_type kind) x y) (sym e) ∙ ap (λ f. Ok (f (bit_xor (word (width_of kind) x) (word (width_of kind) y)))) of_word
-  worked_same o.BitOr b x y e = ap (λ c. core.worked (given c) (word_type kind) x y) (sym e) ∙ ap (λ f. Ok (f (bit_or (word (width_of kind) x) (word (width_of kind) y)))) of_word
+  worked_same o.Less b x y e = ap (λ c. core.worked (given c) (word_type kind) x y) (sym e) ∙ ap
+      (λ b. Ok (number_of b)) (compared_same (λ w. int_lt (w x) (w y)))
+  worked_same o.Greater b x y e = ap (λ c. core.worked (given c) (word_type kind) x y) (sym e) ∙ ap
+      (λ b. Ok (number_of b)) (compared_same (λ w. int_lt (w y) (w x)))
+  worked_same o.LessEqual b x y e = ap (λ c. core.worked (given c) (word_type kind) x y) (sym e) ∙ ap
+      (λ b. Ok (number_of (not b))) (compared_same (λ w. int_lt (w y) (w x)))
+  worked_same o.GreaterEqual b x y e = ap (λ c. core.worked (given c) (word_type kind) x y) (sym e) ∙ ap
+      (λ b. Ok (number_of (not b))) (compared_same (λ w. int_lt (w x) (w y)))
+  worked_same o.Equal b x y e = ap (λ c. core.worked (given c) (word_type kind) x y) (sym e) ∙ ap
+      (λ b. Ok (number_of (not b))) (compared_same (λ w. int_lt (w x) (w y) || int_lt (w y) (w x)))
+  worked_same o.NotEqual b x y e = ap (λ c. core.worked (given c) (word_type kind) x y) (sym e) ∙ ap
+      (λ b. Ok (number_of b)) (compared_same (λ w. int_lt (w x) (w y) || int_lt (w y) (w x)))
+  worked_same o.BitAnd b x y e = ap (λ c. core.worked (given c) (word_type kind) x y) (sym e) ∙ ap
+      (λ f. Ok (f (bit_and (word (width_of kind) x) (word (width_of kind) y)))) of_word
+  worked_same o.BitXor b x y e = ap (λ c. core.worked (given c) (word_type kind) x y) (sym e) ∙ ap
+      (λ f. Ok (f (bit_xor (word (width_of kind) x) (word (width_of kind) y)))) of_word
+  worked_same o.BitOr b x y e = ap (λ c. core.worked (given c) (word_type kind) x y) (sym e) ∙ ap
+      (λ f. Ok (f (bit_or (word (width_of kind) x) (word (width_of kind) y)))) of_word
   worked_same o.LogicalAnd b x y e = cc
   worked_same o.LogicalOr b x y e = cc
 

@@ -26,38 +26,136 @@ use Rattle.elaborate.proofs.States.{test_same}
 -- ---- types
 
 pub same_integer : (kind : IntegerKind) → SameType (class.Integer kind) (integers.bytes_of kind) (integer_type kind)
-same_integer k.Bool = record { size = refl; is_read = refl; value = λ s a. refl; bytes = λ z. refl; converted = converted_same k.Bool }
-same_integer k.Char = record { size = refl; is_read = refl; value = λ s a. refl; bytes = λ z. refl; converted = converted_same k.Char }
-same_integer k.SignedChar = record { size = refl; is_read = refl; value = λ s a. refl; bytes = λ z. refl; converted = converted_same k.SignedChar }
-same_integer k.UnsignedChar = record { size = refl; is_read = refl; value = λ s a. refl; bytes = λ z. refl; converted = converted_same k.UnsignedChar }
-same_integer k.Short = record { size = refl; is_read = refl; value = λ s a. refl; bytes = λ z. refl; converted = converted_same k.Short }
-same_integer k.UnsignedShort = record { size = refl; is_read = refl; value = λ s a. refl; bytes = λ z. refl; converted = converted_same k.UnsignedShort }
-same_integer k.Int = record { size = refl; is_read = refl; value = λ s a. refl; bytes = λ z. refl; converted = converted_same k.Int }
-same_integer k.UnsignedInt = record { size = refl; is_read = refl; value = λ s a. refl; bytes = λ z. refl; converted = converted_same k.UnsignedInt }
-same_integer k.Long = record { size = refl; is_read = refl; value = λ s a. refl; bytes = λ z. refl; converted = converted_same k.Long }
-same_integer k.UnsignedLong = record { size = refl; is_read = refl; value = λ s a. refl; bytes = λ z. refl; converted = converted_same k.UnsignedLong }
-same_integer k.LongLong = record { size = refl; is_read = refl; value = λ s a. refl; bytes = λ z. refl; converted = converted_same k.LongLong }
-same_integer k.UnsignedLongLong = record { size = refl; is_read = refl; value = λ s a. refl; bytes = λ z. refl; converted = converted_same k.UnsignedLongLong }
+same_integer k.Bool = record {
+  size = refl;
+  is_read = refl;
+  value = λ s a. refl;
+  bytes = λ z. refl;
+  converted =
+      converted_same k.Bool;
+}
+same_integer k.Char = record {
+  size = refl;
+  is_read = refl;
+  value = λ s a. refl;
+  bytes = λ z. refl;
+  converted =
+      converted_same k.Char;
+}
+same_integer k.SignedChar = record {
+  size = refl;
+  is_read = refl;
+  value = λ s a. refl;
+  bytes = λ z. refl;
+  converted =
+      converted_same k.SignedChar;
+}
+same_integer k.UnsignedChar = record {
+  size = refl;
+  is_read = refl;
+  value = λ s a. refl;
+  bytes = λ z. refl;
+  converted
+      = converted_same k.UnsignedChar;
+}
+same_integer k.Short = record {
+  size = refl;
+  is_read = refl;
+  value = λ s a. refl;
+  bytes = λ z. refl;
+  converted =
+      converted_same k.Short;
+}
+same_integer k.UnsignedShort = record {
+  size = refl;
+  is_read = refl;
+  value = λ s a. refl;
+  bytes = λ z. refl;
+  converted = converted_same k.UnsignedShort;
+}
+same_integer k.Int = record {
+  size = refl;
+  is_read = refl;
+  value = λ s a. refl;
+  bytes = λ z. refl;
+  converted =
+      converted_same k.Int;
+}
+same_integer k.UnsignedInt = record {
+  size = refl;
+  is_read = refl;
+  value = λ s a. refl;
+  bytes = λ z. refl;
+  converted
+      = converted_same k.UnsignedInt;
+}
+same_integer k.Long = record {
+  size = refl;
+  is_read = refl;
+  value = λ s a. refl;
+  bytes = λ z. refl;
+  converted =
+      converted_same k.Long;
+}
+same_integer k.UnsignedLong = record {
+  size = refl;
+  is_read = refl;
+  value = λ s a. refl;
+  bytes = λ z. refl;
+  converted
+      = converted_same k.UnsignedLong;
+}
+same_integer k.LongLong = record {
+  size = refl;
+  is_read = refl;
+  value = λ s a. refl;
+  bytes = λ z. refl;
+  converted =
+      converted_same k.LongLong;
+}
+same_integer k.UnsignedLongLong = record {
+  size = refl;
+  is_read = refl;
+  value = λ s a. refl;
+  bytes = λ z. refl;
+  converted = converted_same k.UnsignedLongLong;
+}
 
 pub same_pointer : SameType class.Pointer 8 v.Pointer
 same_pointer = record { size = refl; is_read = refl; value = λ s a. refl; bytes = λ z. refl; converted = λ z. refl }
 
 pub same_block : (number n : ℕ) → SameType (class.Aggregate number) n (v.Block n)
-same_block number n = record { size = refl; is_read = refl; value = λ s a. refl; bytes = λ z. refl; converted = λ z. refl }
+same_block number n = record {
+  size = refl;
+  is_read = refl;
+  value = λ s a. refl;
+  bytes = λ z. refl;
+  converted = λ z.
+      refl;
+}
 
 -- ---- an object read
 
 load_by : (t : ValueType) (c : Class) (n at : ℕ) (rooted : Bool) (a : ℕ) (d : State) → SameType c n t
-    → memory.load (record { at = at; stored = t; is_tested = not rooted }) a (as_done d) ≡ as_found (objects.load_as c n at rooted a d)
+    → memory.load (record { at = at; stored = t; is_tested = not rooted }) a (as_done d) ≡ as_found
+    (objects.load_as c n at rooted a d)
 load_by t c n at true a d h =
-    ap (λ m. as_found (Ok (core.value_of_bytes t (read m d.store a), d))) h.size ∙ ap (λ z. as_found (Ok (z, d))) (h.value d.store a)
+    ap (λ m. as_found (Ok (core.value_of_bytes t (read m d.store a), d))) h.size ∙ ap (λ z. as_found (Ok (z, d)))
+    (h.value d.store a)
 load_by t c n at false a d h =
-    test_same (can_access d.store a (core.size_of t)) _ _ (Ok (core.value_of_bytes t (read (core.size_of t) d.store a), d)) (stop at undefined.Dereference d) refl refl
-    ∙ ap (λ m. as_found (cond (can_access d.store a m) (Ok (core.value_of_bytes t (read m d.store a), d)) (stop at undefined.Dereference d))) h.size
-    ∙ ap₂ (λ b z. as_found (cond (not b || can_access d.store a n) (Ok (z, d)) (stop at undefined.Dereference d))) (sym h.is_read) (h.value d.store a)
+    test_same (can_access d.store a (core.size_of t)) _ _ (Ok (
+      core.value_of_bytes t
+          (read (core.size_of t) d.store a),
+      d,
+    )) (stop at undefined.Dereference d) refl refl
+    ∙ ap (λ m. as_found (cond (can_access d.store a m) (Ok (core.value_of_bytes t (read m d.store a), d))
+    (stop at undefined.Dereference d))) h.size
+    ∙ ap₂ (λ b z. as_found (cond (not b || can_access d.store a n) (Ok (z, d)) (stop at undefined.Dereference d)))
+    (sym h.is_read) (h.value d.store a)
 
 pub load_same : (x : Typed) (t : ValueType) (rooted : Bool) (a : ℕ) (d : State) → OfType x.after.tables x t
-    → memory.load (record { at = x.at; stored = t; is_tested = not rooted }) a (as_done d) ≡ as_found (objects.load x rooted a d)
+    → memory.load (record { at = x.at; stored = t; is_tested = not rooted }) a (as_done d) ≡ as_found
+    (objects.load x rooted a d)
 load_same x t rooted a d h =
     load_by t h.class h.bytes x.at rooted a d h.same
     ∙ ap₂ (λ c n. as_found (objects.load_as c n x.at rooted a d)) (sym h.is_class) (sym h.has_bytes)
@@ -68,17 +166,30 @@ put_by : (t : ValueType) (c : Class) (n at operator : ℕ) (rooted : Bool) (a : 
     → memory.put operator (record { at = at; stored = t; is_tested = not rooted }) a z (as_done d)
     ≡ as_found (objects.put_as c n at operator rooted a (values.converted_to c z) d)
 put_by t c n at operator true a z d h =
-    ap (λ m. as_found (Ok (core.converted_to t z, with_store (write m a (core.bytes_of_value t (core.converted_to t z)) d.store) d))) h.size
-    ∙ ap (λ b. as_found (Ok (core.converted_to t z, with_store (write n a b d.store) d))) (h.bytes (core.converted_to t z))
+    ap (λ m. as_found (Ok (
+      core.converted_to t z,
+      with_store (write m a
+          (core.bytes_of_value t (core.converted_to t z)) d.store) d,
+    ))) h.size
+    ∙ ap (λ b. as_found (Ok (core.converted_to t z, with_store (write n a b d.store) d)))
+    (h.bytes (core.converted_to t z))
     ∙ ap (λ y. as_found (Ok (y, with_store (write n a (values.bytes_of_value c y) d.store) d))) (h.converted z)
 put_by t c n at operator false a z d h =
     test_same (can_access d.store a (core.size_of t)) _ _
     (cond (can_write d.store a (core.size_of t))
-    (Ok (core.converted_to t z, with_store (write (core.size_of t) a (core.bytes_of_value t (core.converted_to t z)) d.store) d))
+    (Ok (
+      core.converted_to t z,
+      with_store (write (core.size_of t) a (core.bytes_of_value t (core.converted_to t z))
+          d.store) d,
+    ))
     (stop operator undefined.LiteralWrite d))
     (stop at undefined.Dereference d)
     (test_same (can_write d.store a (core.size_of t)) _ _
-    (Ok (core.converted_to t z, with_store (write (core.size_of t) a (core.bytes_of_value t (core.converted_to t z)) d.store) d))
+    (Ok (
+      core.converted_to t z,
+      with_store (write (core.size_of t) a (core.bytes_of_value t (core.converted_to t z))
+          d.store) d,
+    ))
     (stop operator undefined.LiteralWrite d) refl refl)
     refl
     ∙ ap (λ m. as_found (cond (can_access d.store a m) (cond (can_write d.store a m)
@@ -91,9 +202,11 @@ put_by t c n at operator false a z d h =
     (Ok (y, with_store (write n a (values.bytes_of_value c y) d.store) d))
     (stop operator undefined.LiteralWrite d)) (stop at undefined.Dereference d))) (h.converted z)
 
-pub put_same : (operator : ℕ) (tables : Tables) (x : Typed) (t : ValueType) (rooted : Bool) (a : ℕ) (z : ℤ) (d : State) → OfType tables x t
+pub put_same : (operator : ℕ) (tables : Tables) (x : Typed) (t : ValueType) (rooted : Bool) (a : ℕ) (z : ℤ)
+    (d : State) → OfType tables x t
     → memory.put operator (record { at = x.at; stored = t; is_tested = not rooted }) a z (as_done d)
     ≡ as_found (objects.put operator tables x rooted a z d)
 put_same operator tables x t rooted a z d h =
     put_by t h.class h.bytes x.at operator rooted a z d h.same
-    ∙ ap₂ (λ c n. as_found (objects.put_as c n x.at operator rooted a (values.converted_to c z) d)) (sym h.is_class) (sym h.has_bytes)
+    ∙ ap₂ (λ c n. as_found (objects.put_as c n x.at operator rooted a (values.converted_to c z) d)) (sym h.is_class)
+    (sym h.has_bytes)

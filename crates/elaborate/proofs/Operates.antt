@@ -34,83 +34,139 @@ given (Some q) = q
 abbrev type_of : Option IntegerKind → ℕ → OperandType
 type_of kind element = record { kind = kind; element = element }
 
-numbers_same : (b : BinaryOperator) (r : Arithmetic) (j k : IntegerKind) (m n : ℕ) → arithmetic b ≡ Some r → Operates b (type_of (Some j) m) (type_of (Some k) n) (op.Numbers r (word_type (working b j k)))
+numbers_same : (b : BinaryOperator) (r : Arithmetic) (j k : IntegerKind) (m n : ℕ) → arithmetic b ≡ Some r → Operates
+    b (type_of (Some j) m) (type_of (Some k) n) (op.Numbers r (word_type (working b j k)))
 numbers_same b r j k m n e at v w d =
     ap (λ x. or_stop at x (as_done d)) (worked_same (working b j k) (working_word b j k) b r v w e)
     ∙ or_stop_same at (says.worked b (working b j k) v w) d
     ∙ ap as_found (sym (on_integers (λ at. at) b r e at j k m n v w d))
 
 -- two pointers of one object
-ordered_same : (order : ℕ → ℕ → Bool) (x y : ℕ) (at : ℕ) (d : State) → cond (in_one_object d.store x y) (Some (Ok (number_of (order x y), as_done d))) (as_found (stop at undefined.PointerOrder d))
+ordered_same : (order : ℕ → ℕ → Bool) (x y : ℕ) (at : ℕ) (d : State) → cond (in_one_object d.store x y)
+    (Some (Ok (number_of (order x y), as_done d))) (as_found (stop at undefined.PointerOrder d))
     ≡ as_found (pointers.ordered at order x y d)
-ordered_same order x y at d = test_same (in_one_object d.store x y) _ _ (Ok (number_of (order x y), d)) (stop at undefined.PointerOrder d) refl refl
+ordered_same order x y at d = test_same (in_one_object d.store x y) _ _ (Ok (number_of (order x y), d))
+    (stop at undefined.PointerOrder d) refl refl
 
 -- what is chosen is what does it
-same_operator : (b : BinaryOperator) (x y : OperandType) (c : Option Operator) (q : Operator) → c ≡ Some q → Operates b x y (given c) → Operates b x y q
+same_operator : (b : BinaryOperator) (x y : OperandType) (c : Option Operator) (q : Operator) → c ≡ Some q → Operates
+    b x y (given c) → Operates b x y q
 same_operator b x y c q e h at v w d = ap (λ q. memory.operated at (given q) v w (as_done d)) (sym e) ∙ h at v w d
 
-by_kinds : (b : BinaryOperator) (j k : Option IntegerKind) (m n : ℕ) (q : Operator) → operator_on b j k m n ≡ Some q → Operates b (type_of j m) (type_of k n) q
-by_kinds o.Multiply (Some j) (Some k) m n q e = same_operator o.Multiply (type_of (Some j) m) (type_of (Some k) n) (operator_on o.Multiply (Some j) (Some k) m n) q e (numbers_same o.Multiply a.Multiply j k m n refl)
+by_kinds : (b : BinaryOperator) (j k : Option IntegerKind) (m n : ℕ) (q : Operator) → operator_on b j k m n ≡ Some q
+    → Operates b (type_of j m) (type_of k n) q
+by_kinds o.Multiply (Some j) (Some k) m n q e = same_operator o.Multiply (type_of (Some j) m) (type_of (Some k) n)
+    (operator_on o.Multiply (Some j) (Some k) m n) q e (numbers_same o.Multiply a.Multiply j k m n refl)
 by_kinds o.Multiply (Some j) None m n q e = cc
 by_kinds o.Multiply None (Some k) m n q e = cc
 by_kinds o.Multiply None None m n q e = cc
-by_kinds o.Divide (Some j) (Some k) m n q e = same_operator o.Divide (type_of (Some j) m) (type_of (Some k) n) (operator_on o.Divide (Some j) (Some k) m n) q e (numbers_same o.Divide a.Divide j k m n refl)
+by_kinds o.Divide (Some j) (Some k) m n q e = same_operator o.Divide (type_of (Some j) m) (type_of (Some k) n)
+    (operator_on o.Divide (Some j) (Some k) m n) q e (numbers_same o.Divide a.Divide j k m n refl)
 by_kinds o.Divide (Some j) None m n q e = cc
 by_kinds o.Divide None (Some k) m n q e = cc
 by_kinds o.Divide None None m n q e = cc
-by_kinds o.Remainder (Some j) (Some k) m n q e = same_operator o.Remainder (type_of (Some j) m) (type_of (Some k) n) (operator_on o.Remainder (Some j) (Some k) m n) q e (numbers_same o.Remainder a.Remainder j k m n refl)
+by_kinds o.Remainder (Some j) (Some k) m n q e = same_operator o.Remainder (type_of (Some j) m) (type_of (Some k) n)
+    (operator_on o.Remainder (Some j) (Some k) m n) q e (numbers_same o.Remainder a.Remainder j k m n refl)
 by_kinds o.Remainder (Some j) None m n q e = cc
 by_kinds o.Remainder None (Some k) m n q e = cc
 by_kinds o.Remainder None None m n q e = cc
-by_kinds o.Add (Some j) (Some k) m n q e = same_operator o.Add (type_of (Some j) m) (type_of (Some k) n) (operator_on o.Add (Some j) (Some k) m n) q e (numbers_same o.Add a.Add j k m n refl)
-by_kinds o.Add (Some j) None m n q e = same_operator o.Add (type_of (Some j) m) (type_of None n) (operator_on o.Add (Some j) None m n) q e (λ at v w d. moved_to_same at (address w) (pos (address w) +ℤ v *ℤ pos n) d)
-by_kinds o.Add None (Some k) m n q e = same_operator o.Add (type_of None m) (type_of (Some k) n) (operator_on o.Add None (Some k) m n) q e (λ at v w d. moved_to_same at (address v) (pos (address v) +ℤ w *ℤ pos m) d)
+by_kinds o.Add (Some j) (Some k) m n q e = same_operator o.Add (type_of (Some j) m) (type_of (Some k) n)
+    (operator_on o.Add (Some j) (Some k) m n) q e (numbers_same o.Add a.Add j k m n refl)
+by_kinds o.Add (Some j) None m n q e = same_operator o.Add (type_of (Some j) m) (type_of None n)
+    (operator_on o.Add (Some j) None m n) q e (λ at v w d. moved_to_same at (address w)
+    (pos (address w) +ℤ v *ℤ pos n) d)
+by_kinds o.Add None (Some k) m n q e = same_operator o.Add (type_of None m) (type_of (Some k) n)
+    (operator_on o.Add None (Some k) m n) q e (λ at v w d. moved_to_same at (address v)
+    (pos (address v) +ℤ w *ℤ pos m) d)
 by_kinds o.Add None None m n q e = cc
-by_kinds o.Subtract (Some j) (Some k) m n q e = same_operator o.Subtract (type_of (Some j) m) (type_of (Some k) n) (operator_on o.Subtract (Some j) (Some k) m n) q e (numbers_same o.Subtract a.Subtract j k m n refl)
+by_kinds o.Subtract (Some j) (Some k) m n q e = same_operator o.Subtract (type_of (Some j) m) (type_of (Some k) n)
+    (operator_on o.Subtract (Some j) (Some k) m n) q e (numbers_same o.Subtract a.Subtract j k m n refl)
 by_kinds o.Subtract (Some j) None m n q e = cc
-by_kinds o.Subtract None (Some k) m n q e = same_operator o.Subtract (type_of None m) (type_of (Some k) n) (operator_on o.Subtract None (Some k) m n) q e (λ at v w d. moved_to_same at (address v) (pos (address v) +ℤ neg_ℤ w *ℤ pos m) d)
-by_kinds o.Subtract None None m n q e = same_operator o.Subtract (type_of None m) (type_of None n) (operator_on o.Subtract None None m n) q e (λ at v w d. test_same (in_one_object d.store (address v) (address w)) _ _ (Ok (pointers.elements_in (pos (address v) -ℤ pos (address w)) m, d)) (stop at undefined.PointerOrder d) refl refl)
-by_kinds o.ShiftLeft (Some j) (Some k) m n q e = same_operator o.ShiftLeft (type_of (Some j) m) (type_of (Some k) n) (operator_on o.ShiftLeft (Some j) (Some k) m n) q e (numbers_same o.ShiftLeft a.ShiftLeft j k m n refl)
+by_kinds o.Subtract None (Some k) m n q e = same_operator o.Subtract (type_of None m) (type_of (Some k) n)
+    (operator_on o.Subtract None (Some k) m n) q e (λ at v w d. moved_to_same at (address v)
+    (pos (address v) +ℤ neg_ℤ w *ℤ pos m) d)
+by_kinds o.Subtract None None m n q e = same_operator o.Subtract (type_of None m) (type_of None n)
+    (operator_on o.Subtract None None m n) q e (λ at v w d. test_same (in_one_object d.store (address v) (address w))
+    _ _ (Ok (pointers.elements_in (pos (address v) -ℤ pos (address w)) m, d)) (stop at undefined.PointerOrder d) refl
+    refl)
+by_kinds o.ShiftLeft (Some j) (Some k) m n q e = same_operator o.ShiftLeft (type_of (Some j) m) (type_of (Some k) n)
+    (operator_on o.ShiftLeft (Some j) (Some k) m n) q e (numbers_same o.ShiftLeft a.ShiftLeft j k m n refl)
 by_kinds o.ShiftLeft (Some j) None m n q e = cc
 by_kinds o.ShiftLeft None (Some k) m n q e = cc
 by_kinds o.ShiftLeft None None m n q e = cc
-by_kinds o.ShiftRight (Some j) (Some k) m n q e = same_operator o.ShiftRight (type_of (Some j) m) (type_of (Some k) n) (operator_on o.ShiftRight (Some j) (Some k) m n) q e (numbers_same o.ShiftRight a.ShiftRight j k m n refl)
+by_kinds o.ShiftRight (Some j) (Some k) m n q e = same_operator o.ShiftRight (type_of (Some j) m)
+    (type_of (Some k) n) (operator_on o.ShiftRight (Some j) (Some k) m n) q e
+    (numbers_same o.ShiftRight a.ShiftRight j k m n refl)
 by_kinds o.ShiftRight (Some j) None m n q e = cc
 by_kinds o.ShiftRight None (Some k) m n q e = cc
 by_kinds o.ShiftRight None None m n q e = cc
-by_kinds o.Less (Some j) (Some k) m n q e = same_operator o.Less (type_of (Some j) m) (type_of (Some k) n) (operator_on o.Less (Some j) (Some k) m n) q e (numbers_same o.Less a.Less j k m n refl)
-by_kinds o.Less (Some j) None m n q e = same_operator o.Less (type_of (Some j) m) (type_of None n) (operator_on o.Less (Some j) None m n) q e (λ at v w d. ordered_same nat_lt (address v) (address w) at d)
-by_kinds o.Less None (Some k) m n q e = same_operator o.Less (type_of None m) (type_of (Some k) n) (operator_on o.Less None (Some k) m n) q e (λ at v w d. ordered_same nat_lt (address v) (address w) at d)
-by_kinds o.Less None None m n q e = same_operator o.Less (type_of None m) (type_of None n) (operator_on o.Less None None m n) q e (λ at v w d. ordered_same nat_lt (address v) (address w) at d)
-by_kinds o.Greater (Some j) (Some k) m n q e = same_operator o.Greater (type_of (Some j) m) (type_of (Some k) n) (operator_on o.Greater (Some j) (Some k) m n) q e (numbers_same o.Greater a.Greater j k m n refl)
-by_kinds o.Greater (Some j) None m n q e = same_operator o.Greater (type_of (Some j) m) (type_of None n) (operator_on o.Greater (Some j) None m n) q e (λ at v w d. ordered_same (λ a b. nat_lt b a) (address v) (address w) at d)
-by_kinds o.Greater None (Some k) m n q e = same_operator o.Greater (type_of None m) (type_of (Some k) n) (operator_on o.Greater None (Some k) m n) q e (λ at v w d. ordered_same (λ a b. nat_lt b a) (address v) (address w) at d)
-by_kinds o.Greater None None m n q e = same_operator o.Greater (type_of None m) (type_of None n) (operator_on o.Greater None None m n) q e (λ at v w d. ordered_same (λ a b. nat_lt b a) (address v) (address w) at d)
-by_kinds o.LessEqual (Some j) (Some k) m n q e = same_operator o.LessEqual (type_of (Some j) m) (type_of (Some k) n) (operator_on o.LessEqual (Some j) (Some k) m n) q e (numbers_same o.LessEqual a.LessEqual j k m n refl)
-by_kinds o.LessEqual (Some j) None m n q e = same_operator o.LessEqual (type_of (Some j) m) (type_of None n) (operator_on o.LessEqual (Some j) None m n) q e (λ at v w d. ordered_same nat_le (address v) (address w) at d)
-by_kinds o.LessEqual None (Some k) m n q e = same_operator o.LessEqual (type_of None m) (type_of (Some k) n) (operator_on o.LessEqual None (Some k) m n) q e (λ at v w d. ordered_same nat_le (address v) (address w) at d)
-by_kinds o.LessEqual None None m n q e = same_operator o.LessEqual (type_of None m) (type_of None n) (operator_on o.LessEqual None None m n) q e (λ at v w d. ordered_same nat_le (address v) (address w) at d)
-by_kinds o.GreaterEqual (Some j) (Some k) m n q e = same_operator o.GreaterEqual (type_of (Some j) m) (type_of (Some k) n) (operator_on o.GreaterEqual (Some j) (Some k) m n) q e (numbers_same o.GreaterEqual a.GreaterEqual j k m n refl)
-by_kinds o.GreaterEqual (Some j) None m n q e = same_operator o.GreaterEqual (type_of (Some j) m) (type_of None n) (operator_on o.GreaterEqual (Some j) None m n) q e (λ at v w d. ordered_same (λ a b. nat_le b a) (address v) (address w) at d)
-by_kinds o.GreaterEqual None (Some k) m n q e = same_operator o.GreaterEqual (type_of None m) (type_of (Some k) n) (operator_on o.GreaterEqual None (Some k) m n) q e (λ at v w d. ordered_same (λ a b. nat_le b a) (address v) (address w) at d)
-by_kinds o.GreaterEqual None None m n q e = same_operator o.GreaterEqual (type_of None m) (type_of None n) (operator_on o.GreaterEqual None None m n) q e (λ at v w d. ordered_same (λ a b. nat_le b a) (address v) (address w) at d)
-by_kinds o.Equal (Some j) (Some k) m n q e = same_operator o.Equal (type_of (Some j) m) (type_of (Some k) n) (operator_on o.Equal (Some j) (Some k) m n) q e (numbers_same o.Equal a.Equal j k m n refl)
-by_kinds o.Equal (Some j) None m n q e = same_operator o.Equal (type_of (Some j) m) (type_of None n) (operator_on o.Equal (Some j) None m n) q e (λ at v w d. refl)
-by_kinds o.Equal None (Some k) m n q e = same_operator o.Equal (type_of None m) (type_of (Some k) n) (operator_on o.Equal None (Some k) m n) q e (λ at v w d. refl)
-by_kinds o.Equal None None m n q e = same_operator o.Equal (type_of None m) (type_of None n) (operator_on o.Equal None None m n) q e (λ at v w d. refl)
-by_kinds o.NotEqual (Some j) (Some k) m n q e = same_operator o.NotEqual (type_of (Some j) m) (type_of (Some k) n) (operator_on o.NotEqual (Some j) (Some k) m n) q e (numbers_same o.NotEqual a.NotEqual j k m n refl)
-by_kinds o.NotEqual (Some j) None m n q e = same_operator o.NotEqual (type_of (Some j) m) (type_of None n) (operator_on o.NotEqual (Some j) None m n) q e (λ at v w d. refl)
-by_kinds o.NotEqual None (Some k) m n q e = same_operator o.NotEqual (type_of None m) (type_of (Some k) n) (operator_on o.NotEqual None (Some k) m n) q e (λ at v w d. refl)
-by_kinds o.NotEqual None None m n q e = same_operator o.NotEqual (type_of None m) (type_of None n) (operator_on o.NotEqual None None m n) q e (λ at v w d. refl)
-by_kinds o.BitAnd (Some j) (Some k) m n q e = same_operator o.BitAnd (type_of (Some j) m) (type_of (Some k) n) (operator_on o.BitAnd (Some j) (Some k) m n) q e (numbers_same o.BitAnd a.BitAnd j k m n refl)
+by_kinds o.Less (Some j) (Some k) m n q e = same_operator o.Less (type_of (Some j) m) (type_of (Some k) n)
+    (operator_on o.Less (Some j) (Some k) m n) q e (numbers_same o.Less a.Less j k m n refl)
+by_kinds o.Less (Some j) None m n q e = same_operator o.Less (type_of (Some j) m) (type_of None n)
+    (operator_on o.Less (Some j) None m n) q e (λ at v w d. ordered_same nat_lt (address v) (address w) at d)
+by_kinds o.Less None (Some k) m n q e = same_operator o.Less (type_of None m) (type_of (Some k) n)
+    (operator_on o.Less None (Some k) m n) q e (λ at v w d. ordered_same nat_lt (address v) (address w) at d)
+by_kinds o.Less None None m n q e = same_operator o.Less (type_of None m) (type_of None n)
+    (operator_on o.Less None None m n) q e (λ at v w d. ordered_same nat_lt (address v) (address w) at d)
+by_kinds o.Greater (Some j) (Some k) m n q e = same_operator o.Greater (type_of (Some j) m) (type_of (Some k) n)
+    (operator_on o.Greater (Some j) (Some k) m n) q e (numbers_same o.Greater a.Greater j k m n refl)
+by_kinds o.Greater (Some j) None m n q e = same_operator o.Greater (type_of (Some j) m) (type_of None n)
+    (operator_on o.Greater (Some j) None m n) q e (λ at v w d. ordered_same (λ a b. nat_lt b a) (address v)
+    (address w) at d)
+by_kinds o.Greater None (Some k) m n q e = same_operator o.Greater (type_of None m) (type_of (Some k) n)
+    (operator_on o.Greater None (Some k) m n) q e (λ at v w d. ordered_same (λ a b. nat_lt b a) (address v)
+    (address w) at d)
+by_kinds o.Greater None None m n q e = same_operator o.Greater (type_of None m) (type_of None n)
+    (operator_on o.Greater None None m n) q e (λ at v w d. ordered_same (λ a b. nat_lt b a) (address v) (address w)
+    at d)
+by_kinds o.LessEqual (Some j) (Some k) m n q e = same_operator o.LessEqual (type_of (Some j) m) (type_of (Some k) n)
+    (operator_on o.LessEqual (Some j) (Some k) m n) q e (numbers_same o.LessEqual a.LessEqual j k m n refl)
+by_kinds o.LessEqual (Some j) None m n q e = same_operator o.LessEqual (type_of (Some j) m) (type_of None n)
+    (operator_on o.LessEqual (Some j) None m n) q e (λ at v w d. ordered_same nat_le (address v) (address w) at d)
+by_kinds o.LessEqual None (Some k) m n q e = same_operator o.LessEqual (type_of None m) (type_of (Some k) n)
+    (operator_on o.LessEqual None (Some k) m n) q e (λ at v w d. ordered_same nat_le (address v) (address w) at d)
+by_kinds o.LessEqual None None m n q e = same_operator o.LessEqual (type_of None m) (type_of None n)
+    (operator_on o.LessEqual None None m n) q e (λ at v w d. ordered_same nat_le (address v) (address w) at d)
+by_kinds o.GreaterEqual (Some j) (Some k) m n q e = same_operator o.GreaterEqual (type_of (Some j) m)
+    (type_of (Some k) n) (operator_on o.GreaterEqual (Some j) (Some k) m n) q e
+    (numbers_same o.GreaterEqual a.GreaterEqual j k m n refl)
+by_kinds o.GreaterEqual (Some j) None m n q e = same_operator o.GreaterEqual (type_of (Some j) m) (type_of None n)
+    (operator_on o.GreaterEqual (Some j) None m n) q e (λ at v w d. ordered_same (λ a b. nat_le b a) (address v)
+    (address w) at d)
+by_kinds o.GreaterEqual None (Some k) m n q e = same_operator o.GreaterEqual (type_of None m) (type_of (Some k) n)
+    (operator_on o.GreaterEqual None (Some k) m n) q e (λ at v w d. ordered_same (λ a b. nat_le b a) (address v)
+    (address w) at d)
+by_kinds o.GreaterEqual None None m n q e = same_operator o.GreaterEqual (type_of None m) (type_of None n)
+    (operator_on o.GreaterEqual None None m n) q e (λ at v w d. ordered_same (λ a b. nat_le b a) (address v)
+    (address w) at d)
+by_kinds o.Equal (Some j) (Some k) m n q e = same_operator o.Equal (type_of (Some j) m) (type_of (Some k) n)
+    (operator_on o.Equal (Some j) (Some k) m n) q e (numbers_same o.Equal a.Equal j k m n refl)
+by_kinds o.Equal (Some j) None m n q e = same_operator o.Equal (type_of (Some j) m) (type_of None n)
+    (operator_on o.Equal (Some j) None m n) q e (λ at v w d. refl)
+by_kinds o.Equal None (Some k) m n q e = same_operator o.Equal (type_of None m) (type_of (Some k) n)
+    (operator_on o.Equal None (Some k) m n) q e (λ at v w d. refl)
+by_kinds o.Equal None None m n q e = same_operator o.Equal (type_of None m) (type_of None n)
+    (operator_on o.Equal None None m n) q e (λ at v w d. refl)
+by_kinds o.NotEqual (Some j) (Some k) m n q e = same_operator o.NotEqual (type_of (Some j) m) (type_of (Some k) n)
+    (operator_on o.NotEqual (Some j) (Some k) m n) q e (numbers_same o.NotEqual a.NotEqual j k m n refl)
+by_kinds o.NotEqual (Some j) None m n q e = same_operator o.NotEqual (type_of (Some j) m) (type_of None n)
+    (operator_on o.NotEqual (Some j) None m n) q e (λ at v w d. refl)
+by_kinds o.NotEqual None (Some k) m n q e = same_operator o.NotEqual (type_of None m) (type_of (Some k) n)
+    (operator_on o.NotEqual None (Some k) m n) q e (λ at v w d. refl)
+by_kinds o.NotEqual None None m n q e = same_operator o.NotEqual (type_of None m) (type_of None n)
+    (operator_on o.NotEqual None None m n) q e (λ at v w d. refl)
+by_kinds o.BitAnd (Some j) (Some k) m n q e = same_operator o.BitAnd (type_of (Some j) m) (type_of (Some k) n)
+    (operator_on o.BitAnd (Some j) (Some k) m n) q e (numbers_same o.BitAnd a.BitAnd j k m n refl)
 by_kinds o.BitAnd (Some j) None m n q e = cc
 by_kinds o.BitAnd None (Some k) m n q e = cc
 by_kinds o.BitAnd None None m n q e = cc
-by_kinds o.BitXor (Some j) (Some k) m n q e = same_operator o.BitXor (type_of (Some j) m) (type_of (Some k) n) (operator_on o.BitXor (Some j) (Some k) m n) q e (numbers_same o.BitXor a.BitXor j k m n refl)
+by_kinds o.BitXor (Some j) (Some k) m n q e = same_operator o.BitXor (type_of (Some j) m) (type_of (Some k) n)
+    (operator_on o.BitXor (Some j) (Some k) m n) q e (numbers_same o.BitXor a.BitXor j k m n refl)
 by_kinds o.BitXor (Some j) None m n q e = cc
 by_kinds o.BitXor None (Some k) m n q e = cc
 by_kinds o.BitXor None None m n q e = cc
-by_kinds o.BitOr (Some j) (Some k) m n q e = same_operator o.BitOr (type_of (Some j) m) (type_of (Some k) n) (operator_on o.BitOr (Some j) (Some k) m n) q e (numbers_same o.BitOr a.BitOr j k m n refl)
+by_kinds o.BitOr (Some j) (Some k) m n q e = same_operator o.BitOr (type_of (Some j) m) (type_of (Some k) n)
+    (operator_on o.BitOr (Some j) (Some k) m n) q e (numbers_same o.BitOr a.BitOr j k m n refl)
 by_kinds o.BitOr (Some j) None m n q e = cc
 by_kinds o.BitOr None (Some k) m n q e = cc
 by_kinds o.BitOr None None m n q e = cc
@@ -127,6 +183,7 @@ pub operates : (b : BinaryOperator) (x y : OperandType) (q : Operator) → opera
 operates b x y q e = by_kinds b x.kind y.kind x.element y.element q e
 
 -- what is answered does it
-pub operates_if : (b : BinaryOperator) (x y : OperandType) (c : Option Operator) → c ≡ operator_of b x y → IfSome c (λ q. Operates b x y q)
+pub operates_if : (b : BinaryOperator) (x y : OperandType) (c : Option Operator) → c ≡ operator_of b x y → IfSome c
+    (λ q. Operates b x y q)
 operates_if b x y None e = tt
 operates_if b x y (Some q) e = operates b x y q (sym e)

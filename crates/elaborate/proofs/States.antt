@@ -21,19 +21,22 @@ pub or_stop_same : (at : ℕ) (a : Answer) (d : State) → or_stop at a (as_done
 or_stop_same at (Ok z) d = refl
 or_stop_same at (Err u) d = refl
 
-pub test_same : {A : Type 0} (b : Bool) (x y : Outcome Output A) (x' y' : c.Outcome A) → x ≡ as_found x' → y ≡ as_found y' → cond b x y ≡ as_found (cond b x' y')
+pub test_same : {A : Type 0} (b : Bool) (x y : Outcome Output A) (x' y' : c.Outcome A) → x ≡ as_found x' → y ≡
+    as_found y' → cond b x y ≡ as_found (cond b x' y')
 test_same true x y x' y' h i = h
 test_same false x y x' y' h i = i
 
 branch_by :
-    {A : Type 0} (b : Bool) (at : ℕ) (f : Bool → State → c.Outcome A) (g : Bool → Done Output → Outcome Output A) (d : State)
+    {A : Type 0} (b : Bool) (at : ℕ) (f : Bool → State → c.Outcome A) (g : Bool → Done Output → Outcome Output A)
+    (d : State)
     → ((b : Bool) (d : State) → g b (as_done d) ≡ as_found (f b d)) → (x : ℤ)
     → on_branch plain at x g (as_done d) ≡ as_found (forms.on_branch at x f d)
 branch_by b at f g d h x = test_same (is_zero x) _ _ _ _ (h false _) (h true _)
 
 -- a branch on a condition
 pub branch_same :
-    {A : Type 0} (t : Taking Output) (at : ℕ) (z : ℤ) (f : Bool → State → c.Outcome A) (g : Bool → Done Output → Outcome Output A) (d : State)
+    {A : Type 0} (t : Taking Output) (at : ℕ) (z : ℤ) (f : Bool → State → c.Outcome A)
+    (g : Bool → Done Output → Outcome Output A) (d : State)
     → t ≡ plain → ((b : Bool) (d : State) → g b (as_done d) ≡ as_found (f b d))
     → on_branch t at z g (as_done d) ≡ as_found (forms.on_branch at z f d)
 branch_same t at z f g d e h = ap (λ t. on_branch t at z g (as_done d)) e ∙ branch_by true at f g d h z

@@ -12,6 +12,13 @@ use Rattle.c_means.specs.Parts.{State, Env, Part}
 use Rattle.c_means.specs.Parts as c
 use Rattle.c_runs.specs.Items.{Made}
 use Rattle.c_runs.specs.Items as runs
+use Rattle.c_says.specs.declared.scope.Entry.{Entry}
+use Rattle.c_says.specs.Scopes.{Scope}
+use Rattle.c_runs.specs.Programs.{Function}
+use Rattle.c_runs.specs.Runs as whole
+use Rattle.core_tree.specs.declared.program.Parameter.{Parameter}
+use Rattle.core_tree.specs.Memory.{stored}
+use Rattle.core_tree.specs.Programs.{Body}
 use Rattle.core_tree.specs.declared.code.Code.{Code}
 use Rattle.c_means.specs.Expressions.{Passed}
 use Rattle.core_tree.specs.declared.expr.Callee.{Callee}
@@ -56,11 +63,12 @@ pub record Like (static : ℕ → ℕ) (l : c.Level) (k : Level Output) : Type 0
 
 -- ---- expressions
 
-pub record Does (static : ℕ → ℕ) (x : Value Output) (nodes places : c.Level → ℕ) (run : c.Level → c.Run ℤ) : Type 0 where
-  pub size : (l : c.Level) (k : Level Output) → Like static l k → x.needs.size k.measures ≡ nodes l
-  pub room : (l : c.Level) (k : Level Output) → Like static l k → x.needs.room k.measures ≡ places l
-  pub runs : (l : c.Level) (k : Level Output) → Like static l k → (env : Env) (base : ℕ) (d : State)
-      → x.run k env base (as_done d) ≡ as_found (run l env base d)
+pub record Does (static : ℕ → ℕ) (x : Value Output) (nodes places : c.Level → ℕ) (run : c.Level → c.Run ℤ) : Type 0
+  where
+    pub size : (l : c.Level) (k : Level Output) → Like static l k → x.needs.size k.measures ≡ nodes l
+    pub room : (l : c.Level) (k : Level Output) → Like static l k → x.needs.room k.measures ≡ places l
+    pub runs : (l : c.Level) (k : Level Output) → Like static l k → (env : Env) (base : ℕ) (d : State)
+        → x.run k env base (as_done d) ≡ as_found (run l env base d)
 
 -- the core of the part's value, of its address, and of what it does where its value isn't used
 abbrev pub IsValueOf : (ℕ → ℕ) → Expr → Part → Type 0
@@ -77,7 +85,8 @@ IsEffectOf static e p = Does static (value e) p.size p.room p.effect
 pub record Acts (static : ℕ → ℕ) (x : Item Output) (i : runs.Item) : Type 0 where
   pub size : (l : c.Level) (k : Level Output) → Like static l k → x.needs.size k.measures ≡ i.size l
   pub room : (l : c.Level) (k : Level Output) → Like static l k → x.needs.room k.measures ≡ i.room l
-  pub objects : (l : c.Level) (k : Level Output) → Like static l k → (base : ℕ) → x.objects k.measures base ≡ i.objects l base
+  pub objects : (l : c.Level) (k : Level Output) → Like static l k → (base : ℕ) → x.objects k.measures base ≡
+      i.objects l base
   pub runs : (l : c.Level) (k : Level Output) → Like static l k → (env : Env) (base : ℕ) (d : State)
       → x.run k env base (as_done d) ≡ Some (as_done (i.run l env base d))
 
@@ -109,16 +118,39 @@ pub record OfType (tables : Tables) (x : Typed) (t : ValueType) : Type 0 where
 pub record IsCallOf (static : ℕ → ℕ) (callee : Callee) (at : ℕ) (t : ValueType) (site : c.Level → c.Site) : Type 0 where
   pub size : (l : c.Level) (k : Level Output) → Like static l k → callee_size callee k.measures ≡ l.size (site l)
   pub room : (l : c.Level) (k : Level Output) → Like static l k → callee_room callee k.measures ≡ l.room (site l)
-  pub runs : (l : c.Level) (k : Level Output) → Like static l k → (env : Env) (vs : List ℤ) (base : ℕ) (s : Store) (o : Output)
+  pub runs : (l : c.Level) (k : Level Output) → Like static l k → (env : Env) (vs : List ℤ) (base : ℕ) (s : Store)
+      (o : Output)
       → called k callee at t env vs base s o ≡ Some (as_done (l.call (site l) env vs base s o.count))
 
 -- an argument, as it is converted to its parameter's type
 abbrev pub IsArgument : (ℕ → ℕ) → Expr → Passed → Type 0
 IsArgument static e q =
     Does static (value e) q.part.size q.part.room
-    (λ l env base d. c.◌>>=◌ (q.part.run l env base d) (λ v. Ok (values.converted_to (values.class_in q.ctype) v.0, v.1)))
+    (λ l env base d. c.◌>>=◌ (q.part.run l env base d) (λ v. Ok (
+      values.converted_to (values.class_in q.ctype) v.0,
+      v.1,
+    )))
 
 abbrev pub AreArguments : (ℕ → ℕ) → List Expr → List Passed → Type 0
 AreArguments static [] [] = Unit {0}
 AreArguments static (e ∷ es) (q ∷ qs) = IsArgument static e q × AreArguments static es qs
 AreArguments static _ _ = ⊥
+
+-- ---- functions
+
+-- a parameter, whose object takes its argument as a value of its type
+pub record IsParameter (s : Scope) (p : Parameter) (e : Entry) : Type 0 where
+  pub at : p.at ≡ e.at
+  pub size : size_of p.stored ≡ whole.parameter_size s e
+  pub stores : (a : ℕ) (z : ℤ) (d : State) → stored p.stored a z (as_done d) ≡ as_done (whole.passes_as s.tables e.means a z d)
+
+abbrev pub AreParameters : Scope → List Parameter → List Entry → Type 0
+AreParameters s [] [] = Unit {0}
+AreParameters s (p ∷ ps) (e ∷ es) = IsParameter s p e × AreParameters s ps es
+AreParameters s _ _ = ⊥
+
+-- the core of a function, whose block holds items that do what those of its body do
+pub record IsBodyOf (static : ℕ → ℕ) (x : Body Output) (f : Function) (i : runs.Item) : Type 0 where
+  pub parameters : AreParameters f.inside x.function.parameters f.parameters
+  pub items : Acts static x.item i
+  pub body : f.body ≡ runs.node i
