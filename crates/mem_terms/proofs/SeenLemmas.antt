@@ -86,7 +86,7 @@ last_written shapes w a address seen now x bank alike old is same = record {
       let to = node_sorted shapes e v (record { index = a; sort = Word W64 }) bank parts.1.0.stands m in
       let value = node_sorted shapes e v (record { index = x; sort = Word w }) bank parts.1.1.0.stands m in
       let found : read (octets w) (v seen).store (v a).word ≡ (v x).word =
-          ap (λ (y : Worth). read (octets w) y.store (v a).word) (m.has seen (Write w old a x) is) ∙ read_word w (v a).word (v x).word (v old).store to.1 value.1 in
+      ap (λ (y : Worth). read (octets w) y.store (v a).word) (m.has seen (Write w old a x) is) ∙ read_word w (v a).word (v x).word (v old).store to.1 value.1 in
       value.0 ∙ ap of_word (sym found ∙ ap (λ i. read (octets w) (v seen).store (v i).word) same ∙ sym (alike.alike e v m));
 }
 

@@ -51,7 +51,7 @@ equal_value : (a b : ℕ) → outcome_of test.Equal W64 a b ≡ nat_eq a b
 unfolding outcome_of
 equal_value a b = refl
 
-word_at : (old new : List Shape) (x : ℕ) (node : Node) → IsWorth old (Constant x W64) node → Grows old new → (e : Environment) (v : Values) → Models new e v → (v node.index).word ≡ x
+pub word_at : (old new : List Shape) (x : ℕ) (node : Node) → IsWorth old (Constant x W64) node → Grows old new → (e : Environment) (v : Values) → Models new e v → (v node.index).word ≡ x
 word_at old new x node h g e v m = ap (λ (y : Worth). y.word) (h.is e v (weaken g m))
 
 pub truth_at : (old new : List Shape) (x : Values → Bool) (node : Node) → HasWorth old (λ v. of_truth (x v)) node → Grows old new → (e : Environment) (v : Values) → Models new e v → (v node.index).truth ≡ x v
@@ -121,3 +121,18 @@ heap_kind (Some o) = of_kind o.kind where
   of_kind kind.Literal = refl
   of_kind kind.Heap = refl
   of_kind kind.Outside = refl
+
+-- the same answer in other words
+pub gives_same : (old new : List Shape) (s : Sort) (r : Result Node BankFault) (x y : Values → Worth) → Gives old new s x r → ((v : Values) → x v ≡ y v) → Gives old new s y r
+gives_same old new s r x y h f = record { node = h.node; value = mapped r h.value; grows = h.grows; bank = h.bank }
+  where
+    mapped : (r : Result Node BankFault) → IfOk r (HasWorth new x) → IfOk r (HasWorth new y)
+    mapped (Ok n) k = record { is = λ e v m. k.is e v m ∙ f v }
+    mapped (Err e) k = tt
+
+pub live_is : (shapes : List Shape) (m a n : ℕ) (node : Node) → IsWorth shapes (IsLive m a n) node → HasWorth shapes (λ v. of_truth (is_live (v m).store (v a).word (v n).word)) node
+live_is shapes m a n node h = record { is = λ e v k. h.is e v k }
+
+pub and_grouped : (a b c : Bool) → ((a && b) && c) ≡ (a && (b && c))
+and_grouped true b c = refl
+and_grouped false b c = refl

@@ -3,9 +3,9 @@ ghost use Rattle.term_bank.specs.Terms.{IsTerm, Makes};
 ghost use Rattle.term_bank.specs.declared.sort.Sort.TheVariants.{Truth, Word, Memory};
 ghost use Rattle.term_bank.specs.declared.shape.Shape.TheVariants.{Initial, Write, ZeroRange, CopyRange, Made, Ended, Read, ObjectSize, IsLive, HasKind, Choose};
 
+use crate::seen::seen;
 use bit_words::Width;
 use c_store::ObjectKind;
-use crate::seen::seen;
 use term_bank::{Bank, BankFault, Node, Shape, Sort};
 
 /// The memory that holds the world's initial bytes, with no object.
@@ -82,24 +82,21 @@ pub fn copy_range(
 
 /// The word at an address, little endian. Changes that constants tell to be beside it are passed over, and a word that was
 /// written there last is the answer.
-pub fn read(
-    bank: &mut Bank,
-    memory: Node,
-    address: Node,
-    width: Width,
-) -> Result<Node, BankFault>
+pub fn read(bank: &mut Bank, memory: Node, address: Node, width: Width) -> Result<Node, BankFault>
     requires memory { IsTerm bank.old Memory memory }
     requires address { IsTerm bank.old (Word W64) address }
     ensures { Makes bank.old bank.new (Read width memory.index address.index) result }
 {
     let seen = seen(bank, memory, address, width);
     match bank.shape(seen.index) {
-        Some(Shape::Write {
-            width: written,
-            address: to,
-            value,
-            ..
-        }) if written == width && to == address.index => Ok(Node {
+        Some(
+            Shape::Write {
+                width: written,
+                address: to,
+                value,
+                ..
+            },
+        ) if written == width && to == address.index => Ok(Node {
             index: value,
             sort: Sort::Word(width),
         }),
@@ -194,12 +191,7 @@ pub fn has_kind(
 }
 
 /// Of two nodes of one sort, the first where the condition is true.
-pub fn choose(
-    bank: &mut Bank,
-    condition: Node,
-    yes: Node,
-    no: Node,
-) -> Result<Node, BankFault>
+pub fn choose(bank: &mut Bank, condition: Node, yes: Node, no: Node) -> Result<Node, BankFault>
     requires condition { IsTerm bank.old Truth condition }
     requires yes { IsTerm bank.old yes.sort yes }
     requires no { IsTerm bank.old yes.sort no }

@@ -53,12 +53,14 @@ fn before(bank: &Bank, memory: u32, address: Node, width: Width) -> Option<u32>
     ensures { IfSome result (IsBefore bank.now (octets_of width) address memory) }
 {
     match bank.shape(memory) {
-        Some(Shape::Write {
-            width: written,
-            memory: old,
-            address: to,
-            ..
-        }) if are_apart(bank, to, octets(written), address.index, width) => Some(old),
+        Some(
+            Shape::Write {
+                width: written,
+                memory: old,
+                address: to,
+                ..
+            },
+        ) if are_apart(bank, to, octets(written), address.index, width) => Some(old),
         Some(Shape::Made { memory: old, .. }) => Some(old),
         Some(Shape::Ended { memory: old, .. }) => Some(old),
         _ => None,
