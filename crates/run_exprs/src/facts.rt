@@ -100,12 +100,7 @@ fn element_bytes(alloc: Global, tables: &Tables, ctype: &CType) -> Result<u64, A
 
 /// What an operator sees of a value, whose types are told as they are used. It fails for want of memory alone: an
 /// integer that is kept as bytes, which no accepted program has, counts as too long.
-fn operand(
-    alloc: Global,
-    tables: &Tables,
-    used: &Told,
-    value: Value,
-) -> Result<Operand, AllocError>
+fn operand(alloc: Global, tables: &Tables, used: &Told, value: Value) -> Result<Operand, AllocError>
     ensures operand { IfOk result (λ x. seen x ≡ means.operand_of tables.now (type_in used.now.shown) (worth value)) }
     ensures number { IfOk result (λ x. HasNumber x) }
 {
