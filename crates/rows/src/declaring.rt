@@ -261,6 +261,11 @@ pub fn answer_types(alloc: Global, row: &str) -> Result<String> {
 }
 
 /// The layouts of a source's declarations.
+pub fn layouts_of(alloc: Global, source: &[u8]) -> Result<String> {
+    declared(alloc, Shows::Layouts, source)
+}
+
+/// The layouts of a row's declarations.
 pub fn answer_layouts(alloc: Global, row: &str) -> Result<String> {
-    declared(alloc, Shows::Layouts, row.as_bytes())
+    layouts_of(alloc, row.as_bytes())
 }

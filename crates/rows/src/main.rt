@@ -49,9 +49,10 @@ fn print_tree(rt: &(impl Input + Print + AllocGlobal)) -> Result<()> {
 
 /// Prints the layouts of what the source in standard input declares.
 fn print_layouts(rt: &(impl Input + Print + AllocGlobal)) -> Result<()> {
-    let text = io::read_to_string(rt.alloc(), rt.stdin())?;
-    let answer = declaring::answer_layouts(rt.alloc(), &text)?;
-    print!(rt; "{answer}")?;
+    let mut source = Vec::new(rt.alloc());
+    rt.reader().read_to_end(&mut source)?;
+    let text = declaring::layouts_of(rt.alloc(), source.as_slice())?;
+    io::writer(rt).write_all(text.as_bytes())?;
     Ok(())
 }
 
