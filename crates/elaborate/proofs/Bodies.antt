@@ -16,6 +16,7 @@ use Rattle.core_tree.specs.Numbers.{size_of}
 use Rattle.core_tree.specs.States.{Output, plain, Taking, Done, Level, onward, born, dead, entered}
 use Rattle.core_tree.specs.Codes.{lived}
 use Rattle.core_tree.specs.Programs.{Body, frame, passed, back, by_body, body_size, body_room}
+use Rattle.elaborate.specs.Means.{Numbering}
 use Rattle.elaborate.specs.Means.{as_done, Like, Acts, AreParameters, IsBodyOf}
 use Rattle.elaborate.proofs.Codes.{born_same, dead_same, lived_same}
 
@@ -48,18 +49,18 @@ length_same s [] (e ∷ es) h = absurd h
 length_same s (p ∷ ps) [] h = absurd h
 length_same s (p ∷ ps) (e ∷ es) h = ap suc (length_same s ps es h.1)
 
-module _ (static : ℕ → ℕ) (x : Body Output) (f : Function) (i : runs.Item) (h : IsBodyOf static x f i) where
+module _ (numbering : Numbering) (x : Body Output) (f : Function) (i : runs.Item) (h : IsBodyOf numbering x f i) where
   -- how many places and nodes it takes
-  pub room_same : (l : c.Level) (k : Level Output) → Like static l k → body_room x k.measures ≡ whole.body_room f l
+  pub room_same : (l : c.Level) (k : Level Output) → Like numbering l k → body_room x k.measures ≡ whole.body_room f l
   room_same l k like =
       ap₂ (λ a b. a + b) (length_same f.inside x.function.parameters f.parameters h.parameters) (h.items.room l k like)
       ∙ ap (λ (b : runs.Item). length f.parameters + b.room l) (sym h.body)
 
-  pub size_same : (l : c.Level) (k : Level Output) → Like static l k → body_size x k.measures ≡ f.body.size l
+  pub size_same : (l : c.Level) (k : Level Output) → Like numbering l k → body_size x k.measures ≡ f.body.size l
   size_same l k like = ap (λ n. 1 + n) (h.items.size l k like) ∙ ap (λ (b : runs.Item). b.size l) (sym h.body)
 
   -- a call by body
-  pub body_same : (l : c.Level) (k : Level Output) → Like static l k → (vs : List ℤ) (base : ℕ) (s : Store) (o : Output)
+  pub body_same : (l : c.Level) (k : Level Output) → Like numbering l k → (vs : List ℤ) (base : ℕ) (s : Store) (o : Output)
       → by_body k x vs base s o ≡ Some (as_done (whole.by_body l f vs base s o.count))
   body_same l k like vs base s o =
       let ps = x.function.parameters in
@@ -73,6 +74,6 @@ module _ (static : ℕ → ℕ) (x : Body Output) (f : Function) (i : runs.Item)
       ∙ ap (λ r. onward (lived x.item k (known ms no_env) (base + length f.parameters) (passed base ps vs r)) (λ r. Some (back (dead ms r)))) (born_same plain ms d refl)
       ∙ ap (λ r. onward (lived x.item k (known ms no_env) (base + length f.parameters) r) (λ r. Some (back (dead ms r))))
       (passed_same f.inside base ps f.parameters h.parameters vs (runs.born ms d))
-      ∙ ap (λ r. onward r (λ r. Some (back (dead ms r)))) (lived_same static x.item i h.items l k like (known ms no_env) (base + length f.parameters) started)
+      ∙ ap (λ r. onward r (λ r. Some (back (dead ms r)))) (lived_same numbering x.item i h.items l k like (known ms no_env) (base + length f.parameters) started)
       ∙ ap (λ r. Some (back r)) (dead_same ms ended)
       ∙ ap (λ (b : runs.Item). Some (as_done (whole.back (runs.dead ms (runs.lived b l (known ms no_env) (base + length f.parameters) started))))) (sym h.body)
