@@ -112,10 +112,12 @@ module _ (numbering : Numbering) where
 
   module _ (at : ℕ) (es : List Expr) (qs : List Passed) (callee : Callee) (t : ValueType) (x : Typed)
       (g : c.Level → c.Site)
-      (h : AreArguments numbering es qs) (i : IsCallOf numbering callee at t g) (same_at : (l : c.Level) → (g l).at ≡ at)
+      (h : AreArguments numbering es qs) (i : IsCallOf numbering callee at t g)
+      (same_at : (l : c.Level) → (g l).at ≡ at)
     where
       -- what is called, behind the event
-      acting_same : (l : c.Level) (k : Level Output) → Like numbering l k → (env : Env) (vs : List ℤ) (base : ℕ) (d : State)
+      acting_same : (l : c.Level) (k : Level Output) → Like numbering l k → (env : Env) (vs : List ℤ) (base : ℕ)
+          (d : State)
           → acting callee at t k env vs base (note k.taking (happening.Call at) (as_done d))
           ≡ as_found (c.returned (c.note (happening.Call (g l).at) d) (l.call (g l) env vs base d.store d.count))
       acting_same l k like env vs base d =

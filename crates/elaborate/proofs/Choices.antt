@@ -218,7 +218,8 @@ module _ (numbering : Numbering) where
   -- an automatic object that is initialised where its declaration is reached
   pub initialised_code : (en : Entry) (n : ℕ) (s : Scope) (braced : Bool) (xs : List Setting) (y : says.Filling)
       (ns : List Noted) → AllSet xs y.parts ns
-      → IsCodeOf numbering (tree.Declare en.at n braced xs) (statements.automatic en n (initials.initial_of braced y ns) s)
+      → IsCodeOf numbering (tree.Declare en.at n braced xs) (statements.automatic en n
+      (initials.initial_of braced y ns) s)
   initialised_code en n s braced xs y ns h = by_item numbering _ _ _ (eq.does-Declare en.at n braced xs) (record {
     size = λ l k like. ap (λ m. 1 + m) (sizes_same xs y.parts ns h l k like);
     room = λ l k like. ap (λ m. 1 + m) (rooms_same xs y.parts ns h l k like);

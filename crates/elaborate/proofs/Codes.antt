@@ -183,7 +183,8 @@ module _ (numbering : Numbering) where
       (evaluated_acts true e x (runs.node (statements.value_of x)) h (λ l. refl) (λ l. refl) (λ l base. refl)
       (λ l env base d. refl))
 
-  pub part_code : (e : Expr) (x : Noted) → IsEffectOf numbering e x.part → Acts numbering (core.evaluated false (value e))
+  pub part_code : (e : Expr) (x : Noted) → IsEffectOf numbering e x.part → Acts numbering
+      (core.evaluated false (value e))
       (statements.value_of x)
   part_code e x h = evaluated_acts false e x (statements.value_of x) h (λ l. unchanged (x.part.size l)) (λ l. refl)
       (λ l base. refl) (λ l env base d. refl) where
@@ -211,7 +212,8 @@ module _ (numbering : Numbering) where
   -- ---- labeled statements
 
   pub label_code : (at : ℕ) (name : Name) (bs : List Breach) (x : Code) (i : runs.Item) → IsCodeOf numbering x i
-      → IsCodeOf numbering (tree.Label name x) (runs.node (runs.with_breaches bs (statements.arrived (at_label name) i)))
+      → IsCodeOf numbering (tree.Label name x) (runs.node (runs.with_breaches bs
+      (statements.arrived (at_label name) i)))
   label_code at name bs x i h = by_item _ _ _ (eq.does-Label name x) (record {
     size = λ l k like. ap (λ n. 1 + (0 + n)) (h.size l k like) ∙ once (i.size l);
     room = h.room;
@@ -222,7 +224,8 @@ module _ (numbering : Numbering) where
     once n = grind arith
 
   -- a case of a value, whose expression counts
-  pub case_code : (z : ℤ) (e : Expr) (p : Part) (x : Code) (i : runs.Item) → IsValueOf numbering e p → IsCodeOf numbering x i
+  pub case_code : (z : ℤ) (e : Expr) (p : Part) (x : Code) (i : runs.Item) → IsValueOf numbering e p → IsCodeOf
+      numbering x i
       → IsCodeOf numbering (tree.Case z e x) (record (statements.arrived (at_case (Some z)) i)
       { size = λ l. 1 + (p.size l + i.size l) })
   case_code z e p x i g h = by_item _ _ _ (eq.does-Case z e x) (record {
@@ -358,7 +361,8 @@ module _ (numbering : Numbering) where
         true d;
   }
 
-  pub a_test : (at : ℕ) (e : Expr) (n : Noted) → IsValueOf numbering e n.part → Tests (Some e) (statements.test_of at n) at
+  pub a_test : (at : ℕ) (e : Expr) (n : Noted) → IsValueOf numbering e n.part → Tests (Some e)
+      (statements.test_of at n) at
   a_test at e n h = record {
     size = h.size;
     room = h.room;
@@ -509,7 +513,8 @@ module _ (numbering : Numbering) where
         (rounds_same l k like env m (base + (i.room l + n.part.room l)) d) refl)
         (runs.arrive past_continue (i.run l env base d)))
 
-    pub repeated_acts : Acts numbering (core.repeated at x (value e)) (statements.repeated at i (statements.test_of at n))
+    pub repeated_acts : Acts numbering (core.repeated at x (value e))
+        (statements.repeated at i (statements.test_of at n))
     repeated_acts = acting_acts _ _ (statements.repeated at i (statements.test_of at n))
         (λ l env base d. runs.arrive past_break (statements.rounds_from at i (statements.test_of at n) l env l.turns
         base d))

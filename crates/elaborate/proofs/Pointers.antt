@@ -190,7 +190,8 @@ module _ (numbering : Numbering) where
 
   -- ---- members (C99 6.5.2.3)
 
-  pub member_address : (offset : ℕ) (x : Typed) (e : Expr) (p : Part) → IsAddressOf numbering e p → IsAddressOf numbering
+  pub member_address : (offset : ℕ) (x : Typed) (e : Expr) (p : Part) → IsAddressOf numbering e p → IsAddressOf
+      numbering
       (expr.Offset offset e) (forms.member_of_lvalue offset x p)
   member_address offset x e p h = by_worth numbering _ _ _ _ _ (eq.worth-Offset offset e) (rerun numbering _ _ _ _ _
       (node_does numbering (value e) p.size p.room (λ l env base d. as_value (p.reach l env base d)) _
@@ -207,7 +208,8 @@ module _ (numbering : Numbering) where
       (node_does numbering (value (expr.Convert v.Pointer e)) p.size p.room
       (λ l env base d. c.◌>>=◌ (p.run l env base d) (λ z. Ok (pos (address z.0), z.1))) _
       (λ z d. Ok (pos (forms.behind offset (unsigned_abs z)), d))
-      (by_worth numbering _ _ _ _ _ (eq.worth-Convert v.Pointer e) (between_does numbering (value e) p.size p.room p.run _
+      (by_worth numbering _ _ _ _ _ (eq.worth-Convert v.Pointer e)
+      (between_does numbering (value e) p.size p.room p.run _
       (λ z d. Ok (pos (address z), d)) h (λ z d. refl)))
       (λ z d. refl))
       (λ l env base d. grouped (p.run l env base d) (λ z. Ok (pos (address z.0), z.1))

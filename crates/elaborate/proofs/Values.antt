@@ -111,7 +111,8 @@ module _ (numbering : Numbering) where
   })
 
   -- a literal, or `__func__`
-  pub literal_address : (at : ℕ) (x : Typed) → IsAddressOf numbering (expr.Fixed (numbering.place at)) (forms.made_for at x)
+  pub literal_address : (at : ℕ) (x : Typed) → IsAddressOf numbering (expr.Fixed (numbering.place at))
+      (forms.made_for at x)
   literal_address at x = by_worth _ _ _ _ _ (eq.worth-Fixed (numbering.place at)) (record {
     size = λ l k h. refl;
     room = λ l k h. refl;
@@ -362,7 +363,8 @@ module _ (numbering : Numbering) where
   behind_same x y r m s run' h l k like e env base d = ap (λ b. y.run k env (base + b) (as_done d)) e ∙ h.runs l k
       like env (base + r l) d
 
-  truth_same : (x y : Value Output) (p q : Part) → Does numbering x p.size p.room p.run → Does numbering y q.size q.room q.run
+  truth_same : (x y : Value Output) (p q : Part) → Does numbering x p.size p.room p.run → Does numbering y q.size
+      q.room q.run
       → (l : c.Level) (k : Level Output) → Like numbering l k → (env : Env) (base : ℕ) (d : State)
       → core.truth_of y k env (base + x.needs.room k.measures) (as_done d) ≡ as_found
       (forms.truth_of q l env (base + p.room l) d)
@@ -372,7 +374,8 @@ module _ (numbering : Numbering) where
       ∙ then_same (q.run l env (base + p.room l) d) (λ w. Ok (number_of (not (is_zero w.0)), w.1))
       (λ w. found (number_of (not (is_zero w.0))) w.1) (λ w d. refl)
 
-  both_does : (at : ℕ) (x y : Value Output) (p q : Part) → Does numbering x p.size p.room p.run → Does numbering y q.size
+  both_does : (at : ℕ) (x y : Value Output) (p q : Part) → Does numbering x p.size p.room p.run → Does numbering y
+      q.size
       q.room q.run
       → Does numbering (core.both at x y) (λ l. suc (p.size l + q.size l)) (λ l. p.room l + q.room l)
       (forms.binary at o.LogicalAnd p q).run
@@ -394,11 +397,13 @@ module _ (numbering : Numbering) where
     sides l k like env base true d = truth_same x y p q h i l k like env base d
     sides l k like env base false d = refl
 
-  pub and_value : (at : ℕ) (e f : Expr) (p q : Part) → IsValueOf numbering e p → IsValueOf numbering f q → IsValueOf numbering
+  pub and_value : (at : ℕ) (e f : Expr) (p q : Part) → IsValueOf numbering e p → IsValueOf numbering f q → IsValueOf
+      numbering
       (expr.And at e f) (forms.binary at o.LogicalAnd p q)
   and_value at e f p q h i = by_worth _ _ _ _ _ (eq.worth-And at e f) (both_does at (value e) (value f) p q h i)
 
-  either_does : (at : ℕ) (x y : Value Output) (p q : Part) → Does numbering x p.size p.room p.run → Does numbering y q.size
+  either_does : (at : ℕ) (x y : Value Output) (p q : Part) → Does numbering x p.size p.room p.run → Does numbering y
+      q.size
       q.room q.run
       → Does numbering (core.either at x y) (λ l. suc (p.size l + q.size l)) (λ l. p.room l + q.room l)
       (forms.binary at o.LogicalOr p q).run
@@ -420,7 +425,8 @@ module _ (numbering : Numbering) where
     sides l k like env base true d = refl
     sides l k like env base false d = truth_same x y p q h i l k like env base d
 
-  pub or_value : (at : ℕ) (e f : Expr) (p q : Part) → IsValueOf numbering e p → IsValueOf numbering f q → IsValueOf numbering
+  pub or_value : (at : ℕ) (e f : Expr) (p q : Part) → IsValueOf numbering e p → IsValueOf numbering f q → IsValueOf
+      numbering
       (expr.Or at e f) (forms.binary at o.LogicalOr p q)
   or_value at e f p q h i = by_worth _ _ _ _ _ (eq.worth-Or at e f) (either_does at (value e) (value f) p q h i)
 
@@ -588,7 +594,8 @@ module _ (numbering : Numbering) where
             ∙ from_address (p.reach l env base d)
             (λ a d. c.◌>>=◌ (objects.load p.typed p.rooted a d) (λ v. c.◌>>=◌
             (c_operators.operated at b (c_operators.operand p.typed.after.tables p.typed v.0) c_operators.one v.1)
-            (λ w. c.◌>>=◌ (objects.put at p.typed.after.tables p.typed p.rooted a w.0 w.1) (λ z. Ok (f (v.0, z.0), z.1)))))
+            (λ w. c.◌>>=◌ (objects.put at p.typed.after.tables p.typed p.rooted a w.0 w.1)
+            (λ z. Ok (f (v.0, z.0), z.1)))))
             (λ a d. memory.load (access_of p t) a d >>= (λ v. memory.operated at operator v.0 (pos 1) v.1
             >>= (λ w. memory.put at (access_of p t) a w.0 w.1 >>= (λ z. found (core.either_value answer v.0 z.0) z.1))))
             (λ a d. ap (λ o. o >>= (λ v. memory.operated at operator v.0 (pos 1) v.1
@@ -607,7 +614,8 @@ module _ (numbering : Numbering) where
             ∙ ap as_found (sym (stepped_then (p.reach l env base d)));
       }) where
         -- one sequence, however it is grouped
-        last : (v : ℤ) (o : c.Outcome ℤ) → c.◌>>=◌ (c.◌>>=◌ o (λ z. Ok ((v, z.0), z.1))) (λ v. Ok (f v.0, v.1)) ≡ c.◌>>=◌
+        last : (v : ℤ) (o : c.Outcome ℤ) → c.◌>>=◌ (c.◌>>=◌ o (λ z. Ok ((v, z.0), z.1))) (λ v. Ok (f v.0, v.1)) ≡
+            c.◌>>=◌
             o (λ z. Ok (f (v, z.0), z.1))
         last v (Ok z) = refl
         last v (Err d) = refl
@@ -622,11 +630,13 @@ module _ (numbering : Numbering) where
 
         second : (a : ℕ) (o : c.Outcome ℤ) → c.◌>>=◌ (c.◌>>=◌ o (λ v. c.◌>>=◌
             (c_operators.operated at b (c_operators.operand p.typed.after.tables p.typed v.0) c_operators.one v.1)
-            (λ w. c.◌>>=◌ (objects.put at p.typed.after.tables p.typed p.rooted a w.0 w.1) (λ z. Ok ((v.0, z.0), z.1)))))
+            (λ w. c.◌>>=◌ (objects.put at p.typed.after.tables p.typed p.rooted a w.0 w.1)
+            (λ z. Ok ((v.0, z.0), z.1)))))
             (λ v. Ok (f v.0, v.1))
             ≡ c.◌>>=◌ o (λ v. c.◌>>=◌ (c_operators.operated at b (c_operators.operand p.typed.after.tables p.typed v.0)
             c_operators.one v.1)
-            (λ w. c.◌>>=◌ (objects.put at p.typed.after.tables p.typed p.rooted a w.0 w.1) (λ z. Ok (f (v.0, z.0), z.1))))
+            (λ w. c.◌>>=◌ (objects.put at p.typed.after.tables p.typed p.rooted a w.0 w.1)
+            (λ z. Ok (f (v.0, z.0), z.1))))
         second a (Ok v) = third a v.0 (c_operators.operated at b (c_operators.operand p.typed.after.tables p.typed v.0)
             c_operators.one v.1)
         second a (Err d) = refl
@@ -688,7 +698,8 @@ module _ (numbering : Numbering) where
   function_value e x rooted needs reach is h = rerun _ _ _ _ _ h (λ l env base d. its_address (reach l env base d))
     where
       its_address : (o : c.Outcome ℕ) → as_value o ≡ c.◌>>=◌ o (λ a. objects.load x rooted a.0 a.1)
-      its_address (Ok a) = sym (ap (λ cl. objects.load_as cl (bytes_of x.after.tables (type_of x)) x.at rooted a.0 a.1) is
+      its_address (Ok a) = sym (ap (λ cl. objects.load_as cl (bytes_of x.after.tables (type_of x)) x.at rooted a.0
+          a.1) is
           ∙ unread class.Function (bytes_of x.after.tables (type_of x)) x.at rooted a.0 a.1 refl)
       its_address (Err d) = refl
 

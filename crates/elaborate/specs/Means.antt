@@ -1,7 +1,7 @@
 -- What it is to be the core of a part of a program: in all levels, environments, places and states it does what the part
 -- does, takes as many places, and counts as many nodes. The states are the same, but that the core keeps apart what a
 -- run leaves outside.
-use Rattle.std.specs.Prelude.{◌≡◌, ℕ, ℤ, pos, Bool, true, List, [], ◌∷◌, Option, Some, Ok, Err}
+use Rattle.std.specs.Prelude.{◌≡◌, ℕ, ℤ, pos, true, List, [], ◌∷◌, Option, Some, Ok, Err}
 use Rattle.c_type_terms.specs.declared.class.Class.{Class}
 use Rattle.c_type_terms.specs.declared.tables.Tables.{Tables}
 use Rattle.c_store.specs.Store.{Store, read}
@@ -76,7 +76,8 @@ pub record Like (numbering : Numbering) (l : c.Level) (k : Level Output) : Type 
 
 -- ---- expressions
 
-pub record Does (numbering : Numbering) (x : Value Output) (nodes places : c.Level → ℕ) (run : c.Level → c.Run ℤ) : Type 0
+pub record Does (numbering : Numbering) (x : Value Output) (nodes places : c.Level → ℕ) (run : c.Level → c.Run ℤ) :
+    Type 0
   where
     pub size : (l : c.Level) (k : Level Output) → Like numbering l k → x.needs.size k.measures ≡ nodes l
     pub room : (l : c.Level) (k : Level Output) → Like numbering l k → x.needs.room k.measures ≡ places l
@@ -128,7 +129,8 @@ pub record OfType (tables : Tables) (x : Typed) (t : ValueType) : Type 0 where
 -- ---- calls
 
 -- what a callee of the core does is what a call of this site does
-pub record IsCallOf (numbering : Numbering) (callee : Callee) (at : ℕ) (t : ValueType) (site : c.Level → c.Site) : Type 0 where
+pub record IsCallOf (numbering : Numbering) (callee : Callee) (at : ℕ) (t : ValueType) (site : c.Level → c.Site) :
+    Type 0 where
   pub size : (l : c.Level) (k : Level Output) → Like numbering l k → callee_size callee k.measures ≡ l.size (site l)
   pub room : (l : c.Level) (k : Level Output) → Like numbering l k → callee_room callee k.measures ≡ l.room (site l)
   pub runs : (l : c.Level) (k : Level Output) → Like numbering l k → (env : Env) (vs : List ℤ) (base : ℕ) (s : Store)
@@ -155,7 +157,8 @@ AreArguments numbering _ _ = ⊥
 pub record IsParameter (s : Scope) (p : Parameter) (e : Entry) : Type 0 where
   pub at : p.at ≡ e.at
   pub size : size_of p.stored ≡ whole.parameter_size s e
-  pub stores : (a : ℕ) (z : ℤ) (d : State) → stored p.stored a z (as_done d) ≡ as_done (whole.passes_as s.tables e.means a z d)
+  pub stores : (a : ℕ) (z : ℤ) (d : State) → stored p.stored a z (as_done d) ≡ as_done
+      (whole.passes_as s.tables e.means a z d)
 
 abbrev pub AreParameters : Scope → List Parameter → List Entry → Type 0
 AreParameters s [] [] = Unit {0}
