@@ -1,6 +1,6 @@
--- What it is to be the core of a part of a program: in all levels, environments, places and states it does what the part
--- does, takes as many places, and counts as many nodes. The states are the same, but that the core keeps apart what a
--- run leaves outside.
+-- What it is to be the core of a part of a program: in all levels, environments, places and states it does what the
+-- part does, takes as many places, and counts as many nodes. The states are the same, but that the core keeps apart what
+-- a run leaves outside.
 use Rattle.std.specs.Prelude.{◌≡◌, ℕ, ℤ, pos, true, List, [], ◌∷◌, Option, Some, Ok, Err}
 use Rattle.c_type_terms.specs.declared.class.Class.{Class}
 use Rattle.c_type_terms.specs.declared.tables.Tables.{Tables}
