@@ -53,10 +53,25 @@ as_value (Err d) = Err d
 
 -- ---- levels
 
--- The places of what lives throughout the run, by offset, and the number of the function whose body a call runs.
+-- What a call by rule does, in a world and bounds, from the objects in force, the values of its arguments, its first
+-- place and the state in which it begins; and how many places it takes.
+pub record Ruling : Type 0 where
+  pub room : ℕ
+  pub acts : c.World → c.Limits → Env → List ℤ → ℕ → State → State
+
+-- What a function's calls are: the places of what lives throughout the run, by offset; the number of the function whose
+-- body a call runs; and what a call by rule does.
 pub record Numbering : Type 0 where
   pub place : ℕ → ℕ
   pub body : c.Site → Option ℕ
+  pub rule : c.Site → Option Ruling
+
+-- a call of the site does what the rule says
+pub record Follows (l : c.Level) (g : c.Site) (r : Ruling) : Type 0 where
+  pub size : 0 ≡ l.size g
+  pub room : r.room ≡ l.room g
+  pub runs : (env : Env) (vs : List ℤ) (base : ℕ) (s : Store) (n : ℕ)
+      → r.acts l.world l.limits env vs base (c.entered s n) ≡ l.call g env vs base s n
 
 -- a call of a function by its number does what a call of the site does
 pub record Calls (l : c.Level) (k : Level Output) (g : c.Site) (f : ℕ) : Type 0 where
@@ -73,6 +88,7 @@ pub record Like (numbering : Numbering) (l : c.Level) (k : Level Output) : Type 
   pub turns : k.measures.turns ≡ l.turns
   pub static_places : l.static ≡ numbering.place
   pub bodies : (g : c.Site) (f : ℕ) → numbering.body g ≡ Some f → Calls l k g f
+  pub rules : (g : c.Site) (r : Ruling) → numbering.rule g ≡ Some r → Follows l g r
 
 -- ---- expressions
 
@@ -179,21 +195,30 @@ BodyRule limits (BodyCall g) f turns = (g ≡ f) × (limits.turns ≡ turns)
 BodyRule limits (PreludeCall g) f turns = (g ≡ f) × (limits.texts ≡ turns)
 BodyRule limits _ f turns = ⊥
 
--- the core of the function whose body a call runs
-pub record Numbered (numbering : Numbering) (m : whole.Machine) (k : Machine Output) (g : c.Site) (n : ℕ) : Type 0 where
+-- the core of the function whose body a call runs; each function has its own numbering
+pub record Numbered (numbering : Function → Numbering) (m : whole.Machine) (k : Machine Output) (g : c.Site) (n : ℕ) :
+    Type 0 where
   pub function : Function
   pub turns : ℕ
   pub rule : BodyRule m.limits (whole.rule_of m g) function turns
   pub body : Body Output
   pub found : k.body n ≡ Some body
   pub item : runs.Item
-  pub is_body : IsBodyOf numbering body function item
+  pub is_body : IsBodyOf (numbering function) body function item
   pub has_turns : turns_in k.limits body.function ≡ turns
 
+-- the rule that a call of the site follows in a function is this one
+pub record HasRule (m : whole.Machine) (f : Function) (g : c.Site) (r : Ruling) : Type 0 where
+  pub size : (below : whole.Below) → 0 ≡ whole.size_by m below (whole.rule_of m g)
+  pub room : (below : whole.Below) → r.room ≡ whole.room_by m below g (whole.rule_of m g)
+  pub runs : (turns : ℕ) (below : whole.Below) (env : Env) (vs : List ℤ) (base : ℕ) (s : Store) (n : ℕ)
+      → r.acts m.world m.limits env vs base (c.entered s n) ≡ whole.call_by m f turns below (whole.rule_of m g) g env vs base s n
+
 -- the core of a program's functions, with the same world and bounds
-pub record IsMachineOf (numbering : Numbering) (m : whole.Machine) (k : Machine Output) : Type 0 where
+pub record IsMachineOf (numbering : Function → Numbering) (m : whole.Machine) (k : Machine Output) : Type 0 where
   pub taking : k.taking ≡ plain
   pub world : k.world ≡ m.world
   pub limits : k.limits ≡ m.limits
-  pub places : whole.places_of m.program ≡ numbering.place
-  pub bodies : (g : c.Site) (n : ℕ) → numbering.body g ≡ Some n → Numbered numbering m k g n
+  pub places : (f : Function) → whole.places_of m.program ≡ (numbering f).place
+  pub bodies : (f : Function) (g : c.Site) (n : ℕ) → (numbering f).body g ≡ Some n → Numbered numbering m k g n
+  pub rules : (f : Function) (g : c.Site) (r : Ruling) → (numbering f).rule g ≡ Some r → HasRule m f g r
