@@ -248,7 +248,8 @@ pub rule_call_of :
     (numbering : Numbering) (x : Callee) (at : ℕ) (t : ValueType) (g : c.Level → c.Site) (r : Ruling)
     → ((l : c.Level) → numbering.rule (g l) ≡ Some r) → ((k : Level Output) → core.callee_size x k.measures ≡ 0)
     → ((k : Level Output) → core.callee_room x k.measures ≡ r.room)
-    → ((l : c.Level) (k : Level Output) → Like numbering l k → (env : Env) (vs : List ℤ) (base : ℕ) (s : Store) (o : Output)
+    → ((l : c.Level) (k : Level Output) → Like numbering l k → (env : Env) (vs : List ℤ) (base : ℕ) (s : Store)
+    (o : Output)
     → core.called k x at t env vs base s o
     ≡ Some (as_done (r.acts l.world l.limits env vs base (c.entered s o.count))))
     → IsCallOf numbering x at t g

@@ -47,57 +47,61 @@ called m caller n below g (IdentityCall i) f turns h env vs base s count = absur
 called m caller n below g (LibraryCall x) f turns h env vs base s count = absurd h
 called m caller n below g OutsideCall f turns h env vs base s count = absurd h
 
-module _ (numbering : Function → Numbering) (m : whole.Machine) (k : Machine Output) (h : IsMachineOf numbering m k) where
-  -- with so many levels of calls left, the level of a function and the one of its core tell the same
-  pub levels_like : (n : ℕ) (f : Function) (turns : ℕ) (x : CoreFunction) → turns_in k.limits x ≡ turns → Like
-      (numbering f) (whole.level_of m n f turns) (level_of k n x)
-  unfolding whole.level_of measures_of calls_of
-  levels_like zero f turns x e = record {
-    taking = h.taking;
-    world = h.world;
-    limits = h.limits;
-    turns = e;
-    static_places = h.places f;
-    rules = λ g r is. let q = h.rules f g r is in record {
-      size = q.size None;
-      room = q.room None;
-      runs = q.runs turns None;
-    };
-    bodies = λ g i is. let b = h.bodies f g i is in record {
-      size = sized m None (whole.rule_of m g) b.function b.turns b.rule;
-      room = roomed m None g (whole.rule_of m g) b.function b.turns b.rule;
-      runs = λ env vs base s o. ap (λ t. Some (finished (finish.Left g.at) (entered t s o))) h.taking
-          ∙ ap (λ d. Some (as_done d)) (called m f turns None g (whole.rule_of m g) b.function b.turns b.rule env vs
-          base s o.count);
-    };
-  }
-  levels_like (suc n) f turns x e = record {
-    taking = h.taking;
-    world = h.world;
-    limits = h.limits;
-    turns = e;
-    static_places = h.places f;
-    rules = λ g r is. let q = h.rules f g r is in record {
-      size = q.size (Some (whole.level_of m n));
-      room = q.room (Some (whole.level_of m n));
-      runs = q.runs turns (Some (whole.level_of m n));
-    };
-    bodies = λ g i is.
-        let b = h.bodies f g i is in
-        let like = levels_like n b.function b.turns b.body.function b.has_turns in
-        record {
-          size = ap (size_by (measures_of k n)) b.found
-              ∙ size_same (numbering b.function) b.body b.function b.item b.is_body (whole.level_of m n b.function b.turns)
-              (level_of k n b.body.function) like
-              ∙ sized m (Some (whole.level_of m n)) (whole.rule_of m g) b.function b.turns b.rule;
-          room = ap (room_by (measures_of k n)) b.found
-              ∙ room_same (numbering b.function) b.body b.function b.item b.is_body (whole.level_of m n b.function b.turns)
-              (level_of k n b.body.function) like
-              ∙ roomed m (Some (whole.level_of m n)) g (whole.rule_of m g) b.function b.turns b.rule;
-          runs = λ env vs base s o. ap (λ y. called_at (level_of k n) y vs base s o) b.found
-              ∙ body_same (numbering b.function) b.body b.function b.item b.is_body (whole.level_of m n b.function b.turns)
-              (level_of k n b.body.function) like vs base s o
-              ∙ ap (λ d. Some (as_done d)) (called m f turns (Some (whole.level_of m n)) g (whole.rule_of m g)
-              b.function b.turns b.rule env vs base s o.count);
-        };
-  }
+module _ (numbering : Function → Numbering) (m : whole.Machine) (k : Machine Output) (h : IsMachineOf numbering m k)
+  where
+    -- with so many levels of calls left, the level of a function and the one of its core tell the same
+    pub levels_like : (n : ℕ) (f : Function) (turns : ℕ) (x : CoreFunction) → turns_in k.limits x ≡ turns → Like
+        (numbering f) (whole.level_of m n f turns) (level_of k n x)
+    unfolding whole.level_of measures_of calls_of
+    levels_like zero f turns x e = record {
+      taking = h.taking;
+      world = h.world;
+      limits = h.limits;
+      turns = e;
+      static_places = h.places f;
+      rules = λ g r is. let q = h.rules f g r is in record {
+        size = q.size None;
+        room = q.room None;
+        runs = q.runs turns None;
+      };
+      bodies = λ g i is. let b = h.bodies f g i is in record {
+        size = sized m None (whole.rule_of m g) b.function b.turns b.rule;
+        room = roomed m None g (whole.rule_of m g) b.function b.turns b.rule;
+        runs = λ env vs base s o. ap (λ t. Some (finished (finish.Left g.at) (entered t s o))) h.taking
+            ∙ ap (λ d. Some (as_done d)) (called m f turns None g (whole.rule_of m g) b.function b.turns b.rule env vs
+            base s o.count);
+      };
+    }
+    levels_like (suc n) f turns x e = record {
+      taking = h.taking;
+      world = h.world;
+      limits = h.limits;
+      turns = e;
+      static_places = h.places f;
+      rules = λ g r is. let q = h.rules f g r is in record {
+        size = q.size (Some (whole.level_of m n));
+        room = q.room (Some (whole.level_of m n));
+        runs = q.runs turns (Some (whole.level_of m n));
+      };
+      bodies = λ g i is.
+          let b = h.bodies f g i is in
+          let like = levels_like n b.function b.turns b.body.function b.has_turns in
+          record {
+            size = ap (size_by (measures_of k n)) b.found
+                ∙ size_same (numbering b.function) b.body b.function b.item b.is_body
+                (whole.level_of m n b.function b.turns)
+                (level_of k n b.body.function) like
+                ∙ sized m (Some (whole.level_of m n)) (whole.rule_of m g) b.function b.turns b.rule;
+            room = ap (room_by (measures_of k n)) b.found
+                ∙ room_same (numbering b.function) b.body b.function b.item b.is_body
+                (whole.level_of m n b.function b.turns)
+                (level_of k n b.body.function) like
+                ∙ roomed m (Some (whole.level_of m n)) g (whole.rule_of m g) b.function b.turns b.rule;
+            runs = λ env vs base s o. ap (λ y. called_at (level_of k n) y vs base s o) b.found
+                ∙ body_same (numbering b.function) b.body b.function b.item b.is_body
+                (whole.level_of m n b.function b.turns)
+                (level_of k n b.body.function) like vs base s o
+                ∙ ap (λ d. Some (as_done d)) (called m f turns (Some (whole.level_of m n)) g (whole.rule_of m g)
+                b.function b.turns b.rule env vs base s o.count);
+          };
+    }

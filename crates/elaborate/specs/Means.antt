@@ -1,6 +1,6 @@
 -- What it is to be the core of a part of a program: in all levels, environments, places and states it does what the
--- part does, takes as many places, and counts as many nodes. The states are the same, but that the core keeps apart what
--- a run leaves outside.
+-- part does, takes as many places, and counts as many nodes. The states are the same, but that the core keeps apart
+-- what a run leaves outside.
 use Rattle.std.specs.Prelude.{◌≡◌, ℕ, ℤ, pos, true, List, [], ◌∷◌, Option, Some, Ok, Err}
 use Rattle.c_type_terms.specs.declared.class.Class.{Class}
 use Rattle.c_type_terms.specs.declared.tables.Tables.{Tables}
@@ -212,7 +212,8 @@ pub record HasRule (m : whole.Machine) (f : Function) (g : c.Site) (r : Ruling) 
   pub size : (below : whole.Below) → 0 ≡ whole.size_by m below (whole.rule_of m g)
   pub room : (below : whole.Below) → r.room ≡ whole.room_by m below g (whole.rule_of m g)
   pub runs : (turns : ℕ) (below : whole.Below) (env : Env) (vs : List ℤ) (base : ℕ) (s : Store) (n : ℕ)
-      → r.acts m.world m.limits env vs base (c.entered s n) ≡ whole.call_by m f turns below (whole.rule_of m g) g env vs base s n
+      → r.acts m.world m.limits env vs base (c.entered s n) ≡ whole.call_by m f turns below (whole.rule_of m g) g env
+      vs base s n
 
 -- the core of a program's functions, with the same world and bounds
 pub record IsMachineOf (numbering : Function → Numbering) (m : whole.Machine) (k : Machine Output) : Type 0 where
