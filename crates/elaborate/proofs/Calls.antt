@@ -16,6 +16,7 @@ use Rattle.c_means.specs.Values as values
 use Rattle.c_means.specs.Expressions.{Passed}
 use Rattle.c_means.specs.Expressions as forms
 use Rattle.core_tree.specs.declared.expr.Callee.{Callee}
+use Rattle.core_tree.specs.declared.expr.Callee.TheVariants as callee
 use Rattle.core_tree.specs.declared.expr.Expr.{Expr}
 use Rattle.core_tree.specs.declared.expr.Expr.TheVariants as expr
 use Rattle.core_tree.specs.declared.types.ValueType.{ValueType}
@@ -35,6 +36,8 @@ use Rattle.core_tree.specs.States.{
 use Rattle.core_tree.specs.Values.{Value, value, arguments, acting, needed, all_rooms, all_sizes}
 use Rattle.core_tree.specs.Callees as core
 use Rattle.core_tree.proofs.Equations as eq
+use Rattle.c_store.specs.Store.{Store}
+use Rattle.elaborate.specs.Means.{Numbering, Ruling}
 use Rattle.elaborate.specs.Means.{as_done, as_found, Like, Does, IsValueOf, IsEffectOf, IsCallOf, AreArguments}
 use Rattle.elaborate.proofs.States.{then_same}
 
@@ -59,19 +62,19 @@ grouped None f g = refl
 grouped (Some (Ok x)) f g = refl
 grouped (Some (Err d)) f g = refl
 
-module _ (static : ℕ → ℕ) where
+module _ (numbering : Numbering) where
   -- ---- arguments, from left to right
 
-  rooms_same : (es : List Expr) (qs : List Passed) → AreArguments static es qs → (l : c.Level) (k : Level Output) →
-      Like static l k
+  rooms_same : (es : List Expr) (qs : List Passed) → AreArguments numbering es qs → (l : c.Level) (k : Level Output) →
+      Like numbering l k
       → all_rooms (map (value {O = Output}) es) k.measures ≡ forms.all_rooms qs l
   rooms_same [] [] h l k like = refl
   rooms_same [] (q ∷ qs) h l k like = absurd h
   rooms_same (e ∷ es) [] h l k like = absurd h
   rooms_same (e ∷ es) (q ∷ qs) h l k like = ap₂ (λ a b. a + b) (h.0.room l k like) (rooms_same es qs h.1 l k like)
 
-  sizes_same : (es : List Expr) (qs : List Passed) → AreArguments static es qs → (l : c.Level) (k : Level Output) →
-      Like static l k
+  sizes_same : (es : List Expr) (qs : List Passed) → AreArguments numbering es qs → (l : c.Level) (k : Level Output) →
+      Like numbering l k
       → all_sizes (map (value {O = Output}) es) k.measures ≡ forms.all_sizes qs l
   sizes_same [] [] h l k like = refl
   sizes_same [] (q ∷ qs) h l k like = absurd h
@@ -84,8 +87,8 @@ module _ (static : ℕ → ℕ) where
   converted_then (Ok x) g f = refl
   converted_then (Err d) g f = refl
 
-  arguments_same : (es : List Expr) (qs : List Passed) → AreArguments static es qs → (l : c.Level) (k : Level Output)
-      → Like static l k → (env : Env) (base : ℕ) (d : State)
+  arguments_same : (es : List Expr) (qs : List Passed) → AreArguments numbering es qs → (l : c.Level) (k : Level Output)
+      → Like numbering l k → (env : Env) (base : ℕ) (d : State)
       → arguments (map value es) k env base (as_done d) ≡ as_found (forms.arguments qs l env base d)
   arguments_same [] [] h l k like env base d = refl
   arguments_same [] (q ∷ qs) h l k like env base d = absurd h
@@ -110,10 +113,12 @@ module _ (static : ℕ → ℕ) where
 
   module _ (at : ℕ) (es : List Expr) (qs : List Passed) (callee : Callee) (t : ValueType) (x : Typed)
       (g : c.Level → c.Site)
-      (h : AreArguments static es qs) (i : IsCallOf static callee at t g) (same_at : (l : c.Level) → (g l).at ≡ at)
+      (h : AreArguments numbering es qs) (i : IsCallOf numbering callee at t g)
+      (same_at : (l : c.Level) → (g l).at ≡ at)
     where
       -- what is called, behind the event
-      acting_same : (l : c.Level) (k : Level Output) → Like static l k → (env : Env) (vs : List ℤ) (base : ℕ) (d : State)
+      acting_same : (l : c.Level) (k : Level Output) → Like numbering l k → (env : Env) (vs : List ℤ) (base : ℕ)
+          (d : State)
           → acting callee at t k env vs base (note k.taking (happening.Call at) (as_done d))
           ≡ as_found (c.returned (c.note (happening.Call (g l).at) d) (l.call (g l) env vs base d.store d.count))
       acting_same l k like env vs base d =
@@ -129,7 +134,7 @@ module _ (static : ℕ → ℕ) where
               (core.called k callee at t env vs base d.store (record
               { count = d.count; printed = d.printed; met = d.met }))
 
-      calling_same : (l : c.Level) (k : Level Output) → Like static l k → (env : Env) (base : ℕ) (d : State)
+      calling_same : (l : c.Level) (k : Level Output) → Like numbering l k → (env : Env) (base : ℕ) (d : State)
           → (arguments (map value es) k env base (as_done d) >>= (λ vs. acting callee at t k env vs.0
           (base + all_rooms (map (value {O = Output}) es) k.measures) (note k.taking (happening.Call at) vs.1)))
           ≡ as_found (forms.calling g qs l env base d)
@@ -141,9 +146,9 @@ module _ (static : ℕ → ℕ) where
           (λ vs d. acting_same l k like env vs (base + forms.all_rooms qs l) d)
 
       call_needs : (used : Bool) (run : c.Level → c.Run ℤ)
-          → ((l : c.Level) (k : Level Output) → Like static l k → (env : Env) (base : ℕ) (d : State) →
+          → ((l : c.Level) (k : Level Output) → Like numbering l k → (env : Env) (base : ℕ) (d : State) →
           (value (expr.Call at es callee t used)).run k env base (as_done d) ≡ as_found (run l env base d))
-          → Does static (value (expr.Call at es callee t used)) (λ l. suc (forms.all_sizes qs l + l.size (g l)))
+          → Does numbering (value (expr.Call at es callee t used)) (λ l. suc (forms.all_sizes qs l + l.size (g l)))
           (λ l. forms.all_rooms qs l + l.room (g l)) run
       call_needs used run same = record {
         size = λ l k like. ap (λ (w : Value Output). w.needs.size k.measures) (eq.worth-Call at es callee t used)
@@ -156,7 +161,7 @@ module _ (static : ℕ → ℕ) where
       -- the call, and what is done with its value
       with_value_same : (used : Bool) (f : Option ℤ → State → c.Outcome ℤ) →
           ((z : Option ℤ) (d : State) → needed used at t z (as_done d) ≡ as_found (f z d))
-          → (l : c.Level) (k : Level Output) → Like static l k → (env : Env) (base : ℕ) (d : State)
+          → (l : c.Level) (k : Level Output) → Like numbering l k → (env : Env) (base : ℕ) (d : State)
           → (value (expr.Call at es callee t used)).run k env base (as_done d) ≡ as_found
           (c.◌>>=◌ (forms.calling g qs l env base d) (λ v. f v.0 v.1))
       with_value_same used f same l k like env base d =
@@ -168,7 +173,7 @@ module _ (static : ℕ → ℕ) where
           ∙ then_same (forms.calling g qs l env base d) (λ v. f v.0 v.1) (λ v. needed used at t v.0 v.1) same
 
       -- where its value isn't used
-      pub call_effect : IsEffectOf static (expr.Call at es callee t false) (forms.direct_call at x g qs)
+      pub call_effect : IsEffectOf numbering (expr.Call at es callee t false) (forms.direct_call at x g qs)
       call_effect = call_needs false (forms.direct_call at x g qs).effect
           (with_value_same false (λ z d. Ok (unwrap_or z (pos 0), d)) unused)
         where
@@ -179,7 +184,7 @@ module _ (static : ℕ → ℕ) where
       -- where it is used
       pub call_value : ((z : Option ℤ) (d : State) → needed true at t z (as_done d) ≡ as_found
           (forms.needed at (values.class_in (type_of x)) z d))
-          → IsValueOf static (expr.Call at es callee t true) (forms.direct_call at x g qs)
+          → IsValueOf numbering (expr.Call at es callee t true) (forms.direct_call at x g qs)
       call_value same = call_needs true (forms.direct_call at x g qs).run
           (with_value_same true (forms.needed at (values.class_in (type_of x))) same)
 
@@ -225,3 +230,32 @@ needed_same at (class.Aggregate m) n None d = refl
 needed_same at (class.Aggregate m) n (Some z) d = refl
 needed_same at class.Opaque n None d = refl
 needed_same at class.Opaque n (Some z) d = refl
+
+-- a call by body, of the function of this number
+pub body_call_of :
+    (numbering : Numbering) (at : ℕ) (t : ValueType) (g : c.Level → c.Site) (f : ℕ)
+    → ((l : c.Level) → numbering.body (g l) ≡ Some f) → ((l : c.Level) → (g l).at ≡ at)
+    → IsCallOf numbering (callee.Body f) at t g
+body_call_of numbering at t g f is same_at = record {
+  size = λ l k like. (like.bodies (g l) f (is l)).size;
+  room = λ l k like. (like.bodies (g l) f (is l)).room;
+  runs = λ l k like env vs base s o. ap (λ a. core.body_call k.call k.taking a f vs base s o) (sym (same_at l))
+      ∙ (like.bodies (g l) f (is l)).runs env vs base s o;
+}
+
+-- a call by rule, by a callee of the core that does what the rule says
+pub rule_call_of :
+    (numbering : Numbering) (x : Callee) (at : ℕ) (t : ValueType) (g : c.Level → c.Site) (r : Ruling)
+    → ((l : c.Level) → numbering.rule (g l) ≡ Some r) → ((k : Level Output) → core.callee_size x k.measures ≡ 0)
+    → ((k : Level Output) → core.callee_room x k.measures ≡ r.room)
+    → ((l : c.Level) (k : Level Output) → Like numbering l k → (env : Env) (vs : List ℤ) (base : ℕ) (s : Store)
+    (o : Output)
+    → core.called k x at t env vs base s o
+    ≡ Some (as_done (r.acts l.world l.limits env vs base (c.entered s o.count))))
+    → IsCallOf numbering x at t g
+rule_call_of numbering x at t g r is size room runs = record {
+  size = λ l k like. size k ∙ (like.rules (g l) r (is l)).size;
+  room = λ l k like. room k ∙ (like.rules (g l) r (is l)).room;
+  runs = λ l k like env vs base s o. runs l k like env vs base s o
+      ∙ ap (λ d. Some (as_done d)) ((like.rules (g l) r (is l)).runs env vs base s o.count);
+}

@@ -33,6 +33,7 @@ use Rattle.core_tree.specs.Values.{value}
 use Rattle.core_tree.specs.Codes.{Item, code, in_turn, lived}
 use Rattle.core_tree.specs.Codes as core
 use Rattle.core_tree.proofs.Equations as eq
+use Rattle.elaborate.specs.Means.{Numbering}
 use Rattle.elaborate.specs.Means.{as_done, Like, IsValueOf, Acts, IsCodeOf, SameType}
 use Rattle.elaborate.specs.Types.{word_type}
 use Rattle.elaborate.proofs.Numbers.{wrapped_same}
@@ -77,18 +78,18 @@ chosen_same t at xs z d e =
     by_choice true at z d = refl
     by_choice false at z d = refl
 
-module _ (static : ℕ → ℕ) where
+module _ (numbering : Numbering) where
   pub switch_code : (at : ℕ) (e : Expr) (n : Noted) (is_node : Bool) (xs : List Code) (i : runs.Item) → IsValueOf
-      static e n.part
-      → is_bool (statements.switch_kind n) ≡ false → Acts static (in_turn (map code xs)) i
-      → IsCodeOf static (tree.Switch at (word_type (statements.switch_kind n)) (case_values i.cases) e is_node xs)
+      numbering e n.part
+      → is_bool (statements.switch_kind n) ≡ false → Acts numbering (in_turn (map code xs)) i
+      → IsCodeOf numbering (tree.Switch at (word_type (statements.switch_kind n)) (case_values i.cases) e is_node xs)
       (record (statements.switch_item at n (runs.closed i)) {
         size = λ l. 1 +
             (n.part.size l + (core.counted is_node + i.size l));
       })
-  switch_code at e n is_node xs i g whole h = by_item static _ _ _
+  switch_code at e n is_node xs i g whole h = by_item numbering _ _ _
       (eq.does-Switch at (word_type (statements.switch_kind n)) (case_values i.cases) e is_node xs)
-      (acting_acts static _ _ _ (statements.switch_runs at n (runs.closed i))
+      (acting_acts numbering _ _ _ (statements.switch_runs at n (runs.closed i))
       (λ l k like. ap₂ (λ a b. 1 + (a + (core.counted is_node + b))) (g.size l k like) (h.size l k like))
       (λ l k like. ap₂ (λ a b. a + b) (g.room l k like) (h.room l k like))
       (λ l base. refl) (λ l env base d. refl)
@@ -106,7 +107,7 @@ module _ (static : ℕ → ℕ) where
       (λ r. Some (arrive past_switch r)))
       (chosen_same k.taking at i.cases (converted (statements.switch_kind n) v) d like.taking)
       ∙ ap (λ o. onward o (λ r. Some (arrive past_switch r)))
-      (lived_same static (in_turn (map code xs)) i h l k like env (base + n.part.room l)
+      (lived_same numbering (in_turn (map code xs)) i h l k like env (base + n.part.room l)
       (statements.choose at (statements.chosen i.cases (converted (statements.switch_kind n) v))
       (converted (statements.switch_kind n) v) d)))))
 
@@ -114,15 +115,15 @@ module _ (static : ℕ → ℕ) where
 
   -- the core of what one expression of an initializer sets
   pub record Sets (x : Setting) (p : says.Part) (n : Noted) : Type 0 where
-    pub size : (l : c.Level) (k : Level Output) → Like static l k → (core.setting_needs Output x).size k.measures ≡
+    pub size : (l : c.Level) (k : Level Output) → Like numbering l k → (core.setting_needs Output x).size k.measures ≡
         n.part.size l
-    pub room : (l : c.Level) (k : Level Output) → Like static l k → (core.setting_needs Output x).room k.measures ≡
+    pub room : (l : c.Level) (k : Level Output) → Like numbering l k → (core.setting_needs Output x).room k.measures ≡
         n.part.room l
-    pub runs : (l : c.Level) (k : Level Output) → Like static l k → (a : ℕ) (env : Env) (base : ℕ) (d : State)
+    pub runs : (l : c.Level) (k : Level Output) → Like numbering l k → (a : ℕ) (env : Env) (base : ℕ) (d : State)
         → core.sets x a k env base (as_done d) ≡ Some (as_done (initials.sets p n a l env base d))
 
   pub value_sets : (e : Expr) (t : ValueType) (p : says.Part) (n : Noted) → is_text_of p.type n.part.typed ≡ false
-      → SameType (class_of p.type) (bytes_of n.part.typed.after.tables (Some p.type)) t → IsValueOf static e n.part →
+      → SameType (class_of p.type) (bytes_of n.part.typed.after.tables (Some p.type)) t → IsValueOf numbering e n.part →
       Sets (setting.Value p.offset t e) p n
   value_sets e t p n no_text same h = record {
     size = h.size;
@@ -170,7 +171,7 @@ module _ (static : ℕ → ℕ) where
   AllSet _ _ _ = ⊥
 
   sizes_same : (xs : List Setting) (ps : List says.Part) (ns : List Noted) → AllSet xs ps ns → (l : c.Level)
-      (k : Level Output) → Like static l k
+      (k : Level Output) → Like numbering l k
       → (core.all_needs Output xs).size k.measures ≡ initials.all_sizes ns l
   sizes_same [] [] [] h l k like = refl
   sizes_same [] [] (n ∷ ns) h l k like = absurd h
@@ -181,7 +182,7 @@ module _ (static : ℕ → ℕ) where
       (sizes_same xs ps ns h.1 l k like)
 
   rooms_same : (xs : List Setting) (ps : List says.Part) (ns : List Noted) → AllSet xs ps ns → (l : c.Level)
-      (k : Level Output) → Like static l k
+      (k : Level Output) → Like numbering l k
       → (core.all_needs Output xs).room k.measures ≡ initials.all_rooms ns l
   rooms_same [] [] [] h l k like = refl
   rooms_same [] [] (n ∷ ns) h l k like = absurd h
@@ -192,7 +193,7 @@ module _ (static : ℕ → ℕ) where
       (rooms_same xs ps ns h.1 l k like)
 
   sets_all_same : (xs : List Setting) (ps : List says.Part) (ns : List Noted) → AllSet xs ps ns → (l : c.Level)
-      (k : Level Output) → Like static l k
+      (k : Level Output) → Like numbering l k
       → (a : ℕ) (env : Env) (base : ℕ) (d : State) → core.sets_all xs a k env base (as_done d) ≡ Some
       (as_done (initials.sets_all ps ns a l env base d))
   sets_all_same [] [] [] h l k like a env base d = refl
@@ -217,8 +218,9 @@ module _ (static : ℕ → ℕ) where
   -- an automatic object that is initialised where its declaration is reached
   pub initialised_code : (en : Entry) (n : ℕ) (s : Scope) (braced : Bool) (xs : List Setting) (y : says.Filling)
       (ns : List Noted) → AllSet xs y.parts ns
-      → IsCodeOf static (tree.Declare en.at n braced xs) (statements.automatic en n (initials.initial_of braced y ns) s)
-  initialised_code en n s braced xs y ns h = by_item static _ _ _ (eq.does-Declare en.at n braced xs) (record {
+      → IsCodeOf numbering (tree.Declare en.at n braced xs) (statements.automatic en n
+      (initials.initial_of braced y ns) s)
+  initialised_code en n s braced xs y ns h = by_item numbering _ _ _ (eq.does-Declare en.at n braced xs) (record {
     size = λ l k like. ap (λ m. 1 + m) (sizes_same xs y.parts ns h l k like);
     room = λ l k like. ap (λ m. 1 + m) (rooms_same xs y.parts ns h l k like);
     objects = λ l k like base. refl;

@@ -31,6 +31,7 @@ use Rattle.core_tree.specs.Values.{value}
 use Rattle.core_tree.specs.Codes.{Item, code, in_turn, lived}
 use Rattle.core_tree.specs.Codes as core
 use Rattle.core_tree.proofs.Equations as eq
+use Rattle.elaborate.specs.Means.{Numbering}
 use Rattle.elaborate.specs.Means.{as_done, as_found, Like, Does, IsValueOf, IsEffectOf, Acts, IsCodeOf}
 
 -- ---- arrows
@@ -91,13 +92,13 @@ dead_same (m ∷ ms) d = dead_same ms (c.with_store (end m.place d.store) d)
 abbrev no_made : List Made
 no_made = []
 
-module _ (static : ℕ → ℕ) where
-  pub by_item : (x : Code) (y : Item Output) (i : runs.Item) → code x ≡ y → Acts static y i → IsCodeOf static x i
+module _ (numbering : Numbering) where
+  pub by_item : (x : Code) (y : Item Output) (i : runs.Item) → code x ≡ y → Acts numbering y i → IsCodeOf numbering x i
   by_item x y i e h = rw e h
 
   -- ---- one behind the other
 
-  pub no_item : (s : Scope) → Acts static (in_turn []) (runs.nothing s)
+  pub no_item : (s : Scope) → Acts numbering (in_turn []) (runs.nothing s)
   no_item s = record {
     size = λ l k like. refl;
     room = λ l k like. refl;
@@ -105,7 +106,7 @@ module _ (static : ℕ → ℕ) where
     runs = λ l k like env base d. refl;
   }
 
-  pub and_items : (x y : Item Output) (i j : runs.Item) → Acts static x i → Acts static y j → Acts static
+  pub and_items : (x y : Item Output) (i j : runs.Item) → Acts numbering x i → Acts numbering y j → Acts numbering
       (core.followed x y) (runs.followed i j)
   and_items x y i j h g = record {
     size = λ l k like. ap₂ (λ a b. a + b) (h.size l k like) (g.size l k like);
@@ -120,9 +121,9 @@ module _ (static : ℕ → ℕ) where
   }
 
   -- items in turn, by those of their cores
-  pub items : (x : Code) (xs : List Code) (i j : runs.Item) → IsCodeOf static x i → Acts static
+  pub items : (x : Code) (xs : List Code) (i j : runs.Item) → IsCodeOf numbering x i → Acts numbering
       (in_turn (map code xs)) j
-      → Acts static (in_turn (map code (x ∷ xs))) (runs.followed i j)
+      → Acts numbering (in_turn (map code (x ∷ xs))) (runs.followed i j)
   items x xs i j h g = and_items (code x) (in_turn (map code xs)) i j h g
 
   -- ---- steps
@@ -130,13 +131,13 @@ module _ (static : ℕ → ℕ) where
   -- no object for its block, and only where the run is running
   pub acting_acts : (needs : Needs) (run : (k : Level Output) → Env → ℕ → Arrow Output) (i : runs.Item)
       (act : c.Level → Env → ℕ → runs.Arrow)
-      → ((l : c.Level) (k : Level Output) → Like static l k → needs.size k.measures ≡ i.size l)
-      → ((l : c.Level) (k : Level Output) → Like static l k → needs.room k.measures ≡ i.room l)
+      → ((l : c.Level) (k : Level Output) → Like numbering l k → needs.size k.measures ≡ i.size l)
+      → ((l : c.Level) (k : Level Output) → Like numbering l k → needs.room k.measures ≡ i.room l)
       → ((l : c.Level) (base : ℕ) → no_made ≡ i.objects l base)
       → ((l : c.Level) (env : Env) (base : ℕ) (d : State) → runs.running (act l env base) d ≡ i.run l env base d)
-      → ((l : c.Level) (k : Level Output) → Like static l k → (env : Env) (base : ℕ) (d : State) → run k env base
+      → ((l : c.Level) (k : Level Output) → Like numbering l k → (env : Env) (base : ℕ) (d : State) → run k env base
       (as_done d) ≡ Some (as_done (act l env base d)))
-      → Acts static (core.acting needs run) i
+      → Acts numbering (core.acting needs run) i
   acting_acts needs run i act size room objects is same = record {
     size = size;
     room = room;
@@ -146,7 +147,7 @@ module _ (static : ℕ → ℕ) where
   }
 
   -- `;` and what does nothing
-  pub nothing_code : (s : Scope) → IsCodeOf static (tree.Nothing false) (runs.nothing s)
+  pub nothing_code : (s : Scope) → IsCodeOf numbering (tree.Nothing false) (runs.nothing s)
   nothing_code s = by_item _ _ _ (eq.does-Nothing false) (record {
     size = λ l k like. refl;
     room = λ l k like. refl;
@@ -154,7 +155,7 @@ module _ (static : ℕ → ℕ) where
     runs = λ l k like env base d. refl;
   })
 
-  pub empty_code : (s : Scope) → IsCodeOf static (tree.Nothing true) (runs.node (runs.nothing s))
+  pub empty_code : (s : Scope) → IsCodeOf numbering (tree.Nothing true) (runs.node (runs.nothing s))
   empty_code s = by_item _ _ _ (eq.does-Nothing true) (record {
     size = λ l k like. refl;
     room = λ l k like. refl;
@@ -162,12 +163,12 @@ module _ (static : ℕ → ℕ) where
     runs = λ l k like env base d. refl;
   })
 
-  evaluated_acts : (b : Bool) (e : Expr) (x : Noted) (i : runs.Item) → IsEffectOf static e x.part
+  evaluated_acts : (b : Bool) (e : Expr) (x : Noted) (i : runs.Item) → IsEffectOf numbering e x.part
       → ((l : c.Level) → core.counted b + x.part.size l ≡ i.size l) → ((l : c.Level) → x.part.room l ≡ i.room l) →
       ((l : c.Level) (base : ℕ) → no_made ≡ i.objects l base)
       → ((l : c.Level) (env : Env) (base : ℕ) (d : State) → runs.running
       (λ d. runs.with_value (x.part.effect l env base d) (λ v d. d)) d ≡ i.run l env base d)
-      → Acts static (core.evaluated b (value e)) i
+      → Acts numbering (core.evaluated b (value e)) i
   evaluated_acts b e x i h size room objects is = acting_acts _ _ i
       (λ l env base d. runs.with_value (x.part.effect l env base d) (λ v d. d))
       (λ l k like. ap (λ n. core.counted b + n) (h.size l k like) ∙ size l) (λ l k like. h.room l k like ∙ room l)
@@ -176,13 +177,14 @@ module _ (static : ℕ → ℕ) where
       (x.part.effect l env base d) (λ v d. Some d) (λ v d. d) (λ v d. refl))
 
   -- an expression statement, and an expression of a `for`
-  pub value_code : (e : Expr) (x : Noted) → IsEffectOf static e x.part → IsCodeOf static (tree.Value true e)
+  pub value_code : (e : Expr) (x : Noted) → IsEffectOf numbering e x.part → IsCodeOf numbering (tree.Value true e)
       (runs.node (statements.value_of x))
   value_code e x h = by_item _ _ _ (eq.does-Value true e)
       (evaluated_acts true e x (runs.node (statements.value_of x)) h (λ l. refl) (λ l. refl) (λ l base. refl)
       (λ l env base d. refl))
 
-  pub part_code : (e : Expr) (x : Noted) → IsEffectOf static e x.part → Acts static (core.evaluated false (value e))
+  pub part_code : (e : Expr) (x : Noted) → IsEffectOf numbering e x.part → Acts numbering
+      (core.evaluated false (value e))
       (statements.value_of x)
   part_code e x h = evaluated_acts false e x (statements.value_of x) h (λ l. unchanged (x.part.size l)) (λ l. refl)
       (λ l base. refl) (λ l env base d. refl) where
@@ -191,26 +193,27 @@ module _ (static : ℕ → ℕ) where
 
   -- ---- jumps
 
-  pub jump_acts : (kind : Kind) (bs : List Breach) (cx : runs.Context) → Acts static (core.jump kind)
+  pub jump_acts : (kind : Kind) (bs : List Breach) (cx : runs.Context) → Acts numbering (core.jump kind)
       (statements.jump bs kind cx)
   jump_acts kind bs cx = acting_acts _ _ (statements.jump bs kind cx) (λ l env base. runs.become kind)
       (λ l k like. refl) (λ l k like. refl) (λ l base. refl)
       (λ l env base d. refl) (λ l k like env base d. refl)
 
-  pub goto_code : (at : ℕ) (name : Name) (cx : runs.Context) → IsCodeOf static (tree.Goto name)
+  pub goto_code : (at : ℕ) (name : Name) (cx : runs.Context) → IsCodeOf numbering (tree.Goto name)
       (statements.goto_of at name cx)
   goto_code at name cx = by_item _ _ _ (eq.does-Goto name) (jump_acts (k.Going name) _ cx)
 
-  pub continue_code : (at : ℕ) (cx : runs.Context) → IsCodeOf static tree.Continue (statements.continue_of at cx)
+  pub continue_code : (at : ℕ) (cx : runs.Context) → IsCodeOf numbering tree.Continue (statements.continue_of at cx)
   continue_code at cx = by_item _ _ _ eq.does-Continue (jump_acts k.Continuing _ cx)
 
-  pub break_code : (at : ℕ) (cx : runs.Context) → IsCodeOf static tree.Break (statements.break_of at cx)
+  pub break_code : (at : ℕ) (cx : runs.Context) → IsCodeOf numbering tree.Break (statements.break_of at cx)
   break_code at cx = by_item _ _ _ eq.does-Break (jump_acts k.Breaking _ cx)
 
   -- ---- labeled statements
 
-  pub label_code : (at : ℕ) (name : Name) (bs : List Breach) (x : Code) (i : runs.Item) → IsCodeOf static x i
-      → IsCodeOf static (tree.Label name x) (runs.node (runs.with_breaches bs (statements.arrived (at_label name) i)))
+  pub label_code : (at : ℕ) (name : Name) (bs : List Breach) (x : Code) (i : runs.Item) → IsCodeOf numbering x i
+      → IsCodeOf numbering (tree.Label name x) (runs.node (runs.with_breaches bs
+      (statements.arrived (at_label name) i)))
   label_code at name bs x i h = by_item _ _ _ (eq.does-Label name x) (record {
     size = λ l k like. ap (λ n. 1 + (0 + n)) (h.size l k like) ∙ once (i.size l);
     room = h.room;
@@ -221,8 +224,9 @@ module _ (static : ℕ → ℕ) where
     once n = grind arith
 
   -- a case of a value, whose expression counts
-  pub case_code : (z : ℤ) (e : Expr) (p : Part) (x : Code) (i : runs.Item) → IsValueOf static e p → IsCodeOf static x i
-      → IsCodeOf static (tree.Case z e x) (record (statements.arrived (at_case (Some z)) i)
+  pub case_code : (z : ℤ) (e : Expr) (p : Part) (x : Code) (i : runs.Item) → IsValueOf numbering e p → IsCodeOf
+      numbering x i
+      → IsCodeOf numbering (tree.Case z e x) (record (statements.arrived (at_case (Some z)) i)
       { size = λ l. 1 + (p.size l + i.size l) })
   case_code z e p x i g h = by_item _ _ _ (eq.does-Case z e x) (record {
     size = λ l k like. ap₂ (λ a b. 1 + (a + b)) (g.size l k like) (h.size l k like);
@@ -231,8 +235,8 @@ module _ (static : ℕ → ℕ) where
     runs = λ l k like env base d. h.runs l k like env base (runs.arrive (at_case (Some z)) d);
   })
 
-  pub default_code : (at : ℕ) (bs : List Breach) (x : Code) (i : runs.Item) → IsCodeOf static x i
-      → IsCodeOf static (tree.Default x) (runs.node (runs.with_breaches bs
+  pub default_code : (at : ℕ) (bs : List Breach) (x : Code) (i : runs.Item) → IsCodeOf numbering x i
+      → IsCodeOf numbering (tree.Default x) (runs.node (runs.with_breaches bs
       (statements.chosen_by at None (statements.arrived at_default i))))
   default_code at bs x i h = by_item _ _ _ (eq.does-Default x) (record {
     size = λ l k like. ap (λ n. 1 + (0 + n)) (h.size l k like) ∙ once (i.size l);
@@ -245,8 +249,8 @@ module _ (static : ℕ → ℕ) where
 
   -- ---- blocks
 
-  pub lived_same : (x : Item Output) (i : runs.Item) → Acts static x i → (l : c.Level) (k : Level Output) → Like
-      static l k → (env : Env) (base : ℕ) (d : State)
+  pub lived_same : (x : Item Output) (i : runs.Item) → Acts numbering x i → (l : c.Level) (k : Level Output) → Like
+      numbering l k → (env : Env) (base : ℕ) (d : State)
       → lived x k env base (as_done d) ≡ Some (as_done (runs.lived i l env base d))
   lived_same x i h l k like env base d =
       ap (λ ms. onward (x.run k (known ms env) base (born k.taking ms (as_done d))) (λ r. Some (dead ms r)))
@@ -259,14 +263,14 @@ module _ (static : ℕ → ℕ) where
       (runs.born (i.objects l base) d)))
 
   -- a compound statement
-  pub block_code : (xs : List Code) (i : runs.Item) → Acts static (in_turn (map code xs)) i → IsCodeOf static
+  pub block_code : (xs : List Code) (i : runs.Item) → Acts numbering (in_turn (map code xs)) i → IsCodeOf numbering
       (tree.Block true xs) (runs.guarded (runs.closed (runs.node i)))
   block_code xs i h = by_item _ _ _ (eq.does-Block true xs) (acting_acts _ _ _ (runs.lived i)
       (λ l k like. ap (λ n. 1 + n) (h.size l k like)) h.room (λ l base. refl)
       (λ l env base d. refl) (λ l k like env base d. lived_same (in_turn (map code xs)) i h l k like env base d))
 
   -- a substatement that is no compound statement is a block too
-  pub inner_code : (xs : List Code) (i : runs.Item) → Acts static (in_turn (map code xs)) i → IsCodeOf static
+  pub inner_code : (xs : List Code) (i : runs.Item) → Acts numbering (in_turn (map code xs)) i → IsCodeOf numbering
       (tree.Block false xs) (runs.without_cases (runs.guarded (runs.closed i)))
   inner_code xs i h = by_item _ _ _ (eq.does-Block false xs) (acting_acts _ _ _ (runs.lived i)
       (λ l k like. ap (λ n. 0 + n) (h.size l k like) ∙ unchanged (i.size l)) h.room (λ l base. refl)
@@ -277,9 +281,9 @@ module _ (static : ℕ → ℕ) where
 
   -- ---- selection
 
-  pub if_code : (at : ℕ) (e : Expr) (x y : Code) (n : Noted) (i j : runs.Item) → IsValueOf static e n.part → IsCodeOf
-      static x i → IsCodeOf static y j
-      → IsCodeOf static (tree.If at e x y) (statements.if_item at n i j)
+  pub if_code : (at : ℕ) (e : Expr) (x y : Code) (n : Noted) (i j : runs.Item) → IsValueOf numbering e n.part → IsCodeOf
+      numbering x i → IsCodeOf numbering y j
+      → IsCodeOf numbering (tree.If at e x y) (statements.if_item at n i j)
   if_code at e x y n i j g h f = by_item _ _ _ (eq.does-If at e x y)
       (acting_acts _ _ (statements.if_item at n i j) (statements.if_runs at n i j)
       (λ l k like. ap₂ (λ a b. 1 + (a + b)) (g.size l k like) (ap₂ (λ a b. a + b) (h.size l k like) (f.size l k like)))
@@ -310,10 +314,10 @@ module _ (static : ℕ → ℕ) where
   -- ---- `return`
 
   pub return_code : (at : ℕ) (e : Expr) (t : ValueType) (n : Noted) (cx : runs.Context)
-      → Does static (value (expr.Convert t e)) n.part.size n.part.room
+      → Does numbering (value (expr.Convert t e)) n.part.size n.part.room
       (λ l env base d. c.◌>>=◌ (n.part.run l env base d) (λ v. Ok
       (values.converted_to (values.class_in cx.result) v.0, v.1)))
-      → IsCodeOf static (tree.Return (Some (expr.Convert t e))) (statements.value_return at n cx)
+      → IsCodeOf numbering (tree.Return (Some (expr.Convert t e))) (statements.value_return at n cx)
   return_code at e t n cx h = by_item _ _ _ (eq.does-Return (Some (expr.Convert t e)))
       (acting_acts _ _ (statements.value_return at n cx) (statements.returns n cx.result)
       (λ l lv like. ap (λ a. 1 + a) (h.size l lv like)) h.room (λ l base. refl) (λ l env base d. refl)
@@ -332,7 +336,7 @@ module _ (static : ℕ → ℕ) where
       returned (Ok x) cl = refl
       returned (Err d) cl = refl
 
-  pub bare_return_code : (at : ℕ) (cx : runs.Context) → IsCodeOf static (tree.Return None)
+  pub bare_return_code : (at : ℕ) (cx : runs.Context) → IsCodeOf numbering (tree.Return None)
       (statements.bare_return at cx)
   bare_return_code at cx = by_item _ _ _ (eq.does-Return None) (jump_acts k.Returning _ cx)
 
@@ -340,11 +344,11 @@ module _ (static : ℕ → ℕ) where
 
   -- a test, by its core; none is always true
   pub record Tests (e : Option Expr) (t : statements.Test) (at : ℕ) : Type 0 where
-    pub size : (l : c.Level) (k : Level Output) → Like static l k →
+    pub size : (l : c.Level) (k : Level Output) → Like numbering l k →
         (core.test_needs (option_map (value {O = Output}) e)).size k.measures ≡ t.item.size l
-    pub room : (l : c.Level) (k : Level Output) → Like static l k →
+    pub room : (l : c.Level) (k : Level Output) → Like numbering l k →
         (core.test_needs (option_map (value {O = Output}) e)).room k.measures ≡ t.item.room l
-    pub runs : (l : c.Level) (k : Level Output) → Like static l k → (env : Env) (base : ℕ) (f : Bool → Arrow Output)
+    pub runs : (l : c.Level) (k : Level Output) → Like numbering l k → (env : Env) (base : ℕ) (f : Bool → Arrow Output)
         (g : Bool → runs.Arrow)
         → ((b : Bool) (d : State) → f b (as_done d) ≡ Some (as_done (g b d))) → (d : State)
         → core.tested at (option_map value e) k env base f (as_done d) ≡ Some (as_done (t.run l env base g d))
@@ -357,7 +361,8 @@ module _ (static : ℕ → ℕ) where
         true d;
   }
 
-  pub a_test : (at : ℕ) (e : Expr) (n : Noted) → IsValueOf static e n.part → Tests (Some e) (statements.test_of at n) at
+  pub a_test : (at : ℕ) (e : Expr) (n : Noted) → IsValueOf numbering e n.part → Tests (Some e)
+      (statements.test_of at n) at
   a_test at e n h = record {
     size = h.size;
     room = h.room;
@@ -368,8 +373,8 @@ module _ (static : ℕ → ℕ) where
 
   module _ (at : ℕ) (e : Option Expr) (t : statements.Test) (x : Item Output) (i : runs.Item) (s : Item Output)
       (j : runs.Item)
-      (tests : Tests e t at) (h : Acts static x i) (g : Acts static s j) where
-    turn_room : (l : c.Level) (k : Level Output) → Like static l k → (core.turn_needs (option_map value e) x s).room
+      (tests : Tests e t at) (h : Acts numbering x i) (g : Acts numbering s j) where
+    turn_room : (l : c.Level) (k : Level Output) → Like numbering l k → (core.turn_needs (option_map value e) x s).room
         k.measures ≡ statements.turn_room t i j l
     turn_room l k like = ap₂ (λ a b. a + b) (tests.room l k like)
         (ap₂ (λ a b. a + b) (h.room l k like) (g.room l k like))
@@ -379,7 +384,7 @@ module _ (static : ℕ → ℕ) where
     Next l k env n = (base : ℕ) (d : State) → core.turns_from at (option_map value e) x s k env n base (as_done d) ≡
         Some (as_done (statements.turns_from at t i j l env n base d))
 
-    behind : (l : c.Level) (k : Level Output) → Like static l k → (env : Env) (n : ℕ) → Next l k env n → (base : ℕ)
+    behind : (l : c.Level) (k : Level Output) → Like numbering l k → (env : Env) (n : ℕ) → Next l k env n → (base : ℕ)
         (d : State)
         → onward (s.run k env (base + ((core.test_needs (option_map (value {O = Output}) e)).room k.measures +
         x.needs.room k.measures)) (as_done d))
@@ -418,7 +423,7 @@ module _ (static : ℕ → ℕ) where
         (j.run l env (base + (t.item.room l + i.room l)) d)) (runs.arrive past_continue
         (i.run l env (base + t.item.room l) d))
 
-    turn_same : (l : c.Level) (k : Level Output) → Like static l k → (env : Env) (n : ℕ) → Next l k env n →
+    turn_same : (l : c.Level) (k : Level Output) → Like numbering l k → (env : Env) (n : ℕ) → Next l k env n →
         (base : ℕ) (d : State)
         → a_turn k env n base (as_done d) ≡ Some (as_done (c_turn l env n base d))
     turn_same l k like env n next base d =
@@ -443,7 +448,7 @@ module _ (static : ℕ → ℕ) where
         (runs.arrive past_continue (i.run l env (base + t.item.room l) d))
         (behind l k like env n next base (runs.arrive past_continue (i.run l env (base + t.item.room l) d)))
 
-    turns_same : (l : c.Level) (k : Level Output) → Like static l k → (env : Env) (n : ℕ) → Next l k env n
+    turns_same : (l : c.Level) (k : Level Output) → Like numbering l k → (env : Env) (n : ℕ) → Next l k env n
     turns_same l k like env zero base d =
         tests.runs l k like env base (λ b. one_of b (core.left_at at) stay)
         (λ b. statements.one_of b (statements.left_at at) (λ d. d))
@@ -456,8 +461,8 @@ module _ (static : ℕ → ℕ) where
 
     -- `while`, and `for` behind its first part
     pub looped_acts : (step : Option Expr) → core.maybe_evaluated (option_map value step) ≡ s
-        → Acts static (core.looped at (option_map value e) (option_map value step) x) (statements.looped at t i j)
-    looped_acts step is = subst (λ (y : Item Output). Acts static (loop_of y) (statements.looped at t i j)) (sym is)
+        → Acts numbering (core.looped at (option_map value e) (option_map value step) x) (statements.looped at t i j)
+    looped_acts step is = subst (λ (y : Item Output). Acts numbering (loop_of y) (statements.looped at t i j)) (sym is)
         (acting_acts _ _ (statements.looped at t i j) (λ l env base d. runs.arrive past_break
         (statements.turns_from at t i j l env l.turns base d))
         (λ l k like. ap₂ (λ n z. 1 + (n + 1) * z) like.turns (ap₂ (λ a b. a + b) (tests.size l k like)
@@ -475,13 +480,13 @@ module _ (static : ℕ → ℕ) where
 
   -- ---- `do`
 
-  module _ (at : ℕ) (e : Expr) (n : Noted) (x : Item Output) (i : runs.Item) (tests : IsValueOf static e n.part)
-      (h : Acts static x i) where
-    round_room : (l : c.Level) (k : Level Output) → Like static l k → x.needs.room k.measures +
+  module _ (at : ℕ) (e : Expr) (n : Noted) (x : Item Output) (i : runs.Item) (tests : IsValueOf numbering e n.part)
+      (h : Acts numbering x i) where
+    round_room : (l : c.Level) (k : Level Output) → Like numbering l k → x.needs.room k.measures +
         (value {O = Output} e).needs.room k.measures ≡ i.room l + n.part.room l
     round_room l k like = ap₂ (λ a b. a + b) (h.room l k like) (tests.room l k like)
 
-    rounds_same : (l : c.Level) (k : Level Output) → Like static l k → (env : Env) (m base : ℕ) (d : State)
+    rounds_same : (l : c.Level) (k : Level Output) → Like numbering l k → (env : Env) (m base : ℕ) (d : State)
         → core.rounds_from at x (value e) k env m base (as_done d) ≡ Some
         (as_done (statements.rounds_from at i (statements.test_of at n) l env m base d))
     rounds_same l k like env zero base d = refl
@@ -508,7 +513,8 @@ module _ (static : ℕ → ℕ) where
         (rounds_same l k like env m (base + (i.room l + n.part.room l)) d) refl)
         (runs.arrive past_continue (i.run l env base d)))
 
-    pub repeated_acts : Acts static (core.repeated at x (value e)) (statements.repeated at i (statements.test_of at n))
+    pub repeated_acts : Acts numbering (core.repeated at x (value e))
+        (statements.repeated at i (statements.test_of at n))
     repeated_acts = acting_acts _ _ (statements.repeated at i (statements.test_of at n))
         (λ l env base d. runs.arrive past_break (statements.rounds_from at i (statements.test_of at n) l env l.turns
         base d))
@@ -520,9 +526,9 @@ module _ (static : ℕ → ℕ) where
         like.turns
         ∙ ap core.broken_out (rounds_same l k like env l.turns base d))
 
-  pub do_code : (at : ℕ) (e : Expr) (n : Noted) (x : Code) (i : runs.Item) → IsValueOf static e n.part → IsCodeOf
-      static x i
-      → IsCodeOf static (tree.Repeat at e x) (statements.left_scope
+  pub do_code : (at : ℕ) (e : Expr) (n : Noted) (x : Code) (i : runs.Item) → IsValueOf numbering e n.part → IsCodeOf
+      numbering x i
+      → IsCodeOf numbering (tree.Repeat at e x) (statements.left_scope
       (statements.repeated at i (statements.test_of at n)))
   do_code at e n x i tests h = let r = repeated_acts at e n (code x) i tests h in
       by_item _ _ _ (eq.does-Repeat at e x) (record {
@@ -534,9 +540,9 @@ module _ (static : ℕ → ℕ) where
       })
 
   -- `while`
-  pub while_code : (at : ℕ) (e : Expr) (n : Noted) (x : Code) (i : runs.Item) (s : Scope) → IsValueOf static e n.part
-      → IsCodeOf static x i
-      → IsCodeOf static (tree.Loop at (Some e) None x) (statements.left_scope
+  pub while_code : (at : ℕ) (e : Expr) (n : Noted) (x : Code) (i : runs.Item) (s : Scope) → IsValueOf numbering e n.part
+      → IsCodeOf numbering x i
+      → IsCodeOf numbering (tree.Loop at (Some e) None x) (statements.left_scope
       (statements.looped at (statements.test_of at n) i (runs.nothing s)))
   while_code at e n x i s tests h =
       let r = looped_acts at (Some e) (statements.test_of at n) (code x) i core.nothing (runs.nothing s)
@@ -550,8 +556,8 @@ module _ (static : ℕ → ℕ) where
 
   -- `for`, behind what it begins with
   pub for_code : (at : ℕ) (e : Option Expr) (t : statements.Test) (f : Expr) (n : Noted) (x : Code) (i : runs.Item)
-      (s : Scope) → Tests e t at → IsEffectOf static f n.part → IsCodeOf static x i
-      → IsCodeOf static (tree.Loop at e (Some f) x) (record (statements.looped at t i (statements.value_of n))
+      (s : Scope) → Tests e t at → IsEffectOf numbering f n.part → IsCodeOf numbering x i
+      → IsCodeOf numbering (tree.Loop at e (Some f) x) (record (statements.looped at t i (statements.value_of n))
       { after = s })
   for_code at e t f n x i s tests step h =
       let r = looped_acts at e t (code x) i (core.evaluated false (value f)) (statements.value_of n) tests h
@@ -567,7 +573,7 @@ module _ (static : ℕ → ℕ) where
   -- ---- automatic objects
 
   -- one without initializer
-  pub declare_code : (en : Entry) (n : ℕ) (s : Scope) → IsCodeOf static (tree.Declare en.at n false [])
+  pub declare_code : (en : Entry) (n : ℕ) (s : Scope) → IsCodeOf numbering (tree.Declare en.at n false [])
       (statements.automatic en n initials.uninitialised s)
   declare_code en n s = by_item _ _ _ (eq.does-Declare en.at n false []) (record {
     size = λ l k like. refl;

@@ -9,3 +9,4 @@ pub mod Choices
 pub mod Calls
 pub mod Rules
 pub mod Bodies
+pub mod Levels

@@ -39,7 +39,8 @@ numbers_same : (b : BinaryOperator) (r : Arithmetic) (j k : IntegerKind) (m n : 
 numbers_same b r j k m n e at v w d =
     ap (λ x. or_stop at x (as_done d)) (worked_same (working b j k) (working_word b j k) b r v w e)
     ∙ or_stop_same at (says.worked b (working b j k) v w) d
-    ∙ ap as_found (sym (on_integers (λ at. at) b r e at j k m n v w d))
+    ∙ ap as_found (sym (on_integers (record { place = λ at. at; body = λ g. None; rule = λ g. None }) b r e at j k m
+    n v w d))
 
 -- two pointers of one object
 ordered_same : (order : ℕ → ℕ → Bool) (x y : ℕ) (at : ℕ) (d : State) → cond (in_one_object d.store x y)

@@ -32,6 +32,7 @@ use Rattle.core_tree.specs.Numbers as numbers
 use Rattle.core_tree.specs.Memory as memory
 use Rattle.core_tree.specs.Values.{value}
 use Rattle.core_tree.proofs.Equations as eq
+use Rattle.elaborate.specs.Means.{Numbering}
 use Rattle.elaborate.specs.Means.{as_done, as_found, as_value, IsValueOf, IsAddressOf}
 use Rattle.elaborate.specs.Types.{arithmetic}
 use Rattle.elaborate.proofs.States.{test_same}
@@ -137,19 +138,19 @@ module _ (t u : Option CType) (tables tables' : Tables) (v w : ℤ) (at : ℕ) (
     not_equal_same = ap (λ b. as_found (cond b (c_operators.arithmetic at o.NotEqual left right d)
         (Ok (number_of (not (nat_eq (address v) (address w))), d)))) (sym mixed)
 
-module _ (static : ℕ → ℕ) where
+module _ (numbering : Numbering) where
   -- a binary operator, by an operator of the core that does what it does
   pub operate_value : (b : BinaryOperator) (a : Arithmetic) → arithmetic b ≡ Some a → (at : ℕ) (operator : Operator)
       (is_constant : Bool) (e f : Expr) (p q : Part)
-      → IsValueOf static e p → IsValueOf static f q
+      → IsValueOf numbering e p → IsValueOf numbering f q
       → ((v w : ℤ) (d : State) → memory.operated at operator v w (as_done d) ≡ as_found
       (c_operators.operated_on at b p.typed q.typed v w d))
-      → IsValueOf static (expr.Operate at operator is_constant e f) (forms.binary at b p q)
+      → IsValueOf numbering (expr.Operate at operator is_constant e f) (forms.binary at b p q)
   operate_value b a is at operator is_constant e f p q h i same = subst
-      (λ (r : Part). IsValueOf static (expr.Operate at operator is_constant e f) r)
-      (sym (evaluates_both static b a is at p q))
-      (by_worth static _ _ _ _ _ (eq.worth-Operate at operator is_constant e f)
-      (pair_does static (value e) (value f) p q (memory.operated at operator)
+      (λ (r : Part). IsValueOf numbering (expr.Operate at operator is_constant e f) r)
+      (sym (evaluates_both numbering b a is at p q))
+      (by_worth numbering _ _ _ _ _ (eq.worth-Operate at operator is_constant e f)
+      (pair_does numbering (value e) (value f) p q (memory.operated at operator)
       (λ v w d. c_operators.operated_on at b p.typed q.typed v w d) h i same))
 
   grouped : {A B C : Type 0} (o : c.Outcome A) (f : A × State → c.Outcome B) (g : B × State → c.Outcome C) → c.◌>>=◌
@@ -164,20 +165,20 @@ module _ (static : ℕ → ℕ) where
 
   -- ---- subscripts (C99 6.5.2.1p2): the address that the sum is
 
-  pub subscript_address : (at : ℕ) (operator : Operator) (e f : Expr) (p q : Part) → IsValueOf static e p → IsValueOf
-      static f q
+  pub subscript_address : (at : ℕ) (operator : Operator) (e f : Expr) (p q : Part) → IsValueOf numbering e p → IsValueOf
+      numbering f q
       → ((v w : ℤ) (d : State) → memory.operated at operator v w (as_done d) ≡ as_found
       (c_operators.operated_on at o.Add p.typed q.typed v w d))
-      → IsAddressOf static (expr.Convert v.Pointer (expr.Operate at operator false e f)) (forms.subscript at p q)
-  subscript_address at operator e f p q h i same = by_worth static _ _ _ _ _
+      → IsAddressOf numbering (expr.Convert v.Pointer (expr.Operate at operator false e f)) (forms.subscript at p q)
+  subscript_address at operator e f p q h i same = by_worth numbering _ _ _ _ _
       (eq.worth-Convert v.Pointer (expr.Operate at operator false e f))
-      (rerun static _ _ _ _ _
-      (between_does static (value (expr.Operate at operator false e f)) (λ l. suc (p.size l + q.size l))
+      (rerun numbering _ _ _ _ _
+      (between_does numbering (value (expr.Operate at operator false e f)) (λ l. suc (p.size l + q.size l))
       (λ l. p.room l + q.room l)
       (λ l env base d. c.◌>>=◌ (forms.both_run p q l env base d) (λ v. c_operators.operated_on at o.Add p.typed
       q.typed v.0.0 v.0.1 v.1)) _ (λ z d. Ok (pos (address z), d))
-      (by_worth static _ _ _ _ _ (eq.worth-Operate at operator false e f)
-      (pair_does static (value e) (value f) p q (memory.operated at operator)
+      (by_worth numbering _ _ _ _ _ (eq.worth-Operate at operator false e f)
+      (pair_does numbering (value e) (value f) p q (memory.operated at operator)
       (λ v w d. c_operators.operated_on at o.Add p.typed q.typed v w d) h i same)) (λ z d. refl))
       (λ l env base d. grouped (forms.both_run p q l env base d) (λ v. c_operators.operated_on at o.Add p.typed
       q.typed v.0.0 v.0.1 v.1) (λ z. Ok (pos (address z.0), z.1))
@@ -189,24 +190,26 @@ module _ (static : ℕ → ℕ) where
 
   -- ---- members (C99 6.5.2.3)
 
-  pub member_address : (offset : ℕ) (x : Typed) (e : Expr) (p : Part) → IsAddressOf static e p → IsAddressOf static
+  pub member_address : (offset : ℕ) (x : Typed) (e : Expr) (p : Part) → IsAddressOf numbering e p → IsAddressOf
+      numbering
       (expr.Offset offset e) (forms.member_of_lvalue offset x p)
-  member_address offset x e p h = by_worth static _ _ _ _ _ (eq.worth-Offset offset e) (rerun static _ _ _ _ _
-      (node_does static (value e) p.size p.room (λ l env base d. as_value (p.reach l env base d)) _
+  member_address offset x e p h = by_worth numbering _ _ _ _ _ (eq.worth-Offset offset e) (rerun numbering _ _ _ _ _
+      (node_does numbering (value e) p.size p.room (λ l env base d. as_value (p.reach l env base d)) _
       (λ z d. Ok (pos (forms.behind offset (unsigned_abs z)), d)) h (λ z d. refl))
       (λ l env base d. addressed (p.reach l env base d) (λ z d. Ok (pos (forms.behind offset (unsigned_abs z)), d))
       ∙ sym (as_value_then (p.reach l env base d) (λ a. Ok (forms.behind offset a.0, a.1)))))
 
-  pub arrow_address : (at : ℕ) (name : Name) (e : Expr) (p : Part) → IsValueOf static e p
-      → IsAddressOf static (expr.Offset (forms.offset_of p.typed.after.tables (target_in (value_type p.typed)) name)
+  pub arrow_address : (at : ℕ) (name : Name) (e : Expr) (p : Part) → IsValueOf numbering e p
+      → IsAddressOf numbering (expr.Offset (forms.offset_of p.typed.after.tables (target_in (value_type p.typed)) name)
       (expr.Convert v.Pointer e)) (forms.arrow at name p)
   arrow_address at name e p h =
       let offset = forms.offset_of p.typed.after.tables (target_in (value_type p.typed)) name in
-      by_worth static _ _ _ _ _ (eq.worth-Offset offset (expr.Convert v.Pointer e)) (rerun static _ _ _ _ _
-      (node_does static (value (expr.Convert v.Pointer e)) p.size p.room
+      by_worth numbering _ _ _ _ _ (eq.worth-Offset offset (expr.Convert v.Pointer e)) (rerun numbering _ _ _ _ _
+      (node_does numbering (value (expr.Convert v.Pointer e)) p.size p.room
       (λ l env base d. c.◌>>=◌ (p.run l env base d) (λ z. Ok (pos (address z.0), z.1))) _
       (λ z d. Ok (pos (forms.behind offset (unsigned_abs z)), d))
-      (by_worth static _ _ _ _ _ (eq.worth-Convert v.Pointer e) (between_does static (value e) p.size p.room p.run _
+      (by_worth numbering _ _ _ _ _ (eq.worth-Convert v.Pointer e)
+      (between_does numbering (value e) p.size p.room p.run _
       (λ z d. Ok (pos (address z), d)) h (λ z d. refl)))
       (λ z d. refl))
       (λ l env base d. grouped (p.run l env base d) (λ z. Ok (pos (address z.0), z.1))
@@ -214,10 +217,10 @@ module _ (static : ℕ → ℕ) where
       ∙ sym (as_value_then (p.run l env base d) (λ z. Ok (forms.behind offset (address z.0), z.1)))))
 
   -- a member of a value, by the type of the core that it has
-  pub member_value : (offset : ℕ) (t : ValueType) (x : Typed) (e : Expr) (p : Part) → IsValueOf static e p
+  pub member_value : (offset : ℕ) (t : ValueType) (x : Typed) (e : Expr) (p : Part) → IsValueOf numbering e p
       → ((z : ℤ) → numbers.value_of_bytes t (values.bytes_within offset (numbers.size_of t) (unsigned_abs z)) ≡
       forms.part_of_value offset x z)
-      → IsValueOf static (expr.Extract offset t e) (forms.member_of_value offset x p)
-  member_value offset t x e p h same = by_worth static _ _ _ _ _ (eq.worth-Extract offset t e)
-      (node_does static (value e) p.size p.room p.run _ (λ z d. Ok (forms.part_of_value offset x z, d)) h
+      → IsValueOf numbering (expr.Extract offset t e) (forms.member_of_value offset x p)
+  member_value offset t x e p h same = by_worth numbering _ _ _ _ _ (eq.worth-Extract offset t e)
+      (node_does numbering (value e) p.size p.room p.run _ (λ z d. Ok (forms.part_of_value offset x z, d)) h
       (λ z d. ap (λ z. as_found (Ok (z, d))) (same z)))

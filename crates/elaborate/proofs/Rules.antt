@@ -54,6 +54,7 @@ use Rattle.core_tree.specs.declared.types.ValueType.{ValueType}
 use Rattle.core_tree.specs.Numbers as numbers
 use Rattle.core_tree.specs.States.{Output, printing, plain, Done, Level, meets}
 use Rattle.core_tree.specs.Callees as core
+use Rattle.elaborate.specs.Means.{Numbering}
 use Rattle.elaborate.specs.Means.{as_done, Like}
 use Rattle.c_runs.specs.declared.profile.FillAnswer.{FillAnswer}
 use Rattle.c_runs.specs.declared.profile.FillAnswer.TheVariants as answer
@@ -80,8 +81,8 @@ test_done false x y x' y' h i = i
 abbrev pub told_by : c.Level → Level Output → Level Output
 told_by l k = record { measures = k.measures; taking = plain; world = l.world; limits = l.limits; call = k.call }
 
-pub is_told : (static : ℕ → ℕ) (l : c.Level) (k : Level Output) → Like static l k → k ≡ told_by l k
-is_told static l k like =
+pub is_told : (numbering : Numbering) (l : c.Level) (k : Level Output) → Like numbering l k → k ≡ told_by l k
+is_told numbering l k like =
     ap (λ t. record k { taking = t }) like.taking ∙ ap (λ w. record k { taking = plain; world = w }) like.world
     ∙ ap (λ b. record k { taking = plain; world = l.world; limits = b }) like.limits
 

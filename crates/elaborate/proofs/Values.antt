@@ -44,6 +44,7 @@ use Rattle.core_tree.specs.States.{Output, Done, Outcome, Level, ◌>>=◌, foun
 use Rattle.core_tree.specs.Values.{Value, value, on_value, over_one, over_both}
 use Rattle.core_tree.specs.Values as core
 use Rattle.core_tree.proofs.Equations as eq
+use Rattle.elaborate.specs.Means.{Numbering}
 use Rattle.elaborate.specs.Means.{as_done, as_found, as_value, Like, Does, IsValueOf, IsAddressOf, IsEffectOf}
 use Rattle.elaborate.specs.Types.{word_type, arithmetic, working}
 use Rattle.elaborate.specs.Means.{OfType}
@@ -67,15 +68,15 @@ pub as_value_then : {A : Type 0} (o : c.Outcome A) (f : A × State → c.Outcome
 as_value_then (Ok x) f = refl
 as_value_then (Err d) f = refl
 
-module _ (static : ℕ → ℕ) where
+module _ (numbering : Numbering) where
   -- what is said of a tree by what it is worth
   pub by_worth : (e : Expr) (x : Value Output) (nodes places : c.Level → ℕ) (run : c.Level → c.Run ℤ) → value e ≡ x →
-      Does static x nodes places run → Does static (value e) nodes places run
+      Does numbering x nodes places run → Does numbering (value e) nodes places run
   by_worth e x nodes places run f h = rw f h
 
   -- the same told otherwise
-  pub rerun : (x : Value Output) (n r : c.Level → ℕ) (run run' : c.Level → c.Run ℤ) → Does static x n r run
-      → ((l : c.Level) (env : Env) (base : ℕ) (d : State) → run l env base d ≡ run' l env base d) → Does static x n r
+  pub rerun : (x : Value Output) (n r : c.Level → ℕ) (run run' : c.Level → c.Run ℤ) → Does numbering x n r run
+      → ((l : c.Level) (env : Env) (base : ℕ) (d : State) → run l env base d ≡ run' l env base d) → Does numbering x n r
       run'
   rerun x n r run run' h same = record {
     size = h.size;
@@ -85,14 +86,14 @@ module _ (static : ℕ → ℕ) where
 
   -- ---- forms without parts
 
-  pub constant_value : (z : ℤ) (x : Typed) → IsValueOf static (expr.Constant z) (forms.constant x z)
+  pub constant_value : (z : ℤ) (x : Typed) → IsValueOf numbering (expr.Constant z) (forms.constant x z)
   constant_value z x = by_worth _ _ _ _ _ (eq.worth-Constant z) (record {
     size = λ l k h. refl;
     room = λ l k h. refl;
     runs = λ l k h env base d. refl;
   })
 
-  pub local_address : (at : ℕ) (x : Typed) → IsAddressOf static (expr.Local at)
+  pub local_address : (at : ℕ) (x : Typed) → IsAddressOf numbering (expr.Local at)
       (forms.object_of x duration.Automatic at)
   local_address at x = by_worth _ _ _ _ _ (eq.worth-Local at) (record {
     size = λ l k h. refl;
@@ -101,17 +102,18 @@ module _ (static : ℕ → ℕ) where
   })
 
   -- an object that lives throughout the run
-  pub fixed_address : (at : ℕ) (x : Typed) → IsAddressOf static (expr.Fixed (static at))
+  pub fixed_address : (at : ℕ) (x : Typed) → IsAddressOf numbering (expr.Fixed (numbering.place at))
       (forms.object_of x duration.Static at)
-  fixed_address at x = by_worth _ _ _ _ _ (eq.worth-Fixed (static at)) (record {
+  fixed_address at x = by_worth _ _ _ _ _ (eq.worth-Fixed (numbering.place at)) (record {
     size = λ l k h. refl;
     room = λ l k h. refl;
     runs = λ l k h env base d. ap (λ (f : ℕ → ℕ). as_found (Ok (pos (start (f at)), d))) (sym h.static_places);
   })
 
   -- a literal, or `__func__`
-  pub literal_address : (at : ℕ) (x : Typed) → IsAddressOf static (expr.Fixed (static at)) (forms.made_for at x)
-  literal_address at x = by_worth _ _ _ _ _ (eq.worth-Fixed (static at)) (record {
+  pub literal_address : (at : ℕ) (x : Typed) → IsAddressOf numbering (expr.Fixed (numbering.place at))
+      (forms.made_for at x)
+  literal_address at x = by_worth _ _ _ _ _ (eq.worth-Fixed (numbering.place at)) (record {
     size = λ l k h. refl;
     room = λ l k h. refl;
     runs = λ l k h env base d. ap (λ (f : ℕ → ℕ). as_found (Ok (pos (start (f at)), d))) (sym h.static_places);
@@ -122,8 +124,8 @@ module _ (static : ℕ → ℕ) where
   -- a node over one part
   pub node_does : (x : Value Output) (nodes places : c.Level → ℕ) (run : c.Level → c.Run ℤ)
       (f : ℤ → Done Output → Outcome Output ℤ) (g : ℤ → State → c.Outcome ℤ)
-      → Does static x nodes places run → ((z : ℤ) (d : State) → f z (as_done d) ≡ as_found (g z d))
-      → Does static (on_value (over_one x.needs) f x) (λ l. suc (nodes l)) places
+      → Does numbering x nodes places run → ((z : ℤ) (d : State) → f z (as_done d) ≡ as_found (g z d))
+      → Does numbering (on_value (over_one x.needs) f x) (λ l. suc (nodes l)) places
       (λ l env base d. c.◌>>=◌ (run l env base d) (λ v. g v.0 v.1))
   node_does x nodes places run f g h i = record {
     size = λ l k like. ap suc (h.size l k like);
@@ -135,8 +137,8 @@ module _ (static : ℕ → ℕ) where
   -- a conversion, which is no node
   pub between_does : (x : Value Output) (nodes places : c.Level → ℕ) (run : c.Level → c.Run ℤ)
       (f : ℤ → Done Output → Outcome Output ℤ) (g : ℤ → State → c.Outcome ℤ)
-      → Does static x nodes places run → ((z : ℤ) (d : State) → f z (as_done d) ≡ as_found (g z d))
-      → Does static (on_value x.needs f x) nodes places (λ l env base d. c.◌>>=◌ (run l env base d) (λ v. g v.0 v.1))
+      → Does numbering x nodes places run → ((z : ℤ) (d : State) → f z (as_done d) ≡ as_found (g z d))
+      → Does numbering (on_value x.needs f x) nodes places (λ l env base d. c.◌>>=◌ (run l env base d) (λ v. g v.0 v.1))
   between_does x nodes places run f g h i = record {
     size = h.size;
     room = h.room;
@@ -145,14 +147,14 @@ module _ (static : ℕ → ℕ) where
   }
 
   -- `!`
-  pub not_value : (e : Expr) (at : ℕ) (p : Part) → IsValueOf static e p → IsValueOf static (expr.Not e)
+  pub not_value : (e : Expr) (at : ℕ) (p : Part) → IsValueOf numbering e p → IsValueOf numbering (expr.Not e)
       (forms.unary at u.Not p)
   not_value e at p h = by_worth _ _ _ _ _ (eq.worth-Not e)
       (node_does (value e) p.size p.room p.run _ (λ z d. c_operators.negated
       (c_operators.operand p.typed.after.tables p.typed z) d) h (λ z d. refl))
 
   -- `+`, `-` and `~`, in the promoted type
-  module _ (e : Expr) (at : ℕ) (is_constant : Bool) (kind : IntegerKind) (p : Part) (h : IsValueOf static e p)
+  module _ (e : Expr) (at : ℕ) (is_constant : Bool) (kind : IntegerKind) (p : Part) (h : IsValueOf numbering e p)
       (typed : kind_in (value_type p.typed) ≡ Some kind) where
     turned_by : (op : UnaryOperator) (t : Turning) (z : ℤ) (d : State) → numbers.turned t (word_type (promoted kind))
         z ≡ says.turned op (promoted kind) z
@@ -162,21 +164,21 @@ module _ (static : ℕ → ℕ) where
         ap (λ a. or_stop at a (as_done d)) same ∙ or_stop_same at (says.turned op (promoted kind) z) d
         ∙ ap (λ k. as_found (c_operators.turned_of at op k z d)) (sym typed)
 
-    pub minus_value : IsValueOf static (expr.Turn at turn.Minus (word_type (promoted kind)) is_constant e)
+    pub minus_value : IsValueOf numbering (expr.Turn at turn.Minus (word_type (promoted kind)) is_constant e)
         (forms.unary at u.Minus p)
     minus_value = by_worth _ _ _ _ _ (eq.worth-Turn at turn.Minus (word_type (promoted kind)) is_constant e)
         (node_does (value e) p.size p.room p.run _ (λ z d. c_operators.turned_value at u.Minus
         (c_operators.operand p.typed.after.tables p.typed z) d) h
         (λ z d. turned_by u.Minus turn.Minus z d (minus_same (promoted kind) (promoted_word kind) z)))
 
-    pub plus_value : IsValueOf static (expr.Turn at turn.Plus (word_type (promoted kind)) is_constant e)
+    pub plus_value : IsValueOf numbering (expr.Turn at turn.Plus (word_type (promoted kind)) is_constant e)
         (forms.unary at u.Plus p)
     plus_value = by_worth _ _ _ _ _ (eq.worth-Turn at turn.Plus (word_type (promoted kind)) is_constant e)
         (node_does (value e) p.size p.room p.run _ (λ z d. c_operators.turned_value at u.Plus
         (c_operators.operand p.typed.after.tables p.typed z) d) h
         (λ z d. turned_by u.Plus turn.Plus z d (plus_same (promoted kind) (promoted_word kind) z)))
 
-    pub complement_value : IsValueOf static (expr.Turn at turn.Complement (word_type (promoted kind)) is_constant e)
+    pub complement_value : IsValueOf numbering (expr.Turn at turn.Complement (word_type (promoted kind)) is_constant e)
         (forms.unary at u.Complement p)
     complement_value = by_worth _ _ _ _ _ (eq.worth-Turn at turn.Complement (word_type (promoted kind)) is_constant e)
         (node_does (value e) p.size p.room p.run _ (λ z d. c_operators.turned_value at u.Complement
@@ -186,7 +188,7 @@ module _ (static : ℕ → ℕ) where
   -- ---- addresses
 
   -- `&`: the address as a value
-  pub pointer_value : (e : Expr) (at : ℕ) (p : Part) → IsAddressOf static e p → IsValueOf static (expr.Pointer e)
+  pub pointer_value : (e : Expr) (at : ℕ) (p : Part) → IsAddressOf numbering e p → IsValueOf numbering (expr.Pointer e)
       (forms.unary at u.Address p)
   pointer_value e at p h = by_worth _ _ _ _ _ (eq.worth-Pointer e) (rerun _ _ _ _ _
       (node_does (value e) p.size p.room (λ l env base d. as_value (p.reach l env base d)) _ (λ z d. Ok (z, d)) h
@@ -194,7 +196,7 @@ module _ (static : ℕ → ℕ) where
       (λ l env base d. addressed (p.reach l env base d) (λ z d. Ok (z, d))))
 
   -- `*`: the pointer's value as an address
-  pub target_address : (e : Expr) (at : ℕ) (p : Part) → IsValueOf static e p → IsAddressOf static (expr.Target e)
+  pub target_address : (e : Expr) (at : ℕ) (p : Part) → IsValueOf numbering e p → IsAddressOf numbering (expr.Target e)
       (forms.unary at u.Indirection p)
   target_address e at p h = by_worth _ _ _ _ _ (eq.worth-Target e) (rerun _ _ _ _ _
       (node_does (value e) p.size p.room p.run _ (λ z d. Ok (pos (address z), d)) h (λ z d. refl))
@@ -205,9 +207,9 @@ module _ (static : ℕ → ℕ) where
   -- the second part, behind the first
   two_does : (x y : Value Output) (n m : c.Level → ℕ) (r s : c.Level → ℕ) (run run' : c.Level → c.Run ℤ)
       (f : ℤ → ℤ → Done Output → Outcome Output ℤ) (g : ℤ → ℤ → State → c.Outcome ℤ)
-      → Does static x n r run → Does static y m s run' → ((v w : ℤ) (d : State) → f v w (as_done d) ≡ as_found
+      → Does numbering x n r run → Does numbering y m s run' → ((v w : ℤ) (d : State) → f v w (as_done d) ≡ as_found
       (g v w d))
-      → Does static (record {
+      → Does numbering (record {
         needs = over_both x.needs y.needs;
         run = λ k env base d. x.run k env base d >>= (λ v. y.run k env (base + x.needs.room k.measures) v.1 >>=
             (λ w. f v.0 w.0 w.1));
@@ -239,9 +241,9 @@ module _ (static : ℕ → ℕ) where
   -- what two evaluated operands are worth
   pub pair_does : (x y : Value Output) (p q : Part) (f : ℤ → ℤ → Done Output → Outcome Output ℤ)
       (g : ℤ → ℤ → State → c.Outcome ℤ)
-      → Does static x p.size p.room p.run → Does static y q.size q.room q.run →
+      → Does numbering x p.size p.room p.run → Does numbering y q.size q.room q.run →
       ((v w : ℤ) (d : State) → f v w (as_done d) ≡ as_found (g v w d))
-      → Does static (record {
+      → Does numbering (record {
         needs = over_both x.needs y.needs;
         run = λ k env base d. x.run k env base d >>= (λ v. y.run k env (base + x.needs.room k.measures) v.1 >>=
             (λ w. f v.0 w.0 w.1));
@@ -322,12 +324,12 @@ module _ (static : ℕ → ℕ) where
 
   pub binary_value : (b : BinaryOperator) (a : Arithmetic) → arithmetic b ≡ Some a → (at : ℕ) (is_constant : Bool)
       (j k : IntegerKind) (e f : Expr) (p q : Part)
-      → IsValueOf static e p → IsValueOf static f q → kind_in (value_type p.typed) ≡ Some j → kind_in
+      → IsValueOf numbering e p → IsValueOf numbering f q → kind_in (value_type p.typed) ≡ Some j → kind_in
       (value_type q.typed) ≡ Some k
-      → IsValueOf static (expr.Operate at (op.Numbers a (word_type (working b j k))) is_constant e f)
+      → IsValueOf numbering (expr.Operate at (op.Numbers a (word_type (working b j k))) is_constant e f)
       (forms.binary at b p q)
   binary_value b a is at is_constant j k e f p q h i tp tq = subst
-      (λ (r : Part). IsValueOf static (expr.Operate at (op.Numbers a (word_type (working b j k))) is_constant e f) r)
+      (λ (r : Part). IsValueOf numbering (expr.Operate at (op.Numbers a (word_type (working b j k))) is_constant e f) r)
       (sym (evaluates_both b a is at p q))
       (by_worth _ _ _ _ _ (eq.worth-Operate at (op.Numbers a (word_type (working b j k))) is_constant e f)
       (pair_does (value e) (value f) p q (memory.operated at (op.Numbers a (word_type (working b j k))))
@@ -339,8 +341,8 @@ module _ (static : ℕ → ℕ) where
 
   pub loaded_value : (e : Expr) (x : Typed) (rooted : Bool) (needs : forms.Needs) (reach : c.Level → c.Run ℕ)
       (t : ValueType)
-      → OfType x.after.tables x t → IsAddressOf static e (forms.placed x rooted needs reach)
-      → IsValueOf static (expr.Load (record { at = x.at; stored = t; is_tested = not rooted }) e)
+      → OfType x.after.tables x t → IsAddressOf numbering e (forms.placed x rooted needs reach)
+      → IsValueOf numbering (expr.Load (record { at = x.at; stored = t; is_tested = not rooted }) e)
       (forms.placed x rooted needs reach)
   loaded_value e x rooted needs reach t typed h = by_worth _ _ _ _ _
       (eq.worth-Load (record { at = x.at; stored = t; is_tested = not rooted }) e)
@@ -353,16 +355,17 @@ module _ (static : ℕ → ℕ) where
   -- ---- forms of which the second part runs where a branch says so
 
   -- the second part, behind the first
-  behind_same : (x y : Value Output) (r : c.Level → ℕ) (m s : c.Level → ℕ) (run' : c.Level → c.Run ℤ) → Does static y
+  behind_same : (x y : Value Output) (r : c.Level → ℕ) (m s : c.Level → ℕ) (run' : c.Level → c.Run ℤ) → Does numbering y
       m s run'
-      → (l : c.Level) (k : Level Output) → Like static l k → x.needs.room k.measures ≡ r l → (env : Env) (base : ℕ)
+      → (l : c.Level) (k : Level Output) → Like numbering l k → x.needs.room k.measures ≡ r l → (env : Env) (base : ℕ)
       (d : State)
       → y.run k env (base + x.needs.room k.measures) (as_done d) ≡ as_found (run' l env (base + r l) d)
   behind_same x y r m s run' h l k like e env base d = ap (λ b. y.run k env (base + b) (as_done d)) e ∙ h.runs l k
       like env (base + r l) d
 
-  truth_same : (x y : Value Output) (p q : Part) → Does static x p.size p.room p.run → Does static y q.size q.room q.run
-      → (l : c.Level) (k : Level Output) → Like static l k → (env : Env) (base : ℕ) (d : State)
+  truth_same : (x y : Value Output) (p q : Part) → Does numbering x p.size p.room p.run → Does numbering y q.size
+      q.room q.run
+      → (l : c.Level) (k : Level Output) → Like numbering l k → (env : Env) (base : ℕ) (d : State)
       → core.truth_of y k env (base + x.needs.room k.measures) (as_done d) ≡ as_found
       (forms.truth_of q l env (base + p.room l) d)
   truth_same x y p q h i l k like env base d =
@@ -371,9 +374,10 @@ module _ (static : ℕ → ℕ) where
       ∙ then_same (q.run l env (base + p.room l) d) (λ w. Ok (number_of (not (is_zero w.0)), w.1))
       (λ w. found (number_of (not (is_zero w.0))) w.1) (λ w d. refl)
 
-  both_does : (at : ℕ) (x y : Value Output) (p q : Part) → Does static x p.size p.room p.run → Does static y q.size
+  both_does : (at : ℕ) (x y : Value Output) (p q : Part) → Does numbering x p.size p.room p.run → Does numbering y
+      q.size
       q.room q.run
-      → Does static (core.both at x y) (λ l. suc (p.size l + q.size l)) (λ l. p.room l + q.room l)
+      → Does numbering (core.both at x y) (λ l. suc (p.size l + q.size l)) (λ l. p.room l + q.room l)
       (forms.binary at o.LogicalAnd p q).run
   both_does at x y p q h i = record {
     size = λ l k like. ap₂ (λ a b. suc (a + b)) (h.size l k like) (i.size l k like);
@@ -387,19 +391,21 @@ module _ (static : ℕ → ℕ) where
         (core.and_then y k env (base + x.needs.room k.measures)) d like.taking
         (sides l k like env base));
   } where
-    sides : (l : c.Level) (k : Level Output) → Like static l k → (env : Env) (base : ℕ) (b : Bool) (d : State)
+    sides : (l : c.Level) (k : Level Output) → Like numbering l k → (env : Env) (base : ℕ) (b : Bool) (d : State)
         → core.and_then y k env (base + x.needs.room k.measures) b (as_done d) ≡ as_found
         (forms.and_then q l env (base + p.room l) b d)
     sides l k like env base true d = truth_same x y p q h i l k like env base d
     sides l k like env base false d = refl
 
-  pub and_value : (at : ℕ) (e f : Expr) (p q : Part) → IsValueOf static e p → IsValueOf static f q → IsValueOf static
+  pub and_value : (at : ℕ) (e f : Expr) (p q : Part) → IsValueOf numbering e p → IsValueOf numbering f q → IsValueOf
+      numbering
       (expr.And at e f) (forms.binary at o.LogicalAnd p q)
   and_value at e f p q h i = by_worth _ _ _ _ _ (eq.worth-And at e f) (both_does at (value e) (value f) p q h i)
 
-  either_does : (at : ℕ) (x y : Value Output) (p q : Part) → Does static x p.size p.room p.run → Does static y q.size
+  either_does : (at : ℕ) (x y : Value Output) (p q : Part) → Does numbering x p.size p.room p.run → Does numbering y
+      q.size
       q.room q.run
-      → Does static (core.either at x y) (λ l. suc (p.size l + q.size l)) (λ l. p.room l + q.room l)
+      → Does numbering (core.either at x y) (λ l. suc (p.size l + q.size l)) (λ l. p.room l + q.room l)
       (forms.binary at o.LogicalOr p q).run
   either_does at x y p q h i = record {
     size = λ l k like. ap₂ (λ a b. suc (a + b)) (h.size l k like) (i.size l k like);
@@ -413,32 +419,33 @@ module _ (static : ℕ → ℕ) where
         (core.or_else y k env (base + x.needs.room k.measures)) d like.taking
         (sides l k like env base));
   } where
-    sides : (l : c.Level) (k : Level Output) → Like static l k → (env : Env) (base : ℕ) (b : Bool) (d : State)
+    sides : (l : c.Level) (k : Level Output) → Like numbering l k → (env : Env) (base : ℕ) (b : Bool) (d : State)
         → core.or_else y k env (base + x.needs.room k.measures) b (as_done d) ≡ as_found
         (forms.or_else q l env (base + p.room l) b d)
     sides l k like env base true d = refl
     sides l k like env base false d = truth_same x y p q h i l k like env base d
 
-  pub or_value : (at : ℕ) (e f : Expr) (p q : Part) → IsValueOf static e p → IsValueOf static f q → IsValueOf static
+  pub or_value : (at : ℕ) (e f : Expr) (p q : Part) → IsValueOf numbering e p → IsValueOf numbering f q → IsValueOf
+      numbering
       (expr.Or at e f) (forms.binary at o.LogicalOr p q)
   or_value at e f p q h i = by_worth _ _ _ _ _ (eq.worth-Or at e f) (either_does at (value e) (value f) p q h i)
 
   -- ---- `?:`: both sides are converted to the type of both
 
   converts : (t : ValueType) (class' : Class) → ((z : ℤ) → numbers.converted_to t z ≡ values.converted_to class' z) →
-      (e : Expr) (p : Part) → IsValueOf static e p
-      → Does static (value (expr.Convert t e)) p.size p.room (λ l env base d. c.◌>>=◌ (p.run l env base d)
+      (e : Expr) (p : Part) → IsValueOf numbering e p
+      → Does numbering (value (expr.Convert t e)) p.size p.room (λ l env base d. c.◌>>=◌ (p.run l env base d)
       (λ v. Ok (values.converted_to class' v.0, v.1)))
   converts t class' same e p h = by_worth _ _ _ _ _ (eq.worth-Convert t e)
       (between_does (value e) p.size p.room p.run _ (λ z d. Ok (values.converted_to class' z, d)) h
       (λ z d. ap (λ z. as_found (Ok (z, d))) (same z)))
 
-  choose_does : (at : ℕ) (t : Typed) (w x y : Value Output) (r p q : Part) → Does static w r.size r.room r.run
-      → Does static x p.size p.room (λ l env base d. c.◌>>=◌ (p.run l env base d)
+  choose_does : (at : ℕ) (t : Typed) (w x y : Value Output) (r p q : Part) → Does numbering w r.size r.room r.run
+      → Does numbering x p.size p.room (λ l env base d. c.◌>>=◌ (p.run l env base d)
       (λ v. Ok (values.converted_to (class_in (type_of t)) v.0, v.1)))
-      → Does static y q.size q.room (λ l env base d. c.◌>>=◌ (q.run l env base d)
+      → Does numbering y q.size q.room (λ l env base d. c.◌>>=◌ (q.run l env base d)
       (λ v. Ok (values.converted_to (class_in (type_of t)) v.0, v.1)))
-      → Does static (core.choose at w x y) (forms.choice_as at t r p q).size (forms.choice_as at t r p q).room
+      → Does numbering (core.choose at w x y) (forms.choice_as at t r p q).size (forms.choice_as at t r p q).room
       (forms.choice_as at t r p q).run
   choose_does at t w x y r p q g h i = record {
     size = λ l k like. ap₂ (λ a b. suc (a + b)) (g.size l k like)
@@ -454,7 +461,7 @@ module _ (static : ℕ → ℕ) where
         (core.one_run x y k env (base + w.needs.room k.measures)) d
         like.taking (sides l k like env base));
   } where
-    sides : (l : c.Level) (k : Level Output) → Like static l k → (env : Env) (base : ℕ) (b : Bool) (d : State)
+    sides : (l : c.Level) (k : Level Output) → Like numbering l k → (env : Env) (base : ℕ) (b : Bool) (d : State)
         → core.one_run x y k env (base + w.needs.room k.measures) b (as_done d) ≡ as_found
         (forms.chosen (class_in (type_of t)) p q l env (base + r.room l) b d)
     sides l k like env base true d = ap (λ b. x.run k env (base + b) (as_done d)) (g.room l k like) ∙ h.runs l k like
@@ -465,8 +472,8 @@ module _ (static : ℕ → ℕ) where
 
   pub choice_value : (at : ℕ) (t : ValueType) (e f g : Expr) (r p q : Part)
       → ((z : ℤ) → numbers.converted_to t z ≡ values.converted_to (class_in (type_of (forms.choice at r p q).typed)) z)
-      → IsValueOf static e r → IsValueOf static f p → IsValueOf static g q
-      → IsValueOf static (expr.Choose at e (expr.Convert t f) (expr.Convert t g)) (forms.choice at r p q)
+      → IsValueOf numbering e r → IsValueOf numbering f p → IsValueOf numbering g q
+      → IsValueOf numbering (expr.Choose at e (expr.Convert t f) (expr.Convert t g)) (forms.choice at r p q)
   choice_value at t e f g r p q same h i j = by_worth _ _ _ _ _ (eq.worth-Choose at e (expr.Convert t f)
       (expr.Convert t g))
       (choose_does at (forms.choice at r p q).typed (value e) (value (expr.Convert t f)) (value (expr.Convert t g)) r
@@ -476,8 +483,8 @@ module _ (static : ℕ → ℕ) where
 
   -- ---- the comma, and casts
 
-  pub comma_value : (at : ℕ) (e f : Expr) (p q : Part) → IsEffectOf static e p → IsValueOf static f q → IsValueOf
-      static (expr.Comma e f) (forms.comma at p q)
+  pub comma_value : (at : ℕ) (e f : Expr) (p q : Part) → IsEffectOf numbering e p → IsValueOf numbering f q → IsValueOf
+      numbering (expr.Comma e f) (forms.comma at p q)
   comma_value at e f p q h i = by_worth _ _ _ _ _ (eq.worth-Comma e f) (record {
     size = λ l k like. ap₂ (λ a b. suc (a + b)) (h.size l k like) (i.size l k like);
     room = λ l k like. ap₂ (λ a b. a + b) (h.room l k like) (i.room l k like);
@@ -492,7 +499,7 @@ module _ (static : ℕ → ℕ) where
   -- a cast to a type with values
   pub cast_value : (t : ValueType) (class' : Class) (x : Typed) (e : Expr) (p : Part) →
       ((z : ℤ) → numbers.converted_to t z ≡ values.converted_to class' z)
-      → Does static (value e) p.size p.room (forms.cast_operand class' p) → IsValueOf static (expr.Cast t e)
+      → Does numbering (value e) p.size p.room (forms.cast_operand class' p) → IsValueOf numbering (expr.Cast t e)
       (forms.cast_as class' x p)
   cast_value t class' x e p same h = by_worth _ _ _ _ _ (eq.worth-Cast t e)
       (node_does (value e) p.size p.room (forms.cast_operand class' p) _
@@ -508,8 +515,8 @@ module _ (static : ℕ → ℕ) where
   from_address (Err d) f g h = refl
 
   pub simple_value : (at : ℕ) (t : ValueType) (e f : Expr) (p q : Part) → OfType q.typed.after.tables p.typed t →
-      IsAddressOf static e p → IsValueOf static f q
-      → IsValueOf static (expr.Store at (record { at = p.typed.at; stored = t; is_tested = not p.rooted }) e f)
+      IsAddressOf numbering e p → IsValueOf numbering f q
+      → IsValueOf numbering (expr.Store at (record { at = p.typed.at; stored = t; is_tested = not p.rooted }) e f)
       (forms.assignment at None p q)
   simple_value at t e f p q typed h i = by_worth _ _ _ _ _ (eq.worth-Store at
       (record { at = p.typed.at; stored = t; is_tested = not p.rooted }) e f) (record {
@@ -531,11 +538,11 @@ module _ (static : ℕ → ℕ) where
 
   -- `op=`, by an operator of the core that does what the operator does
   pub compound_value : (at : ℕ) (b : BinaryOperator) (operator : Operator) (t : ValueType) (e f : Expr) (p q : Part)
-      → OfType p.typed.after.tables p.typed t → OfType q.typed.after.tables p.typed t → IsAddressOf static e p →
-      IsValueOf static f q
+      → OfType p.typed.after.tables p.typed t → OfType q.typed.after.tables p.typed t → IsAddressOf numbering e p →
+      IsValueOf numbering f q
       → ((v w : ℤ) (d : State) → memory.operated at operator v w (as_done d) ≡ as_found
       (c_operators.operated_on at b p.typed q.typed v w d))
-      → IsValueOf static (expr.Update at operator (record { at = p.typed.at; stored = t; is_tested = not p.rooted })
+      → IsValueOf numbering (expr.Update at operator (record { at = p.typed.at; stored = t; is_tested = not p.rooted })
       e f) (forms.assignment at (Some b) p q)
   compound_value at b operator t e f p q read written h i same = by_worth _ _ _ _ _
       (eq.worth-Update at operator (access_of p t) e f) (record {
@@ -569,11 +576,11 @@ module _ (static : ℕ → ℕ) where
   -- `++` and `--`, by an operator of the core that does what the operator does with 1; `f` tells which value it has
   stepped_value : (at : ℕ) (b : BinaryOperator) (operator : Operator) (answer : Answered) (t : ValueType) (e : Expr)
       (p : Part) (f : ℤ × ℤ → ℤ)
-      → OfType p.typed.after.tables p.typed t → IsAddressOf static e p →
+      → OfType p.typed.after.tables p.typed t → IsAddressOf numbering e p →
       ((v w : ℤ) → core.either_value answer v w ≡ f (v, w))
       → ((v : ℤ) (d : State) → memory.operated at operator v (pos 1) (as_done d) ≡ as_found
       (c_operators.operated at b (c_operators.operand p.typed.after.tables p.typed v) c_operators.one d))
-      → Does static (value (expr.Step at operator (access_of p t) answer e)) (λ l. suc (p.size l)) p.room
+      → Does numbering (value (expr.Step at operator (access_of p t) answer e)) (λ l. suc (p.size l)) p.room
       (λ l env base d. c.◌>>=◌ (forms.stepped at b p l env base d) (λ v. Ok (f v.0, v.1)))
   stepped_value at b operator answer t e p f typed h answers same = by_worth _ _ _ _ _
       (eq.worth-Step at operator (access_of p t) answer e) (record {
@@ -587,7 +594,8 @@ module _ (static : ℕ → ℕ) where
             ∙ from_address (p.reach l env base d)
             (λ a d. c.◌>>=◌ (objects.load p.typed p.rooted a d) (λ v. c.◌>>=◌
             (c_operators.operated at b (c_operators.operand p.typed.after.tables p.typed v.0) c_operators.one v.1)
-            (λ w. c.◌>>=◌ (objects.put at p.typed.after.tables p.typed p.rooted a w.0 w.1) (λ z. Ok (f (v.0, z.0), z.1)))))
+            (λ w. c.◌>>=◌ (objects.put at p.typed.after.tables p.typed p.rooted a w.0 w.1)
+            (λ z. Ok (f (v.0, z.0), z.1)))))
             (λ a d. memory.load (access_of p t) a d >>= (λ v. memory.operated at operator v.0 (pos 1) v.1
             >>= (λ w. memory.put at (access_of p t) a w.0 w.1 >>= (λ z. found (core.either_value answer v.0 z.0) z.1))))
             (λ a d. ap (λ o. o >>= (λ v. memory.operated at operator v.0 (pos 1) v.1
@@ -606,7 +614,8 @@ module _ (static : ℕ → ℕ) where
             ∙ ap as_found (sym (stepped_then (p.reach l env base d)));
       }) where
         -- one sequence, however it is grouped
-        last : (v : ℤ) (o : c.Outcome ℤ) → c.◌>>=◌ (c.◌>>=◌ o (λ z. Ok ((v, z.0), z.1))) (λ v. Ok (f v.0, v.1)) ≡ c.◌>>=◌
+        last : (v : ℤ) (o : c.Outcome ℤ) → c.◌>>=◌ (c.◌>>=◌ o (λ z. Ok ((v, z.0), z.1))) (λ v. Ok (f v.0, v.1)) ≡
+            c.◌>>=◌
             o (λ z. Ok (f (v, z.0), z.1))
         last v (Ok z) = refl
         last v (Err d) = refl
@@ -621,11 +630,13 @@ module _ (static : ℕ → ℕ) where
 
         second : (a : ℕ) (o : c.Outcome ℤ) → c.◌>>=◌ (c.◌>>=◌ o (λ v. c.◌>>=◌
             (c_operators.operated at b (c_operators.operand p.typed.after.tables p.typed v.0) c_operators.one v.1)
-            (λ w. c.◌>>=◌ (objects.put at p.typed.after.tables p.typed p.rooted a w.0 w.1) (λ z. Ok ((v.0, z.0), z.1)))))
+            (λ w. c.◌>>=◌ (objects.put at p.typed.after.tables p.typed p.rooted a w.0 w.1)
+            (λ z. Ok ((v.0, z.0), z.1)))))
             (λ v. Ok (f v.0, v.1))
             ≡ c.◌>>=◌ o (λ v. c.◌>>=◌ (c_operators.operated at b (c_operators.operand p.typed.after.tables p.typed v.0)
             c_operators.one v.1)
-            (λ w. c.◌>>=◌ (objects.put at p.typed.after.tables p.typed p.rooted a w.0 w.1) (λ z. Ok (f (v.0, z.0), z.1))))
+            (λ w. c.◌>>=◌ (objects.put at p.typed.after.tables p.typed p.rooted a w.0 w.1)
+            (λ z. Ok (f (v.0, z.0), z.1))))
         second a (Ok v) = third a v.0 (c_operators.operated at b (c_operators.operand p.typed.after.tables p.typed v.0)
             c_operators.one v.1)
         second a (Err d) = refl
@@ -645,19 +656,19 @@ module _ (static : ℕ → ℕ) where
 
   -- the value before
   pub postfix_value : (at : ℕ) (b : BinaryOperator) (operator : Operator) (t : ValueType) (e : Expr) (p : Part) →
-      OfType p.typed.after.tables p.typed t → IsAddressOf static e p
+      OfType p.typed.after.tables p.typed t → IsAddressOf numbering e p
       → ((v : ℤ) (d : State) → memory.operated at operator v (pos 1) (as_done d) ≡ as_found
       (c_operators.operated at b (c_operators.operand p.typed.after.tables p.typed v) c_operators.one d))
-      → IsValueOf static (expr.Step at operator (access_of p t) answered.Before e) (forms.postfix_by at b p)
+      → IsValueOf numbering (expr.Step at operator (access_of p t) answered.Before e) (forms.postfix_by at b p)
   postfix_value at b operator t e p typed h same = stepped_value at b operator answered.Before t e p (λ v. v.0) typed
       h (λ v w. refl) same
 
   -- the value that was stored
   pub prefix_value : (at : ℕ) (u : UnaryOperator) (b : BinaryOperator) (operator : Operator) (t : ValueType)
-      (e : Expr) (p : Part) → OfType p.typed.after.tables p.typed t → IsAddressOf static e p
+      (e : Expr) (p : Part) → OfType p.typed.after.tables p.typed t → IsAddressOf numbering e p
       → ((v : ℤ) (d : State) → memory.operated at operator v (pos 1) (as_done d) ≡ as_found
       (c_operators.operated at b (c_operators.operand p.typed.after.tables p.typed v) c_operators.one d))
-      → IsValueOf static (expr.Step at operator (access_of p t) answered.Stored e) (forms.prefix at u b p)
+      → IsValueOf numbering (expr.Step at operator (access_of p t) answered.Stored e) (forms.prefix at u b p)
   prefix_value at u b operator t e p typed h same = stepped_value at b operator answered.Stored t e p (λ v. v.1)
       typed h (λ v w. refl) same
 
@@ -672,7 +683,7 @@ module _ (static : ℕ → ℕ) where
   -- an array or function is its address
   pub array_value : (e : Expr) (x : Typed) (rooted : Bool) (needs : forms.Needs) (reach : c.Level → c.Run ℕ) →
       class_in (type_of x) ≡ class.Array
-      → IsAddressOf static e (forms.placed x rooted needs reach) → IsValueOf static e
+      → IsAddressOf numbering e (forms.placed x rooted needs reach) → IsValueOf numbering e
       (forms.placed x rooted needs reach)
   array_value e x rooted needs reach is h = rerun _ _ _ _ _ h (λ l env base d. its_address (reach l env base d)) where
     its_address : (o : c.Outcome ℕ) → as_value o ≡ c.◌>>=◌ o (λ a. objects.load x rooted a.0 a.1)
@@ -682,19 +693,20 @@ module _ (static : ℕ → ℕ) where
 
   pub function_value : (e : Expr) (x : Typed) (rooted : Bool) (needs : forms.Needs) (reach : c.Level → c.Run ℕ) →
       class_in (type_of x) ≡ class.Function
-      → IsAddressOf static e (forms.placed x rooted needs reach) → IsValueOf static e
+      → IsAddressOf numbering e (forms.placed x rooted needs reach) → IsValueOf numbering e
       (forms.placed x rooted needs reach)
   function_value e x rooted needs reach is h = rerun _ _ _ _ _ h (λ l env base d. its_address (reach l env base d))
     where
       its_address : (o : c.Outcome ℕ) → as_value o ≡ c.◌>>=◌ o (λ a. objects.load x rooted a.0 a.1)
-      its_address (Ok a) = sym (ap (λ cl. objects.load_as cl (bytes_of x.after.tables (type_of x)) x.at rooted a.0 a.1) is
+      its_address (Ok a) = sym (ap (λ cl. objects.load_as cl (bytes_of x.after.tables (type_of x)) x.at rooted a.0
+          a.1) is
           ∙ unread class.Function (bytes_of x.after.tables (type_of x)) x.at rooted a.0 a.1 refl)
       its_address (Err d) = refl
 
   -- a void lvalue is no access, and has no value
   pub void_value : (e : Expr) (x : Typed) (rooted : Bool) (needs : forms.Needs) (reach : c.Level → c.Run ℕ) →
       class_in (type_of x) ≡ class.Void
-      → IsAddressOf static e (forms.placed x rooted needs reach) → IsValueOf static (expr.Convert v.Void e)
+      → IsAddressOf numbering e (forms.placed x rooted needs reach) → IsValueOf numbering (expr.Convert v.Void e)
       (forms.placed x rooted needs reach)
   void_value e x rooted needs reach is h = by_worth _ _ _ _ _ (eq.worth-Convert v.Void e) (rerun _ _ _ _ _
       (between_does (value e) needs.size needs.room (λ l env base d. as_value (reach l env base d)) _

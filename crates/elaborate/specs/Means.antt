@@ -1,7 +1,7 @@
--- What it is to be the core of a part of a program: in all levels, environments, places and states it does what the part
--- does, takes as many places, and counts as many nodes. The states are the same, but that the core keeps apart what a
--- run leaves outside.
-use Rattle.std.specs.Prelude.{◌≡◌, ℕ, ℤ, pos, true, List, [], ◌∷◌, Some, Ok, Err}
+-- What it is to be the core of a part of a program: in all levels, environments, places and states it does what the
+-- part does, takes as many places, and counts as many nodes. The states are the same, but that the core keeps apart
+-- what a run leaves outside.
+use Rattle.std.specs.Prelude.{◌≡◌, ℕ, ℤ, pos, true, List, [], ◌∷◌, Option, Some, Ok, Err}
 use Rattle.c_type_terms.specs.declared.class.Class.{Class}
 use Rattle.c_type_terms.specs.declared.tables.Tables.{Tables}
 use Rattle.c_store.specs.Store.{Store, read}
@@ -18,11 +18,12 @@ use Rattle.c_runs.specs.Programs.{Function}
 use Rattle.c_runs.specs.Runs as whole
 use Rattle.core_tree.specs.declared.program.Parameter.{Parameter}
 use Rattle.core_tree.specs.Memory.{stored}
-use Rattle.core_tree.specs.Programs.{Body}
+use Rattle.core_tree.specs.Programs.{Body, Machine, turns_in}
+use Rattle.c_runs.specs.Rules.{Rules, BodyCall, PreludeCall}
 use Rattle.core_tree.specs.declared.code.Code.{Code}
 use Rattle.c_means.specs.Expressions.{Passed}
 use Rattle.core_tree.specs.declared.expr.Callee.{Callee}
-use Rattle.core_tree.specs.Callees.{callee_size, callee_room, called}
+use Rattle.core_tree.specs.Callees.{callee_size, callee_room, called, body_call}
 use Rattle.core_tree.specs.declared.expr.Expr.{Expr}
 use Rattle.core_tree.specs.declared.types.ValueType.{ValueType}
 use Rattle.core_tree.specs.Numbers.{size_of, value_of_bytes, bytes_of_value, converted_to}
@@ -52,47 +53,76 @@ as_value (Err d) = Err d
 
 -- ---- levels
 
--- The level of a function and the one of its core tell the same; `static` are the places of what lives throughout the
--- run.
-pub record Like (static : ℕ → ℕ) (l : c.Level) (k : Level Output) : Type 0 where
+-- What a call by rule does, in a world and bounds, from the objects in force, the values of its arguments, its first
+-- place and the state in which it begins; and how many places it takes.
+pub record Ruling : Type 0 where
+  pub room : ℕ
+  pub acts : c.World → c.Limits → Env → List ℤ → ℕ → State → State
+
+-- What a function's calls are: the places of what lives throughout the run, by offset; the number of the function whose
+-- body a call runs; and what a call by rule does.
+pub record Numbering : Type 0 where
+  pub place : ℕ → ℕ
+  pub body : c.Site → Option ℕ
+  pub rule : c.Site → Option Ruling
+
+-- a call of the site does what the rule says
+pub record Follows (l : c.Level) (g : c.Site) (r : Ruling) : Type 0 where
+  pub size : 0 ≡ l.size g
+  pub room : r.room ≡ l.room g
+  pub runs : (env : Env) (vs : List ℤ) (base : ℕ) (s : Store) (n : ℕ)
+      → r.acts l.world l.limits env vs base (c.entered s n) ≡ l.call g env vs base s n
+
+-- a call of a function by its number does what a call of the site does
+pub record Calls (l : c.Level) (k : Level Output) (g : c.Site) (f : ℕ) : Type 0 where
+  pub size : k.measures.size f ≡ l.size g
+  pub room : k.measures.room f ≡ l.room g
+  pub runs : (env : Env) (vs : List ℤ) (base : ℕ) (s : Store) (o : Output)
+      → body_call k.call k.taking g.at f vs base s o ≡ Some (as_done (l.call g env vs base s o.count))
+
+-- the level of a function and the one of its core tell the same
+pub record Like (numbering : Numbering) (l : c.Level) (k : Level Output) : Type 0 where
   pub taking : k.taking ≡ plain
   pub world : k.world ≡ l.world
   pub limits : k.limits ≡ l.limits
   pub turns : k.measures.turns ≡ l.turns
-  pub static_places : l.static ≡ static
+  pub static_places : l.static ≡ numbering.place
+  pub bodies : (g : c.Site) (f : ℕ) → numbering.body g ≡ Some f → Calls l k g f
+  pub rules : (g : c.Site) (r : Ruling) → numbering.rule g ≡ Some r → Follows l g r
 
 -- ---- expressions
 
-pub record Does (static : ℕ → ℕ) (x : Value Output) (nodes places : c.Level → ℕ) (run : c.Level → c.Run ℤ) : Type 0
+pub record Does (numbering : Numbering) (x : Value Output) (nodes places : c.Level → ℕ) (run : c.Level → c.Run ℤ) :
+    Type 0
   where
-    pub size : (l : c.Level) (k : Level Output) → Like static l k → x.needs.size k.measures ≡ nodes l
-    pub room : (l : c.Level) (k : Level Output) → Like static l k → x.needs.room k.measures ≡ places l
-    pub runs : (l : c.Level) (k : Level Output) → Like static l k → (env : Env) (base : ℕ) (d : State)
+    pub size : (l : c.Level) (k : Level Output) → Like numbering l k → x.needs.size k.measures ≡ nodes l
+    pub room : (l : c.Level) (k : Level Output) → Like numbering l k → x.needs.room k.measures ≡ places l
+    pub runs : (l : c.Level) (k : Level Output) → Like numbering l k → (env : Env) (base : ℕ) (d : State)
         → x.run k env base (as_done d) ≡ as_found (run l env base d)
 
 -- the core of the part's value, of its address, and of what it does where its value isn't used
-abbrev pub IsValueOf : (ℕ → ℕ) → Expr → Part → Type 0
-IsValueOf static e p = Does static (value e) p.size p.room p.run
+abbrev pub IsValueOf : Numbering → Expr → Part → Type 0
+IsValueOf numbering e p = Does numbering (value e) p.size p.room p.run
 
-abbrev pub IsAddressOf : (ℕ → ℕ) → Expr → Part → Type 0
-IsAddressOf static e p = Does static (value e) p.size p.room (λ l env base d. as_value (p.reach l env base d))
+abbrev pub IsAddressOf : Numbering → Expr → Part → Type 0
+IsAddressOf numbering e p = Does numbering (value e) p.size p.room (λ l env base d. as_value (p.reach l env base d))
 
-abbrev pub IsEffectOf : (ℕ → ℕ) → Expr → Part → Type 0
-IsEffectOf static e p = Does static (value e) p.size p.room p.effect
+abbrev pub IsEffectOf : Numbering → Expr → Part → Type 0
+IsEffectOf numbering e p = Does numbering (value e) p.size p.room p.effect
 
 -- ---- statements
 
-pub record Acts (static : ℕ → ℕ) (x : Item Output) (i : runs.Item) : Type 0 where
-  pub size : (l : c.Level) (k : Level Output) → Like static l k → x.needs.size k.measures ≡ i.size l
-  pub room : (l : c.Level) (k : Level Output) → Like static l k → x.needs.room k.measures ≡ i.room l
-  pub objects : (l : c.Level) (k : Level Output) → Like static l k → (base : ℕ) → x.objects k.measures base ≡
+pub record Acts (numbering : Numbering) (x : Item Output) (i : runs.Item) : Type 0 where
+  pub size : (l : c.Level) (k : Level Output) → Like numbering l k → x.needs.size k.measures ≡ i.size l
+  pub room : (l : c.Level) (k : Level Output) → Like numbering l k → x.needs.room k.measures ≡ i.room l
+  pub objects : (l : c.Level) (k : Level Output) → Like numbering l k → (base : ℕ) → x.objects k.measures base ≡
       i.objects l base
-  pub runs : (l : c.Level) (k : Level Output) → Like static l k → (env : Env) (base : ℕ) (d : State)
+  pub runs : (l : c.Level) (k : Level Output) → Like numbering l k → (env : Env) (base : ℕ) (d : State)
       → x.run k env base (as_done d) ≡ Some (as_done (i.run l env base d))
 
 -- the core of a statement or declaration, as an item of its block
-abbrev pub IsCodeOf : (ℕ → ℕ) → Code → runs.Item → Type 0
-IsCodeOf static x i = Acts static (code x) i
+abbrev pub IsCodeOf : Numbering → Code → runs.Item → Type 0
+IsCodeOf numbering x i = Acts numbering (code x) i
 
 -- ---- types
 
@@ -115,26 +145,27 @@ pub record OfType (tables : Tables) (x : Typed) (t : ValueType) : Type 0 where
 -- ---- calls
 
 -- what a callee of the core does is what a call of this site does
-pub record IsCallOf (static : ℕ → ℕ) (callee : Callee) (at : ℕ) (t : ValueType) (site : c.Level → c.Site) : Type 0 where
-  pub size : (l : c.Level) (k : Level Output) → Like static l k → callee_size callee k.measures ≡ l.size (site l)
-  pub room : (l : c.Level) (k : Level Output) → Like static l k → callee_room callee k.measures ≡ l.room (site l)
-  pub runs : (l : c.Level) (k : Level Output) → Like static l k → (env : Env) (vs : List ℤ) (base : ℕ) (s : Store)
+pub record IsCallOf (numbering : Numbering) (callee : Callee) (at : ℕ) (t : ValueType) (site : c.Level → c.Site) :
+    Type 0 where
+  pub size : (l : c.Level) (k : Level Output) → Like numbering l k → callee_size callee k.measures ≡ l.size (site l)
+  pub room : (l : c.Level) (k : Level Output) → Like numbering l k → callee_room callee k.measures ≡ l.room (site l)
+  pub runs : (l : c.Level) (k : Level Output) → Like numbering l k → (env : Env) (vs : List ℤ) (base : ℕ) (s : Store)
       (o : Output)
       → called k callee at t env vs base s o ≡ Some (as_done (l.call (site l) env vs base s o.count))
 
 -- an argument, as it is converted to its parameter's type
-abbrev pub IsArgument : (ℕ → ℕ) → Expr → Passed → Type 0
-IsArgument static e q =
-    Does static (value e) q.part.size q.part.room
+abbrev pub IsArgument : Numbering → Expr → Passed → Type 0
+IsArgument numbering e q =
+    Does numbering (value e) q.part.size q.part.room
     (λ l env base d. c.◌>>=◌ (q.part.run l env base d) (λ v. Ok (
       values.converted_to (values.class_in q.ctype) v.0,
       v.1,
     )))
 
-abbrev pub AreArguments : (ℕ → ℕ) → List Expr → List Passed → Type 0
-AreArguments static [] [] = Unit {0}
-AreArguments static (e ∷ es) (q ∷ qs) = IsArgument static e q × AreArguments static es qs
-AreArguments static _ _ = ⊥
+abbrev pub AreArguments : Numbering → List Expr → List Passed → Type 0
+AreArguments numbering [] [] = Unit {0}
+AreArguments numbering (e ∷ es) (q ∷ qs) = IsArgument numbering e q × AreArguments numbering es qs
+AreArguments numbering _ _ = ⊥
 
 -- ---- functions
 
@@ -142,7 +173,8 @@ AreArguments static _ _ = ⊥
 pub record IsParameter (s : Scope) (p : Parameter) (e : Entry) : Type 0 where
   pub at : p.at ≡ e.at
   pub size : size_of p.stored ≡ whole.parameter_size s e
-  pub stores : (a : ℕ) (z : ℤ) (d : State) → stored p.stored a z (as_done d) ≡ as_done (whole.passes_as s.tables e.means a z d)
+  pub stores : (a : ℕ) (z : ℤ) (d : State) → stored p.stored a z (as_done d) ≡ as_done
+      (whole.passes_as s.tables e.means a z d)
 
 abbrev pub AreParameters : Scope → List Parameter → List Entry → Type 0
 AreParameters s [] [] = Unit {0}
@@ -150,7 +182,44 @@ AreParameters s (p ∷ ps) (e ∷ es) = IsParameter s p e × AreParameters s ps 
 AreParameters s _ _ = ⊥
 
 -- the core of a function, whose block holds items that do what those of its body do
-pub record IsBodyOf (static : ℕ → ℕ) (x : Body Output) (f : Function) (i : runs.Item) : Type 0 where
+pub record IsBodyOf (numbering : Numbering) (x : Body Output) (f : Function) (i : runs.Item) : Type 0 where
   pub parameters : AreParameters f.inside x.function.parameters f.parameters
-  pub items : Acts static x.item i
+  pub items : Acts numbering x.item i
   pub body : f.body ≡ runs.node i
+
+-- ---- programs
+
+-- a rule by which the body of this function runs, whose loops take so many turns
+abbrev pub BodyRule : c.Limits → Rules Function → Function → ℕ → Type 0
+BodyRule limits (BodyCall g) f turns = (g ≡ f) × (limits.turns ≡ turns)
+BodyRule limits (PreludeCall g) f turns = (g ≡ f) × (limits.texts ≡ turns)
+BodyRule limits _ f turns = ⊥
+
+-- the core of the function whose body a call runs; each function has its own numbering
+pub record Numbered (numbering : Function → Numbering) (m : whole.Machine) (k : Machine Output) (g : c.Site) (n : ℕ) :
+    Type 0 where
+  pub function : Function
+  pub turns : ℕ
+  pub rule : BodyRule m.limits (whole.rule_of m g) function turns
+  pub body : Body Output
+  pub found : k.body n ≡ Some body
+  pub item : runs.Item
+  pub is_body : IsBodyOf (numbering function) body function item
+  pub has_turns : turns_in k.limits body.function ≡ turns
+
+-- the rule that a call of the site follows in a function is this one
+pub record HasRule (m : whole.Machine) (f : Function) (g : c.Site) (r : Ruling) : Type 0 where
+  pub size : (below : whole.Below) → 0 ≡ whole.size_by m below (whole.rule_of m g)
+  pub room : (below : whole.Below) → r.room ≡ whole.room_by m below g (whole.rule_of m g)
+  pub runs : (turns : ℕ) (below : whole.Below) (env : Env) (vs : List ℤ) (base : ℕ) (s : Store) (n : ℕ)
+      → r.acts m.world m.limits env vs base (c.entered s n) ≡ whole.call_by m f turns below (whole.rule_of m g) g env
+      vs base s n
+
+-- the core of a program's functions, with the same world and bounds
+pub record IsMachineOf (numbering : Function → Numbering) (m : whole.Machine) (k : Machine Output) : Type 0 where
+  pub taking : k.taking ≡ plain
+  pub world : k.world ≡ m.world
+  pub limits : k.limits ≡ m.limits
+  pub places : (f : Function) → whole.places_of m.program ≡ (numbering f).place
+  pub bodies : (f : Function) (g : c.Site) (n : ℕ) → (numbering f).body g ≡ Some n → Numbered numbering m k g n
+  pub rules : (f : Function) (g : c.Site) (r : Ruling) → (numbering f).rule g ≡ Some r → HasRule m f g r
