@@ -334,6 +334,7 @@ class Source:
         text, kind, value = self.good(self.random.randint(1, 4))
         name = self.fresh("v")
         self.declarations.append(f"{self.pick(SPELLINGS.get(kind, [kind]))} {name} = {text};")
+        self.show(name, [])
         self.shown.append(("value", name, text))
 
     def printing(self, what):
