@@ -7,6 +7,3 @@ mod forms;
 mod trees;
 
 pub use trees::{declarator, specifiers, type_name, typed};
-
-#[cfg(test)]
-mod tests;

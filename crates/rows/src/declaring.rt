@@ -8,9 +8,10 @@ use crate::type_texts::type_text;
 use anyhow::Result;
 use c_lexer::{Name, lex};
 use c_parser::unit::parse;
-use c_tree::{Declaration, Expr, External, InitDeclarator, Initializer};
+use c_tree::{Declaration, Declarator, Expr, External, InitDeclarator, Initializer, Specifier};
 use c_types::{
-    CType, Class, Entry, Fault, LayoutRule, Means, Member, Rule, Scope, const_value, declare, typed,
+    CType, Class, Entry, Fault, LayoutRule, Means, Member, Rule, Scope, const_value, declare,
+    function_says, layout, typed,
 };
 use plain_data::Shared;
 use std::alloc::Global;
@@ -125,6 +126,20 @@ fn entry_text(alloc: Global, scope: &Scope, name: &str, means: &Means) -> Result
     }
 }
 
+/// The type that an operand of `sizeof` names, behind `of`; nothing where the expression is of another form.
+fn operand_text(alloc: Global, expr: &Expr, scope: &mut Scope) -> Result<String> {
+    match expr {
+        Expr::SizeofType { type_name, .. } => match layout(alloc, type_name.get(), scope) {
+            Ok(ctype) => {
+                let text = type_text(alloc, scope.tables(), &ctype)?;
+                Ok(format!(in alloc; " of {text}")?)
+            }
+            Err(_) => Ok(format!(in alloc; " of none")?),
+        },
+        _ => Ok(String::new(alloc)),
+    }
+}
+
 /// The type and value of an expression.
 fn shown_text(alloc: Global, expr: &Shared<Expr>, scope: &mut Scope) -> Result<String> {
     let told = typed(alloc, expr.get(), scope)?;
@@ -178,7 +193,8 @@ fn put_name(
             text.push_str(line.as_str())?;
             if let Some(expr) = initial {
                 let shown = shown_text(alloc, expr, scope)?;
-                text.push_str(format!(in alloc; " = {shown}")?.as_str())?;
+                let operand = operand_text(alloc, expr.get(), scope)?;
+                text.push_str(format!(in alloc; " = {shown}{operand}")?.as_str())?;
             }
             text.push('\n')?;
         }
@@ -240,7 +256,26 @@ fn put_declaration(
     Ok(seen)
 }
 
-/// What the declarations of a source declare. Function definitions are left out.
+/// The head of a function definition.
+fn put_function(
+    alloc: Global,
+    text: &mut String,
+    specifiers: &[Shared<Specifier>],
+    named: &Declarator,
+    scope: &mut Scope,
+) -> Result<()> {
+    let said = function_says(alloc, specifiers, named, scope)?;
+    put_faults(alloc, text, said.faults.as_slice())?;
+    if let Some(entry) = said.entry {
+        let entry = entry.get();
+        let name = name_text(alloc, &entry.name)?;
+        let line = entry_text(alloc, scope, name.as_str(), &entry.means)?;
+        text.push_str(format!(in alloc; "{line}\n")?.as_str())?;
+    }
+    Ok(())
+}
+
+/// What the declarations and function definitions of a source declare in the file.
 fn declared(alloc: Global, shows: Shows, source: &[u8]) -> Result<String> {
     let tokens = lex(alloc, "source", source)?;
     let unit = parse(alloc, &tokens)?;
@@ -248,8 +283,16 @@ fn declared(alloc: Global, shows: Shows, source: &[u8]) -> Result<String> {
     let mut text = String::new(alloc);
     let mut seen = 0;
     for external in unit.externals.as_slice() {
-        if let External::Declared { declaration } = external.get() {
-            seen = put_declaration(alloc, &mut text, shows, declaration, &mut scope, seen)?;
+        match external.get() {
+            External::Declared { declaration } => {
+                seen = put_declaration(alloc, &mut text, shows, declaration, &mut scope, seen)?;
+            }
+            External::Function {
+                specifiers,
+                declarator,
+                ..
+            } => put_function(alloc, &mut text, specifiers.as_slice(), declarator, &mut scope)?,
+            External::Empty { .. } => (),
         }
     }
     Ok(text)
