@@ -291,7 +291,13 @@ fn declared(alloc: Global, shows: Shows, source: &[u8]) -> Result<String> {
                 specifiers,
                 declarator,
                 ..
-            } => put_function(alloc, &mut text, specifiers.as_slice(), declarator, &mut scope)?,
+            } => put_function(
+                alloc,
+                &mut text,
+                specifiers.as_slice(),
+                declarator,
+                &mut scope,
+            )?,
             External::Empty { .. } => (),
         }
     }
