@@ -1,5 +1,5 @@
 -- What the code holds of a declaration, in front of the scope that it leaves: the values that `c_says` speaks of.
-use Rattle.std.specs.Prelude.{ℕ, Option, Some, None}
+use Rattle.std.specs.Prelude.{Option, Some, None}
 use Rattle.c_declares.specs.declared.declarators.Counted.{Counted}
 use Rattle.c_declares.specs.declared.declarators.Formed.{Formed}
 use Rattle.c_declares.specs.declared.declarators.Parameters.{Parameters}

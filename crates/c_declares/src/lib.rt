@@ -2,14 +2,17 @@
 //! code.
 #![tactic(auto)]
 
+mod constants;
 mod declarators;
 mod enumerations;
 mod members;
+mod names;
 mod parameters;
 mod said;
 mod tags;
 mod type_names;
 mod types;
+mod words;
 
 pub use declarators::{Counted, Formed, Parameters};
 pub use enumerations::Counting;

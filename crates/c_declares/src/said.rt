@@ -3,11 +3,13 @@
 ghost use Rattle.std.specs.Prelude.{◌≡◌, ◌++◌, [], ◌∷◌, true, false, IfOk, OnOk};
 ghost use Rattle.c_type_terms.specs.Types.{unqualified, with_both};
 ghost use Rattle.c_says.specs.Scopes as scopes;
+ghost use Rattle.c_says.specs.Typing.{fault_at};
 ghost use Rattle.c_says.specs.Declares as spec;
 ghost use Rattle.c_declares.specs.Views.{said_in};
 
+use crate::words::type_of_words;
 use c_lexer::Name;
-use c_says::Fault;
+use c_says::{Fault, Means, Rule};
 use c_tree::{Qualifier, StorageClass, TypeWord};
 use c_type_scope::Scope;
 use c_type_terms::{CType, Qualifiers};
@@ -89,7 +91,29 @@ impl Said {
     ) -> Result<(), AllocError>
         ensures { OnOk result (said_in self.new scope.now ≡ spec.typedef_in at (scopes.look_up scope.now name.now) (spec.started at (said_in self.old scope.now))) }
     {
-        Err(AllocError)
+        self.start_at(at);
+        match scope.look_up(name.get().as_slice()) {
+            Some(entry) => self.add_typedef(alloc, at, &entry.get().means),
+            None => self.refuse(at, Rule::Undeclared),
+        }
+    }
+
+    fn add_typedef(&mut self, alloc: Global, at: u32, means: &Means) -> Result<(), AllocError>
+        ensures { (scope : scopes.Scope) → OnOk result (said_in self.new scope ≡ spec.typedef_of at means.now (said_in self.old scope)) }
+    {
+        match means {
+            Means::Typedef { ctype } => {
+                self.whole = Some(Some(ctype.get().duplicate(alloc)?));
+                Ok(())
+            }
+            Means::Faulty => {
+                self.whole = Some(None);
+                Ok(())
+            }
+            Means::Object { .. } => self.refuse(at, Rule::Undeclared),
+            Means::Function { .. } => self.refuse(at, Rule::Undeclared),
+            Means::Constant { .. } => self.refuse(at, Rule::Undeclared),
+        }
     }
 
     /// The type that all specifiers specify, with its qualifiers (C99 6.7.3p3): none where a part breaks a rule. It fails
@@ -97,7 +121,23 @@ impl Said {
     pub fn specified(&self, alloc: Global) -> Result<Option<CType>, AllocError>
         ensures { (scope : scopes.Scope) → IfOk result (λ t. t ≡ spec.specified (said_in self.now scope)) }
     {
-        Err(AllocError)
+        match &self.whole {
+            None => {
+                let ctype = type_of_words(alloc, self.words.as_slice());
+                Ok(Some(ctype.qualified(self.qualifiers)))
+            }
+            Some(None) => Ok(None),
+            Some(Some(ctype)) => Ok(Some(ctype.duplicate(alloc)?.qualified(self.qualifiers))),
+        }
+    }
+
+    /// A specifier that breaks a rule.
+    pub(crate) fn refuse(&mut self, at: u32, rule: Rule) -> Result<(), AllocError>
+        ensures { OnOk result (self.new ≡ record self.old { whole = Some None; faults = self.old.faults ++ fault_at at rule }) }
+    {
+        self.faults.push(Fault { at, rule })?;
+        self.whole = Some(None);
+        Ok(())
     }
 
     pub(crate) fn start_at(&mut self, at: u32)

@@ -7,6 +7,7 @@ ghost use Rattle.c_declares.specs.Views.{said_in, formed_in, type_said_in};
 
 use crate::declarators::Formed;
 use crate::said::Said;
+use crate::types::{derived_from, formed_type};
 use c_says::{Fault, Rule};
 use c_type_scope::Scope;
 use c_type_terms::CType;
@@ -31,6 +32,19 @@ impl TypeSaid {
     ) -> Result<TypeSaid, AllocError>
         ensures { (before : scopes.Scope) → IfOk result (λ t. type_said_in t scope.now ≡ spec.type_formed (said_in said before) (formed_in formed scope.now)) }
     {
-        Err(AllocError)
+        let ctype = said.specified(alloc)?;
+        let Said { faults, .. } = said;
+        let Formed {
+            derivations,
+            faults: more,
+            ..
+        } = formed;
+        let mut faults = faults;
+        faults.append(more)?;
+        let derived = derived_from(derivations, &ctype)?;
+        Ok(TypeSaid {
+            ctype: formed_type(alloc, scope.tables(), derived)?,
+            faults,
+        })
     }
 }

@@ -12,7 +12,10 @@ mod values;
 
 pub use assigning::{is_assignable, same_aggregate};
 pub use calling::{call, one_fault};
-pub use primary::{character_constant, floating_constant, identifier, integer_constant};
+pub use primary::{
+    character_constant, floating_constant, function_name, identifier, integer_constant,
+    string_literal,
+};
 pub use told::{
     arrow, assignment, binary, cast, choice, comma, joined, member, node, operand, postfix,
     is_floating, refused, size_of_expression, size_of_type, subscript, typeless, unary, used,

@@ -1,15 +1,19 @@
 //! Primary expressions (C99 6.5.1), apart from the look-up of a name.
-ghost use Rattle.std.specs.Prelude.{◌≡◌, IfOk};
+ghost use Rattle.std.specs.Prelude.{◌≡◌, suc, [], IfOk};
 ghost use Rattle.std.specs.Option.{option_copied};
+ghost use Rattle.c_says.specs.Scopes.{Scope};
+ghost use Rattle.c_says.specs.Typing.{typed_in};
 ghost use Rattle.c_says.specs.Typing as spec;
 
 use crate::told::{node, refused, typeless};
-use crate::values::{an_integer, an_object, some_value};
-use c_lexer::IntegerConstant;
+use crate::values::{TOO_LARGE, an_integer, an_object, some_value};
+use bit_words::Bytes;
+use c_lexer::{IntegerConstant, Name};
 use c_says::{Entry, Means, Rule, Shown, Told};
-use c_type_terms::IntegerKind;
+use c_type_terms::{Base, CType, IntegerKind, Tables};
 use plain_data::{Items, Shared};
 use std::alloc::{AllocError, Global};
+use std::slice;
 
 /// An integer constant. It fails for want of memory alone.
 pub fn integer_constant(
@@ -99,6 +103,67 @@ pub fn identifier(alloc: Global, at: u32, entry: Option<&Shared<Entry>>) -> Resu
 {
     match entry {
         Some(entry) => named_as(alloc, at, entry),
+        None => refused(at, Rule::Undeclared, Items::new(alloc)),
+    }
+}
+
+/// How many bytes an array of string literals has (C99 6.4.5p5): from 2^64 there is no memory for them.
+fn literal_bytes(pieces: &[Shared<Bytes>]) -> Result<u64, AllocError>
+    ensures { IfOk result (λ bytes. bytes ≡ suc (spec.total pieces.now)) }
+{
+    let mut bytes: u64 = 1;
+    for piece in pieces {
+        bytes = match bytes.checked_add(piece.get().len() as u64) {
+            Some(bytes) => bytes,
+            None => return Err(AllocError),
+        };
+    }
+    Ok(bytes)
+}
+
+fn within_limit(tables: &Tables, x: Shown) -> Result<Shown, Rule>
+    ensures { result ≡ spec.within_limit tables.now x }
+{
+    if tables.is_too_large(&x.ctype) {
+        Err(TOO_LARGE)
+    } else {
+        Ok(x)
+    }
+}
+
+/// Adjacent string literals (C99 6.4.5). It fails for want of memory alone.
+pub fn string_literal(
+    alloc: Global,
+    tables: &Tables,
+    at: u32,
+    pieces: &[Shared<Bytes>],
+) -> Result<Told, AllocError>
+    ensures { IfOk result (λ x. x ≡ spec.node at (spec.literal_shown tables.now pieces.now) []) }
+{
+    let bytes = literal_bytes(pieces)?;
+    let character = CType::basic(alloc, Base::Integer(IntegerKind::Char));
+    let shown = Shown {
+        ctype: character.array(alloc, Some(bytes))?,
+        value: None,
+        is_null: false,
+        is_lvalue: true,
+        is_literal: true,
+        designates: None,
+    };
+    node(at, within_limit(tables, shown), Items::new(alloc))
+}
+
+/// `__func__` in a function of this name, or outside of any (C99 6.4.2.2). It fails for want of memory alone.
+pub fn function_name(
+    alloc: Global,
+    tables: &Tables,
+    at: u32,
+    function: &Option<Name>,
+) -> Result<Told, AllocError>
+    ensures { (scope : Scope) → scope.tables ≡ tables.now → IfOk result (λ x. typed_in x scope ≡ spec.function_name at function.now scope) }
+{
+    match function {
+        Some(name) => string_literal(alloc, tables, at, slice::from_ref(name)),
         None => refused(at, Rule::Undeclared, Items::new(alloc)),
     }
 }

@@ -1,5 +1,5 @@
 -- What the innermost block declares, where blocks are kept with the innermost last.
-use Rattle.std.proofs.Common.{◌≡◌, refl, ap, sym, subst, ◌∙◌, ℕ, suc, ◌-◌, ◌<◌, ◌≤◌, List, [], ◌∷◌, ◌++◌, length, take, set, get_or, reverse, arith, Option}
+use Rattle.std.proofs.Common.{◌≡◌, refl, ap, sym, subst, ◌∙◌, ℕ, suc, ◌-◌, ◌<◌, List, [], ◌∷◌, ◌++◌, length, take, set, get_or, reverse, arith, Option}
 use Rattle.std.proofs.Math.Seq.{take-suc}
 use Rattle.std.proofs.Math.ListN.{length-take}
 use Rattle.std.proofs.lemmas.List.{reverse-append, take_all}
@@ -33,7 +33,7 @@ module _ (file : Block) (linked : List Linked) (function : Option Name) (tables 
   replaced blocks count block new positive long is made =
       let front : List Block = take (count - 1) blocks in
       let cut : blocks ≡ front ++ block ∷ [] =
-          cut_last blocks (count - 1) block (omega arith) ∙ ap (λ (x : Block). front ++ x ∷ []) (sym is) in
+      cut_last blocks (count - 1) block (omega arith) ∙ ap (λ (x : Block). front ++ x ∷ []) (sym is) in
       let n : length front ≡ count - 1 = length-take (count - 1) blocks ∙ omega arith in
       subst (λ (xs : List Block). wanted xs (count - 1) new) (sym cut)
       (subst (λ (k : ℕ). wanted (front ++ block ∷ []) k new) n (behind front block new made))

@@ -4,9 +4,7 @@ ghost use Rattle.std.specs.Prelude.{◌≡◌, IfOk, OnOk};
 ghost use Rattle.c_says.specs.Scopes as spec;
 
 use crate::scope::Scope;
-use c_type_terms::{
-    Aggregate, AggregateForm, CType, Content, Enumeration, Prototype, Signature,
-};
+use c_type_terms::{Aggregate, AggregateForm, CType, Content, Enumeration, Prototype, Signature};
 use plain_data::Items;
 use std::alloc::AllocError;
 
@@ -63,7 +61,9 @@ impl Scope {
         let index = number as usize;
         if index < self.tables.enumerations.len() {
             let is_complete = true;
-            self.tables.enumerations.set(index, Enumeration { is_complete });
+            self.tables
+                .enumerations
+                .set(index, Enumeration { is_complete });
         }
     }
 
