@@ -40,6 +40,7 @@ fn fault_of(cause: Option<LayoutRule>) -> TypeFault
 }
 
 /// The value that an expression shows, or why it has none.
+#[tactic(auto, using(crate::proofs::First::cause_found, crate::proofs::First::cause_missing))]
 fn constant(told: &Told) -> Result<i128, TypeFault>
     ensures { result ≡ causes.answered (causes.with_cause (typing.const_value (typing.typed_in told.now empty))) }
 {
@@ -70,6 +71,7 @@ pub fn const_value(alloc: Global, expr: &Expr, scope: &mut Scope) -> Result<i128
 }
 
 /// The type of a type name, or why there is none.
+#[tactic(auto, using(crate::proofs::First::cause_first, crate::proofs::First::cause_then))]
 fn known_type(named: TypeSaid) -> Result<CType, TypeFault>
     ensures { result ≡ causes.answered (causes.layout_of (type_said_in named empty)) }
 {
