@@ -1,6 +1,5 @@
 -- A whole declaration, by the storage class and the type that its specifiers say.
-use Rattle.std.proofs.Common.{◌≡◌, Bool, List, [], ◌∷◌, map, length, Option, Some, None, refl, ap, sym, ◌∙◌}
-use Rattle.std.specs.Prelude.{◌==◌}
+use Rattle.std.proofs.Common.{◌≡◌, Bool, List, [], ◌∷◌, map, Option, Some, None, refl, ap, sym, ◌∙◌}
 use Rattle.c_tree.specs.declared.unit.Declaration.{Declaration}
 use Rattle.c_tree.specs.declared.unit.InitDeclarator.{InitDeclarator}
 use Rattle.c_type_terms.specs.declared.ctype.CType.{CType}
@@ -25,10 +24,6 @@ specified_by x s t (Some (Some u)) = refl
 
 pub specified_free : (x : Held) (s t : Scope) → specified (said_in x s) ≡ specified (said_in x t)
 specified_free x s t = specified_by x s t x.whole
-
-pub alone_is : (ds : List InitDeclarator) → (length ds == 0) ≡ is_alone (map item_of ds)
-alone_is [] = refl
-alone_is (d ∷ ds) = refl
 
 pub whole_is : (x : Declaration) (s t : Scope) (said : Held) (alone : Bool)
     → said_in said t ≡ said_by (map specifier_says x.specifiers) alone [] s

@@ -90,6 +90,16 @@ pub(crate) fn specified_by(alloc: Global, said: &Said) -> Result<Option<CType>, 
     said.specified(alloc)
 }
 
+/// Whether no declarator follows the specifiers.
+fn is_alone(items: &[InitDeclarator]) -> bool
+    ensures { result ≡ spec.is_alone (map views.item_of items.now) }
+{
+    match items.split_first() {
+        None => true,
+        Some(_) => false,
+    }
+}
+
 /// What a declaration declares in a scope, and the rules that it breaks. It fails for want of memory alone.
 pub fn declaration_says(
     alloc: Global,
@@ -102,7 +112,7 @@ pub fn declaration_says(
     let said = specifiers(
         alloc,
         declaration.specifiers.as_slice(),
-        items.is_empty(),
+        is_alone(items),
         scope,
     )?;
     let specified = specified_by(alloc, &said)?;

@@ -338,8 +338,9 @@ fn nameless(
     alloc: Global,
     inside: Option<Parameters>,
     faults: Items<Fault>,
+    scope: &Scope,
 ) -> Result<FunctionSaid, AllocError>
-    ensures { (scope : scopes.Scope) → IfOk result (λ x. function_in x scope ≡ spec.nameless (record (formed_with (inside_of inside)) { after = scope }) faults) }
+    ensures { IfOk result (λ x. function_in x scope.now ≡ spec.nameless (record (formed_with (inside_of inside)) { after = scope.now }) faults) }
 {
     let parameters = entries_in(alloc, &inside)?;
     Ok(FunctionSaid {
@@ -411,7 +412,7 @@ fn function_from(
     let derived = derived_from(derivations, &specified)?;
     let ctype = formed_type(alloc, scope.tables(), derived)?;
     match name {
-        None => nameless(alloc, inside, faults),
+        None => nameless(alloc, inside, faults, scope),
         Some((at, name)) => function_named(
             alloc,
             said.storage,

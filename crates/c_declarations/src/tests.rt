@@ -36,7 +36,13 @@ fn a_name_is_declared_again(rt: HostRuntime) -> Result<(), Fail> {
     let mut scope = Scope::new(alloc);
     let first = declared(alloc, &mut scope, None, IntegerKind::Int, 4)?;
     assert!(rt; first.faults.is_empty());
-    let again = declared(alloc, &mut scope, Some(StorageClass::Extern), IntegerKind::Int, 9)?;
+    let again = declared(
+        alloc,
+        &mut scope,
+        Some(StorageClass::Extern),
+        IntegerKind::Int,
+        9,
+    )?;
     assert_eq!(rt; first_at(&again), Some(4));
     assert!(rt; again.faults.is_empty());
     let other = declared(alloc, &mut scope, None, IntegerKind::Long, 20)?;
