@@ -348,3 +348,15 @@ row_length_of_literal = refl
 pub row_too_many : (initialised_declaration (word w.Int ∷ []) (as_ a) one_two_three empty).faults ≡
     record { at = 0; rule = rule.TypeMismatch } ∷ record { at = 0; rule = rule.TypeMismatch } ∷ []
 row_too_many = refl
+
+-- struct { int a; int b; } c = { 1, 2, { 3 } }; the list in excess, and its value
+pub row_list_in_excess : (initialised_declaration (pair_of_ints ∷ []) (as_ c) (braces (value (number 1)
+    ∷ value (number 2) ∷ braces (value (number 3) ∷ []) ∷ [])) empty).faults ≡
+    record { at = 0; rule = rule.TypeMismatch } ∷ record { at = 0; rule = rule.TypeMismatch } ∷ []
+row_list_in_excess = refl
+
+-- struct { int a; int b; } c[] = { 1, 2, { 3 } }; the list is for the next element
+pub row_list_behind_a_full_part : size_of_name c (initialised_declaration (pair_of_ints
+    ∷ []) (unknown_length c) (braces (value (number 1) ∷ value (number 2)
+    ∷ braces (value (number 3) ∷ []) ∷ [])) empty).after ≡ Some (pos 16)
+row_list_behind_a_full_part = refl
