@@ -9,7 +9,18 @@ use Rattle.c_type_terms.specs.declared.tables.Content.{Content}
 use Rattle.c_type_terms.specs.declared.tables.Content.TheVariants as c
 use Rattle.c_type_terms.specs.declared.tables.Tables.{Tables}
 use Rattle.c_type_terms.specs.Types.{content_of, is_listed}
-use Rattle.c_type_terms.specs.Layouts.{size_of, size_from, size_in, base_size, array_size, enumerated_size, align_of, align_from, align_in, base_align}
+use Rattle.c_type_terms.specs.Layouts.{
+  size_of,
+  size_from,
+  size_in,
+  base_size,
+  array_size,
+  enumerated_size,
+  align_of,
+  align_from,
+  align_in,
+  base_align,
+}
 use Rattle.c_types.specs.Sizes.{is_none, lacks_layout, lacks_size_base, lacks_size_from, lacks_size}
 
 listed : (x : Bool) → is_none (enumerated_size x) ≡ not x

@@ -113,9 +113,9 @@ fn known_type(named: TypeSaid) -> Result<CType, TypeFault>
     }
 }
 
-/// The type that a type name names (C99 6.7.6), in a scope in which the tags and enumerators that it declares are in force
-/// behind it. There is none exactly where a rule is broken: the first rule on sizes or constants is the cause, and
-/// `Unknown` where only others are broken. Beside these answers there is want of memory alone.
+/// The type that a type name names (C99 6.7.6), in a scope in which the tags and enumerators that it declares are in
+/// force behind it. There is none where a rule on sizes or constants is broken, the first of which is the cause, and
+/// `Unknown` where none is and another rule leaves no type. Beside these answers there is want of memory alone.
 pub fn layout(alloc: Global, name: &TypeName, scope: &mut Scope) -> Result<CType, TypeFault>
     ensures value { causes.OrMemory result (causes.answered (causes.layout_of (trees.type_name_says name.now scope.old))) }
     ensures scope { causes.Behind result scope.new (trees.type_name_says name.now scope.old).after }

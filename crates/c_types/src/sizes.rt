@@ -25,8 +25,8 @@ pub fn align_of(tables: &Tables, ctype: &CType) -> Option<u64>
     tables.align_of(ctype)
 }
 
-/// The offset in bytes of a member by its number, from 0: none exactly where the type is no complete structure or union,
-/// or has no such member.
+/// The offset in bytes of a member by its number, from 0: none exactly where the type is no complete structure or
+/// union, or has no such member.
 pub fn offset_of(tables: &Tables, ctype: &CType, member: u32) -> Option<u64>
     ensures { result ≡ layouts.offset_of tables.now ctype.now member }
 {
