@@ -26,8 +26,8 @@ use c_type_terms::CType;
 use plain_data::{Items, Shared};
 use std::alloc::{AllocError, Global};
 
-/// What a declarator declares, apart from the scope behind it: the entry in force, where it has a name, and the rules that
-/// it and its initializer break.
+/// What a declarator declares, apart from the scope behind it: the entry in force, where it has a name, and the rules
+/// that it and its initializer break.
 #[derive(Drop)]
 pub struct Declared {
     pub entry: Option<Shared<Entry>>,
@@ -303,8 +303,8 @@ fn declared_named(
     }
 }
 
-/// What a declarator with its initializer declares behind specifiers of this storage class and type. It fails for want of
-/// memory alone.
+/// What a declarator with its initializer declares behind specifiers of this storage class and type. It fails for want
+/// of memory alone.
 pub fn declares(
     alloc: Global,
     storage: Option<StorageClass>,

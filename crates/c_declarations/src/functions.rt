@@ -26,9 +26,9 @@ use c_typing::{declarator, specifiers};
 use plain_data::{Items, Shared};
 use std::alloc::{AllocError, Global};
 
-/// What the head of a function definition says, apart from the scope behind it: the entry of the function, the type that
-/// it returns and its parameters in order, the rules that are broken, and what the scope of its body begins with: the
-/// block of the parameters and the function's name.
+/// What the head of a function definition says, apart from the scope behind it: the entry of the function, the type
+/// that it returns and its parameters in order, the rules that are broken, and what the scope of its body begins with:
+/// the block of the parameters and the function's name.
 #[derive(Drop)]
 pub struct FunctionSaid {
     pub entry: Option<Shared<Entry>>,

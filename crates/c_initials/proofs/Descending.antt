@@ -1,8 +1,44 @@
 -- One step down to the part that an expression initialises, and the literal in braces.
-use Rattle.std.proofs.Common.{◌≡◌, ℕ, zero, suc, ◌<◌, Bool, true, false, ◌||◌, List, [], ◌∷◌, Option, Some, None, Result, Ok, Err, refl, ap, sym, ◌∙◌}
+use Rattle.std.proofs.Common.{
+  ◌≡◌,
+  ℕ,
+  zero,
+  suc,
+  ◌<◌,
+  Bool,
+  true,
+  false,
+  ◌||◌,
+  List,
+  [],
+  ◌∷◌,
+  Option,
+  Some,
+  None,
+  Result,
+  Ok,
+  Err,
+  refl,
+  ap,
+  sym,
+  ◌∙◌,
+}
 use Rattle.c_type_terms.specs.declared.tables.Tables.{Tables}
 use Rattle.c_says.specs.Typing.{Typed}
-use Rattle.c_says.specs.Initials.{Part, Frame, Found, part_at, is_scalar_part, is_whole_of, stepped, started, descends, with_part_left, is_braced_text, is_text_of}
+use Rattle.c_says.specs.Initials.{
+  Part,
+  Frame,
+  Found,
+  part_at,
+  is_scalar_part,
+  is_whole_of,
+  stepped,
+  started,
+  descends,
+  with_part_left,
+  is_braced_text,
+  is_text_of,
+}
 use Rattle.c_initials.specs.Filled.{descent, only}
 
 abbrev Steps : Type 0

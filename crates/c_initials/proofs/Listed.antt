@@ -9,7 +9,27 @@ use Rattle.c_tree.specs.declared.unit.Initializer.TheVariants.{rolls-List as rol
 use Rattle.c_tree.specs.declared.unit.InitializerItem.{InitializerItem, fold-roll-InitializerItem}
 use Rattle.c_type_terms.specs.declared.ctype.CType.{CType}
 use Rattle.c_says.specs.Scopes.{Scope}
-use Rattle.c_says.specs.Initials.{Fills, Filling, Frame, Found, InitialSaid, value_says, list_says, item_says, fills_list, fills_all, fills_value, fills_found, braced_text, is_braced_text, descends, most_levels, with_part_left, filling_of, started}
+use Rattle.c_says.specs.Initials.{
+  Fills,
+  Filling,
+  Frame,
+  Found,
+  InitialSaid,
+  value_says,
+  list_says,
+  item_says,
+  fills_list,
+  fills_all,
+  fills_value,
+  fills_found,
+  braced_text,
+  is_braced_text,
+  descends,
+  most_levels,
+  with_part_left,
+  filling_of,
+  started,
+}
 use Rattle.c_says.specs.Typing.{Typed}
 use Rattle.c_says.specs.Trees.{typed}
 use Rattle.c_says.specs.Units.{initial_says, initial_by, initial_step, item_step, designated}

@@ -1,5 +1,29 @@
 -- Frames are kept with the outermost first, and seen with the innermost first.
-use Rattle.std.proofs.Common.{◌≡◌, ℕ, zero, suc, Bool, true, false, not, List, [], ◌∷◌, ◌++◌, reverse, Option, Some, None, max, refl, ap, sym, ◌∙◌, take, append_assoc}
+use Rattle.std.proofs.Common.{
+  ◌≡◌,
+  ℕ,
+  zero,
+  suc,
+  Bool,
+  true,
+  false,
+  not,
+  List,
+  [],
+  ◌∷◌,
+  ◌++◌,
+  reverse,
+  Option,
+  Some,
+  None,
+  max,
+  refl,
+  ap,
+  sym,
+  ◌∙◌,
+  take,
+  append_assoc,
+}
 use Rattle.std.proofs.lemmas.Bool.{cond-true, cond-false, not-true, not-false}
 use Rattle.std.proofs.lemmas.List.{reverse-append}
 use Rattle.c_type_terms.specs.declared.tables.Tables.{Tables}

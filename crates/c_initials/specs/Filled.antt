@@ -1,12 +1,46 @@
 -- What the code holds of a list in braces (C99 6.7.8): all but the scope behind it.
-use Rattle.std.specs.Prelude.{ℕ, nat_lt, ℤ, pos, negsuc, Bool, true, false, cond, not, ◌||◌, List, [], ◌∷◌, Option, Some, None, Result, Ok, Err}
+use Rattle.std.specs.Prelude.{
+  ℕ,
+  nat_lt,
+  ℤ,
+  pos,
+  negsuc,
+  Bool,
+  true,
+  false,
+  cond,
+  not,
+  ◌||◌,
+  List,
+  [],
+  ◌∷◌,
+  Option,
+  Some,
+  None,
+  Result,
+  Ok,
+  Err,
+}
 use Rattle.c_type_terms.specs.declared.ctype.Derivation.{Derivation}
 use Rattle.c_type_terms.specs.declared.ctype.Derivation.TheVariants as d
 use Rattle.c_type_terms.specs.declared.tables.Tables.{Tables}
 use Rattle.c_says.specs.declared.scope.Fault.{Fault}
 use Rattle.c_says.specs.Scopes.{Scope}
 use Rattle.c_says.specs.Typing.{Typed}
-use Rattle.c_says.specs.Initials.{Part, Frame, Filling, Fills, at_number, has_part, part_at, is_scalar_part, is_whole_of, stepped, started, part_count}
+use Rattle.c_says.specs.Initials.{
+  Part,
+  Frame,
+  Filling,
+  Fills,
+  at_number,
+  has_part,
+  part_at,
+  is_scalar_part,
+  is_whole_of,
+  stepped,
+  started,
+  part_count,
+}
 
 pub record Filled : Type 0 where
   pub frames : List Frame

@@ -130,8 +130,8 @@ impl Model for Found {
     ghost view = { λ x. (x.part, x.frames) };
 }
 
-/// One step down: the next part of the innermost frame, where the expression initialises it, or that part as the innermost
-/// frame.
+/// One step down: the next part of the innermost frame, where the expression initialises it, or that part as the
+/// innermost frame.
 fn descended(
     alloc: Global,
     scope: &Scope,

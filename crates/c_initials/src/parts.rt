@@ -100,8 +100,8 @@ fn member_count(tables: &Tables, ctype: &CType) -> usize
     }
 }
 
-/// Whether an object of the type has a part of this number, from 0: in an array of unknown length always, in a scalar the
-/// scalar itself.
+/// Whether an object of the type has a part of this number, from 0: in an array of unknown length always, in a scalar
+/// the scalar itself.
 pub(crate) fn has_part(tables: &Tables, ctype: &CType, index: u64) -> bool
     ensures { result ≡ spec.has_part tables.now ctype.now index }
 {

@@ -206,9 +206,9 @@ fn value_alone(
     fills_part(alloc, scope, told, part, filling)
 }
 
-/// What an initializer says of an object of a type that is declared with it: the parts that it initialises, in the order
-/// of its expressions, how many of the object's own parts were met, and the rules that it breaks. It fails for want of
-/// memory alone.
+/// What an initializer says of an object of a type that is declared with it: the parts that it initialises, in the
+/// order of its expressions, how many of the object's own parts were met, and the rules that it breaks. It fails for
+/// want of memory alone.
 #[tactic(auto, using(crate::proofs::Listed::says_value, crate::proofs::Listed::says_list))]
 pub fn filling_of(
     alloc: Global,

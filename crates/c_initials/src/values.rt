@@ -54,8 +54,8 @@ fn is_same(ctype: &CType, shown: &Option<Shown>) -> bool
     }
 }
 
-/// Whether an expression of its structure or union type, or a literal, initialises a whole object (C99 6.7.8p13, p14). It
-/// fails for want of memory alone.
+/// Whether an expression of its structure or union type, or a literal, initialises a whole object (C99 6.7.8p13, p14).
+/// It fails for want of memory alone.
 pub(crate) fn is_whole_of(alloc: Global, ctype: &CType, told: &Told) -> Result<bool, AllocError>
     ensures { IfOk result (λ b. b ≡ spec.is_whole_of ctype.now (typed_in told.now scopes.empty)) }
 {

@@ -5,7 +5,7 @@ use Rattle.c_says.specs.declared.scope.LayoutRule.{LayoutRule}
 use Rattle.c_says.specs.declared.scope.LayoutRule.TheVariants as layout
 use Rattle.c_says.specs.declared.scope.Rule.{Rule}
 use Rattle.c_says.specs.declared.scope.Rule.TheVariants as rule
-use Rattle.c_says.specs.Typing.{cause_in}
+use Rattle.c_says.specs.Typing.{fault_at, cause_in}
 use Rattle.c_types.specs.Causes.{first_cause}
 
 abbrev or_not_constant : Option LayoutRule → LayoutRule
@@ -69,3 +69,11 @@ cause_first (f ∷ fs) gs r e = first_by f.rule (first_cause fs) (first_cause (f
 pub cause_then : (fs gs : List Fault) → first_cause fs ≡ None → first_cause (fs ++ gs) ≡ first_cause gs
 cause_then [] gs e = refl
 cause_then (f ∷ fs) gs e = then_by f.rule (first_cause fs) (first_cause (fs ++ gs)) (first_cause gs) (λ h. cause_then fs gs h) e
+
+pub first_found : (f : Fault) (fs : List Fault) (r : LayoutRule) → first_cause (fault_at 0 f.rule) ≡ Some r
+    → first_cause (f ∷ fs) ≡ Some r
+first_found f fs r e = first_by f.rule None (first_cause fs) r (λ h. cc) e
+
+pub first_next : (f : Fault) (fs : List Fault) → first_cause (fault_at 0 f.rule) ≡ None
+    → first_cause (f ∷ fs) ≡ first_cause fs
+first_next f fs e = then_by f.rule None (first_cause fs) (first_cause fs) (λ h. refl) e

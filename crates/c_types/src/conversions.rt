@@ -27,7 +27,8 @@ pub fn promote(alloc: Global, ctype: &CType) -> CType
     CType::basic(alloc, Base::Integer(kind_of(ctype).promoted()))
 }
 
-/// The type to which the usual arithmetic conversions bring values of two integer types (C99 6.3.1.8). It takes no memory.
+/// The type to which the usual arithmetic conversions bring values of two integer types (C99 6.3.1.8). It takes no
+/// memory.
 pub fn usual(alloc: Global, left: &CType, right: &CType) -> CType
     requires left { types.is_integer left.now ≡ true }
     requires right { types.is_integer right.now ≡ true }
