@@ -50,7 +50,16 @@ impl<
         ensures runs { RunsTo (λ x. worth x.value) result (state m.new) (runs_as is_used (part e.now scope.old) (L.level self.now.context.now) (env_of self.now.frame.now) base (state m.old)) }
         ensures facts { IfOk result (λ x. Tells (L.level self.now.context.now) base scope.new x.facts (part e.now scope.old)) }
     {
-        (self.value)(self.alloc, self.context, self.frame, e, is_used, scope, base, m)
+        (self.value)(
+            self.alloc,
+            self.context,
+            self.frame,
+            e,
+            is_used,
+            scope,
+            base,
+            m,
+        )
     }
 
     /// Evaluates a part whose value is used.

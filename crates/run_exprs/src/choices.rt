@@ -105,12 +105,26 @@ impl<
         if m.branch(at, &value)? {
             let y = self.used(right, scope, next, m)?;
             let Used { told, value, next } = y;
-            let told = binary(self.alloc, scope.tables(), at, BinaryOperator::LogicalAnd, left, told)?;
+            let told = binary(
+                self.alloc,
+                scope.tables(),
+                at,
+                BinaryOperator::LogicalAnd,
+                left,
+                told,
+            )?;
             Ok(numbered(told, next, i128::from(!value.is_zero())))
         } else {
             let y = self.skip_used(right, scope, next)?;
             let Used { told, next, .. } = y;
-            let told = binary(self.alloc, scope.tables(), at, BinaryOperator::LogicalAnd, left, told)?;
+            let told = binary(
+                self.alloc,
+                scope.tables(),
+                at,
+                BinaryOperator::LogicalAnd,
+                left,
+                told,
+            )?;
             Ok(numbered(told, next, 0))
         }
     }
@@ -141,12 +155,26 @@ impl<
         if m.branch(at, &value)? {
             let y = self.skip_used(right, scope, next)?;
             let Used { told, next, .. } = y;
-            let told = binary(self.alloc, scope.tables(), at, BinaryOperator::LogicalOr, left, told)?;
+            let told = binary(
+                self.alloc,
+                scope.tables(),
+                at,
+                BinaryOperator::LogicalOr,
+                left,
+                told,
+            )?;
             Ok(numbered(told, next, 1))
         } else {
             let y = self.used(right, scope, next, m)?;
             let Used { told, value, next } = y;
-            let told = binary(self.alloc, scope.tables(), at, BinaryOperator::LogicalOr, left, told)?;
+            let told = binary(
+                self.alloc,
+                scope.tables(),
+                at,
+                BinaryOperator::LogicalOr,
+                left,
+                told,
+            )?;
             Ok(numbered(told, next, i128::from(!value.is_zero())))
         }
     }

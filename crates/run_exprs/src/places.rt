@@ -94,7 +94,13 @@ impl<
         ensures facts { let p = part operand.now scope.old in IfOk result (λ x. Tells (L.level self.now.context.now) base scope.new x.facts (form.indirection at p)) }
     {
         let Used { told, value, next } = self.used(operand, scope, base, m)?;
-        let told = unary(self.alloc, scope.tables(), at, UnaryOperator::Indirection, told)?;
+        let told = unary(
+            self.alloc,
+            scope.tables(),
+            at,
+            UnaryOperator::Indirection,
+            told,
+        )?;
         Ok(Placed {
             facts: Facts {
                 told,
