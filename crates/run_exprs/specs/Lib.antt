@@ -1,3 +1,4 @@
 pub mod Frames
 pub mod Tells
 pub mod Below
+pub mod Names

@@ -10,8 +10,8 @@ ghost use Rattle.c_machine.specs.Worth.{worth};
 use bit_words::Bytes;
 use c_machine::{Halt, Machine, Operand, Value, bytes_as};
 use c_says::Told;
-use c_tree::BinaryOperator;
-use c_type_terms::{CType, Class, Tables};
+use c_tree::{BinaryOperator, UnaryOperator};
+use c_type_terms::{CType, Class, IntegerKind, Tables};
 use std::alloc::{AllocError, Global};
 
 /// What the types say of an expression, whether the root of the lvalue that it is is a name, its bytes where it is a
@@ -155,4 +155,63 @@ pub(crate) fn operate(
     let x = operand(alloc, tables, left, v)?;
     let y = operand(alloc, tables, right, w)?;
     m.operated(at, operator, &x, &y)
+}
+
+/// An operand of `++` or `--`, as it was read and as it was stored.
+#[derive(Drop)]
+pub struct Stepped {
+    pub facts: Facts,
+    pub before: Value,
+    pub after: Value,
+}
+
+/// A value once more. It fails for want of memory alone.
+pub(crate) fn value_again(alloc: Global, value: &Value) -> Result<Value, AllocError>
+    ensures { IfOk result (λ v. worth v ≡ worth value.now) }
+{
+    match value {
+        Value::Number(number) => Ok(Value::Number(*number)),
+        Value::Bytes(bytes) => Ok(Value::Bytes(Bytes::from_slice(alloc, bytes.as_slice())?)),
+    }
+}
+
+/// A value and 1, added or subtracted (C99 6.5.2.4p2).
+pub(crate) fn step(
+    alloc: Global,
+    tables: &Tables,
+    at: u32,
+    operator: BinaryOperator,
+    used: &Told,
+    value: Value,
+    m: &mut Machine,
+) -> Result<i128, Halt>
+    ensures world { m.new.world ≡ m.old.world }
+    ensures runs { Runs result (state m.new) (means.operated at operator
+        (means.operand_of tables.now (type_in used.now.shown) (worth value)) means.one (state m.old)) }
+{
+    let x = operand(alloc, tables, used, value)?;
+    let one = Operand {
+        kind: Some(IntegerKind::Int),
+        element: 0,
+        value: Value::Number(1),
+    };
+    m.operated(at, operator, &x, &one)
+}
+
+/// `+`, `-` or `~` of a value (C99 6.5.3.3p2 to p4).
+pub(crate) fn turn(
+    alloc: Global,
+    tables: &Tables,
+    at: u32,
+    operator: UnaryOperator,
+    used: &Told,
+    value: Value,
+    m: &mut Machine,
+) -> Result<i128, Halt>
+    ensures world { m.new.world ≡ m.old.world }
+    ensures runs { Runs result (state m.new) (means.turned_value at operator
+        (means.operand_of tables.now (type_in used.now.shown) (worth value)) (state m.old)) }
+{
+    let x = operand(alloc, tables, used, value)?;
+    m.turned(at, operator, &x)
 }
