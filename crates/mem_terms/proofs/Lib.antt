@@ -1,3 +1,4 @@
 pub mod Space
 pub mod SeenLemmas
 pub mod TruthLemmas
+pub mod Rows

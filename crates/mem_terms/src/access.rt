@@ -1,7 +1,8 @@
 ghost use Rattle.std.specs.Prelude.{nat_eq, not, ◌&&◌};
 ghost use Rattle.bit_words.specs.declared.width.Width.TheVariants.{W64};
 ghost use Rattle.c_store.specs.Store.{object_of, offset_of};
-ghost use Rattle.c_store.specs.Access.{can_access as may_access, can_write as may_write, can_free as may_free, in_one_object as are_in_one_object, is_live as live_in, is_literal, is_heap};
+ghost use Rattle.c_store.specs.Access.{can_access as may_access, can_write as may_write, can_free as may_free};
+ghost use Rattle.c_store.specs.Access.{in_one_object as are_in_one_object, is_live as live_in, is_literal, is_heap};
 ghost use Rattle.term_bank.specs.Memories.{has_kind as kind_in};
 ghost use Rattle.term_bank.specs.Terms.{IsTerm};
 ghost use Rattle.term_bank.specs.Values.{of_truth, of_word};
@@ -43,7 +44,8 @@ fn is_zero(bank: &mut Bank, word: Node) -> Result<Node, BankFault>
 /// Whether an address is its object's first.
 fn is_start(bank: &mut Bank, address: Node) -> Result<Node, BankFault>
     requires { IsTerm bank.old (Word W64) address }
-    ensures { Gives bank.old bank.new Truth (λ v. of_truth (nat_eq (offset_of (v address.index).word) 0)) result }
+    ensures { Gives bank.old bank.new Truth
+        (λ v. of_truth (nat_eq (offset_of (v address.index).word) 0)) result }
 {
     let behind = offset(bank, address)?;
     is_zero(bank, behind)
@@ -58,7 +60,8 @@ fn kind_at(
 ) -> Result<Node, BankFault>
     requires memory { IsTerm bank.old Memory memory }
     requires address { IsTerm bank.old (Word W64) address }
-    ensures { Gives bank.old bank.new Truth (λ v. of_truth (kind_in kind ((v memory.index).store.objects (object_of (v address.index).word)))) result }
+    ensures { Gives bank.old bank.new Truth
+        (λ v. of_truth (kind_in kind ((v memory.index).store.objects (object_of (v address.index).word)))) result }
 {
     let object = object_number(bank, address)?;
     has_kind(bank, memory, kind, object)
@@ -68,7 +71,8 @@ fn kind_at(
 fn in_object(bank: &mut Bank, memory: Node, address: Node) -> Result<Node, BankFault>
     requires memory { IsTerm bank.old Memory memory }
     requires address { IsTerm bank.old (Word W64) address }
-    ensures { Gives bank.old bank.new Truth (λ v. of_truth (live_in (v memory.index).store (v address.index).word 0)) result }
+    ensures { Gives bank.old bank.new Truth
+        (λ v. of_truth (live_in (v memory.index).store (v address.index).word 0)) result }
 {
     let nothing = bank.word(0, Width::W64)?;
     is_live(bank, memory, address, nothing)
@@ -79,7 +83,9 @@ fn in_objects(bank: &mut Bank, memory: Node, left: Node, right: Node) -> Result<
     requires memory { IsTerm bank.old Memory memory }
     requires left { IsTerm bank.old (Word W64) left }
     requires right { IsTerm bank.old (Word W64) right }
-    ensures { Gives bank.old bank.new Truth (λ v. of_truth (live_in (v memory.index).store (v left.index).word 0 && live_in (v memory.index).store (v right.index).word 0)) result }
+    ensures { Gives bank.old bank.new Truth
+        (λ v. of_truth (live_in (v memory.index).store (v left.index).word 0
+        && live_in (v memory.index).store (v right.index).word 0)) result }
 {
     let one = in_object(bank, memory, left)?;
     let other = in_object(bank, memory, right)?;
@@ -90,7 +96,8 @@ fn in_objects(bank: &mut Bank, memory: Node, left: Node, right: Node) -> Result<
 fn of_one_number(bank: &mut Bank, left: Node, right: Node) -> Result<Node, BankFault>
     requires left { IsTerm bank.old (Word W64) left }
     requires right { IsTerm bank.old (Word W64) right }
-    ensures { Gives bank.old bank.new Truth (λ v. of_truth (nat_eq (object_of (v left.index).word) (object_of (v right.index).word))) result }
+    ensures { Gives bank.old bank.new Truth
+        (λ v. of_truth (nat_eq (object_of (v left.index).word) (object_of (v right.index).word))) result }
 {
     let one = object_number(bank, left)?;
     let other = object_number(bank, right)?;
@@ -107,7 +114,8 @@ pub fn can_access(
     requires memory { IsTerm bank.old Memory memory }
     requires address { IsTerm bank.old (Word W64) address }
     requires length { IsTerm bank.old (Word W64) length }
-    ensures { Gives bank.old bank.new Truth (λ v. of_truth (may_access (v memory.index).store (v address.index).word (v length.index).word)) result }
+    ensures { Gives bank.old bank.new Truth
+        (λ v. of_truth (may_access (v memory.index).store (v address.index).word (v length.index).word)) result }
 {
     let nothing = is_zero(bank, length)?;
     let live = is_live(bank, memory, address, length)?;
@@ -118,7 +126,8 @@ pub fn can_access(
 fn no_literal(bank: &mut Bank, memory: Node, address: Node) -> Result<Node, BankFault>
     requires memory { IsTerm bank.old Memory memory }
     requires address { IsTerm bank.old (Word W64) address }
-    ensures { Gives bank.old bank.new Truth (λ v. of_truth (not (is_literal ((v memory.index).store.objects (object_of (v address.index).word))))) result }
+    ensures { Gives bank.old bank.new Truth
+        (λ v. of_truth (not (is_literal ((v memory.index).store.objects (object_of (v address.index).word))))) result }
 {
     let literal = kind_at(bank, memory, ObjectKind::Literal, address)?;
     bank.not(literal)
@@ -134,7 +143,8 @@ pub fn can_write(
     requires memory { IsTerm bank.old Memory memory }
     requires address { IsTerm bank.old (Word W64) address }
     requires length { IsTerm bank.old (Word W64) length }
-    ensures { Gives bank.old bank.new Truth (λ v. of_truth (may_write (v memory.index).store (v address.index).word (v length.index).word)) result }
+    ensures { Gives bank.old bank.new Truth
+        (λ v. of_truth (may_write (v memory.index).store (v address.index).word (v length.index).word)) result }
 {
     let nothing = is_zero(bank, length)?;
     let other = no_literal(bank, memory, address)?;
@@ -145,7 +155,9 @@ pub fn can_write(
 fn is_allocated(bank: &mut Bank, memory: Node, address: Node) -> Result<Node, BankFault>
     requires memory { IsTerm bank.old Memory memory }
     requires address { IsTerm bank.old (Word W64) address }
-    ensures { Gives bank.old bank.new Truth (λ v. of_truth (is_heap ((v memory.index).store.objects (object_of (v address.index).word)) && nat_eq (offset_of (v address.index).word) 0)) result }
+    ensures { Gives bank.old bank.new Truth
+        (λ v. of_truth (is_heap ((v memory.index).store.objects (object_of (v address.index).word))
+        && nat_eq (offset_of (v address.index).word) 0)) result }
 {
     let heap = kind_at(bank, memory, ObjectKind::Heap, address)?;
     let first = is_start(bank, address)?;
@@ -156,7 +168,8 @@ fn is_allocated(bank: &mut Bank, memory: Node, address: Node) -> Result<Node, Ba
 pub fn can_free(bank: &mut Bank, memory: Node, address: Node) -> Result<Node, BankFault>
     requires memory { IsTerm bank.old Memory memory }
     requires address { IsTerm bank.old (Word W64) address }
-    ensures { Gives bank.old bank.new Truth (λ v. of_truth (may_free (v memory.index).store (v address.index).word)) result }
+    ensures { Gives bank.old bank.new Truth
+        (λ v. of_truth (may_free (v memory.index).store (v address.index).word)) result }
 {
     let null = is_zero(bank, address)?;
     let allocated = is_allocated(bank, memory, address)?;
@@ -173,7 +186,8 @@ pub fn in_one_object(
     requires memory { IsTerm bank.old Memory memory }
     requires left { IsTerm bank.old (Word W64) left }
     requires right { IsTerm bank.old (Word W64) right }
-    ensures { Gives bank.old bank.new Truth (λ v. of_truth (are_in_one_object (v memory.index).store (v left.index).word (v right.index).word)) result }
+    ensures { Gives bank.old bank.new Truth
+        (λ v. of_truth (are_in_one_object (v memory.index).store (v left.index).word (v right.index).word)) result }
 {
     let both = in_objects(bank, memory, left, right)?;
     let same = of_one_number(bank, left, right)?;

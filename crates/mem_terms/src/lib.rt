@@ -11,3 +11,6 @@ pub use memory::{
     zero_range,
 };
 pub use seen::octets;
+
+#[cfg(test)]
+mod tests;

@@ -1,7 +1,8 @@
 ghost use Rattle.bit_words.specs.declared.width.Width.TheVariants.{W64};
 ghost use Rattle.term_bank.specs.Terms.{IsTerm, Makes};
 ghost use Rattle.term_bank.specs.declared.sort.Sort.TheVariants.{Truth, Word, Memory};
-ghost use Rattle.term_bank.specs.declared.shape.Shape.TheVariants.{Initial, Write, ZeroRange, CopyRange, Made, Ended, Read, ObjectSize, IsLive, HasKind, Choose};
+ghost use Rattle.term_bank.specs.declared.shape.Shape.TheVariants.{Initial, Write, ZeroRange, CopyRange, Made, Ended};
+ghost use Rattle.term_bank.specs.declared.shape.Shape.TheVariants.{Read, ObjectSize, IsLive, HasKind, Choose};
 
 use crate::seen::seen;
 use bit_words::Width;
@@ -80,8 +81,8 @@ pub fn copy_range(
     })
 }
 
-/// The word at an address, little endian. Changes that constants tell to be beside it are passed over, and a word that was
-/// written there last is the answer.
+/// The word at an address, little endian. Changes that constants tell to be beside it are passed over, and a word
+/// that was written there last is the answer.
 pub fn read(bank: &mut Bank, memory: Node, address: Node, width: Width) -> Result<Node, BankFault>
     requires memory { IsTerm bank.old Memory memory }
     requires address { IsTerm bank.old (Word W64) address }

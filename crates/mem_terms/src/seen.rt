@@ -67,8 +67,8 @@ fn before(bank: &Bank, memory: u32, address: Node, width: Width) -> Option<u32>
     }
 }
 
-/// The earliest memory in which the changes that are passed over, since constants tell that they don't reach them, leave a
-/// word's bytes at an address as they are.
+/// The earliest memory in which a word's bytes at an address are those of the memory: changes are passed over that
+/// constants tell to be beside them.
 pub fn seen(bank: &Bank, memory: Node, address: Node, width: Width) -> Node
     requires memory { IsTerm bank.now Memory memory }
     requires address { IsTerm bank.now (Word W64) address }

@@ -28,8 +28,8 @@ impl From<AllocError> for BankFault {
     }
 }
 
-/// Shapes in the order in which they were made, each once, and each over nodes with smaller numbers. Contracts see it as
-/// the list of shapes; in each environment exactly one value of each node agrees with all shapes.
+/// Shapes in the order in which they were made, each once, and each over nodes with smaller numbers. Contracts see
+/// it as the list of shapes; in each environment exactly one value of each node agrees with all shapes.
 #[derive(Drop)]
 pub struct Bank {
     pub(crate) alloc: Global,

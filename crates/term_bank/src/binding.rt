@@ -15,8 +15,8 @@ use plain_data::Items;
 use std::alloc::{AllocError, Global};
 use std::collections::HashMap;
 
-/// The nodes that are put in for the entry memory, for the parameters by their numbers, and for the base. A parameter that
-/// has no node is 0, and one of another width is converted as an unsigned word.
+/// The nodes that are put in for the entry memory, for the parameters by their numbers, and for the base. A parameter
+/// that has no node is 0, and one of another width is converted as an unsigned word.
 #[derive(Drop)]
 pub struct Binding {
     pub entry: Node,
@@ -272,8 +272,8 @@ impl Bank {
         }
     }
 
-    /// Nodes that have the values that the roots have where the entry memory, the parameters and the base have the values
-    /// of the binding's nodes. The time is that of the nodes under the roots, however many others there are.
+    /// Nodes that have the values that the roots have where the entry memory, the parameters and the base have the
+    /// values of the binding's nodes. The time is that of the nodes under the roots, however many others there are.
     pub fn substitute(
         &mut self,
         roots: &[Node],

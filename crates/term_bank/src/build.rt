@@ -3,7 +3,8 @@ ghost use Rattle.bit_words.specs.Words.{bits};
 ghost use Rattle.bit_words.specs.declared.width.Width.TheVariants.{W64};
 ghost use Rattle.term_bank.specs.Terms.{IsTerm, Makes};
 ghost use Rattle.term_bank.specs.declared.sort.Sort.TheVariants.{Truth, Word};
-ghost use Rattle.term_bank.specs.declared.shape.Shape.TheVariants.{Flag, Constant, Parameter, Base, Entry, WorldWord, Binary, Test, Convert, Not, Connect, Choose};
+ghost use Rattle.term_bank.specs.declared.shape.Shape.TheVariants.{Flag, Constant, Parameter, Base, Entry, WorldWord};
+ghost use Rattle.term_bank.specs.declared.shape.Shape.TheVariants.{Binary, Test, Convert, Not, Connect, Choose};
 
 use crate::bank::{Bank, BankFault};
 use crate::shape::{Connective, Extension, Shape, WordOperator, WordTest};

@@ -118,7 +118,8 @@ fn add_nodes(nodes: &[Node], set: &mut BTreeSet<u32>) -> Result<(), AllocError>
 
 /// Puts the numbers of a node's parts into a set.
 fn add_parts_of(bank: &Bank, number: u32, set: &mut BTreeSet<u32>) -> Result<(), AllocError>
-    ensures parts { (shape : _) → slice_get bank.now number ≡ Some shape → OnOk result (Adds set.old set.new (numbers_of (parts shape))) }
+    ensures parts { (shape : _) → slice_get bank.now number ≡ Some shape →
+        OnOk result (Adds set.old set.new (numbers_of (parts shape))) }
     ensures bank { IsBank bank.now }
 {
     match bank.shape(number) {
