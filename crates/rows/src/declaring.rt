@@ -1,8 +1,8 @@
 //! Sources, answered by what their declarations declare in the file (C99 6.7).
 //!
 //! - `types`: for each declaration the rules that it breaks (`fault AT RULE`), its enumeration constants
-//!   (`NAME = VALUE`) and its names with their types; behind `=` the type and value of an initializer of an object of
-//!   integer type.
+//!   (`NAME = VALUE`) and its names with their types; where it breaks none, behind `=` the type and value of an
+//!   initializer of an object of integer type, and behind `of` the type whose size that is.
 //! - `layouts`: `object NAME SIZE ALIGN`, `member PATH OFFSET SIZE`, `constant NAME VALUE`, `value NAME VALUE`.
 use crate::type_texts::type_text;
 use anyhow::Result;
@@ -176,17 +176,20 @@ fn initial_value<'a>(entry: &Entry, item: &'a InitDeclarator) -> Option<&'a Shar
     }
 }
 
-/// A name that a declarator declares.
+/// A name that a declarator declares, with its initializer where that is shown.
 fn put_name(
     alloc: Global,
     text: &mut String,
     shows: Shows,
     entry: &Entry,
-    item: &InitDeclarator,
+    item: Option<&InitDeclarator>,
     scope: &mut Scope,
 ) -> Result<()> {
     let name = name_text(alloc, &entry.name)?;
-    let initial = initial_value(entry, item);
+    let initial = match item {
+        Some(item) => initial_value(entry, item),
+        None => None,
+    };
     match shows {
         Shows::Types => {
             let line = entry_text(alloc, scope, name.as_str(), &entry.means)?;
@@ -251,7 +254,12 @@ fn put_declaration(
         .iter()
         .zip(declaration.declarators.as_slice())
     {
-        put_name(alloc, text, shows, entry.get(), item, scope)?;
+        let shown = if said.faults.is_empty() {
+            Some(item)
+        } else {
+            None
+        };
+        put_name(alloc, text, shows, entry.get(), shown, scope)?;
     }
     Ok(seen)
 }
