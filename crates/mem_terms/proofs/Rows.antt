@@ -1,6 +1,6 @@
 -- Worked rows of the definitions: a store of bytes written, zeroed, copied onto itself with an overlap, read in every
 -- width and around the end of the address space; an object's size and kind before and after its end.
-use Rattle.std.proofs.Common.{◌≡◌, ◌-◌, ◌^◌, ℕ, Bool, true, false, refl}
+use Rattle.std.proofs.Common.{◌≡◌, ◌-◌, ◌^◌, true, false, refl}
 use Rattle.c_store.specs.declared.object.ObjectKind.TheVariants.{Heap, Static}
 use Rattle.c_store.specs.Store.{Store, initial, make, end, object_size}
 use Rattle.c_store.specs.Access.{is_live}

@@ -1,19 +1,19 @@
 -- Changes of a memory that don't reach what is read.
-use Rattle.std.proofs.Common.{◌≡◌, ◌<◌, ◌≤◌, ◌+◌, ◌^◌, ◌∷◌, [], ◌⊎◌, ℕ, List, Some, arith, refl, sym, ap, subst, ◌∙◌}
+use Rattle.std.proofs.Common.{◌≡◌, ◌<◌, ◌^◌, ℕ, List, Some, arith, refl, sym, ap, subst, ◌∙◌}
 use Rattle.std.specs.Prelude.{slice_get, Result, Ok, Err, IfOk}
 use Rattle.term_bank.specs.declared.bank.BankFault.{BankFault}
 use Rattle.term_bank.specs.Terms.{Makes}
 use Rattle.bit_words.specs.declared.width.Width.{Width}
 use Rattle.bit_words.specs.declared.width.Width.TheVariants.{W8, W16, W32, W64}
 use Rattle.c_store.specs.declared.object.ObjectKind.{ObjectKind}
-use Rattle.c_store.specs.Store.{Store, byte_of, make, end, spelt}
-use Rattle.term_bank.specs.declared.sort.Sort.TheVariants.{Memory, Word}
+use Rattle.c_store.specs.Store.{Store, byte_of, spelt}
+use Rattle.term_bank.specs.declared.sort.Sort.TheVariants.{Word}
 use Rattle.term_bank.specs.declared.sort.Node.{Node}
 use Rattle.term_bank.specs.declared.shape.Shape.{Shape}
 use Rattle.term_bank.specs.declared.shape.Shape.TheVariants.{Constant, Write, Made, Ended, Read}
 use Rattle.term_bank.specs.Memories.{octets, read, write, behind}
-use Rattle.term_bank.specs.Shapes.{IsNode, memory, word}
-use Rattle.term_bank.specs.Values.{Environment, Worth, Values, Models, Grows, IsWorth, worth, of_word}
+use Rattle.term_bank.specs.Shapes.{IsNode, word}
+use Rattle.term_bank.specs.Values.{Environment, Worth, Values, Models, Grows, IsWorth, of_word}
 use Rattle.term_bank.specs.Banks.{IsBank}
 use Rattle.term_bank.specs.Folds.{IsConstant}
 use Rattle.term_bank.proofs.BankLemmas.{weaken, stays}

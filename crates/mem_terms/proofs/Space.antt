@@ -1,11 +1,11 @@
 -- Memory terms have an address space of 2 ^ 64 addresses that goes round. Where a range doesn't cross its end, each
 -- operation is the store's.
-use Rattle.std.proofs.Common.{◌≡◌, ◌<◌, ◌≤◌, ◌+◌, ◌-◌, ◌%◌, ◌^◌, ◌⊎◌, ℕ, zero, suc, Bool, true, false, cond, nat_lt, nat_le, arith, inl, inr, refl, sym, ap, ◌∙◌}
+use Rattle.std.proofs.Common.{◌≡◌, ◌<◌, ◌≤◌, ◌+◌, ◌-◌, ◌^◌, ◌⊎◌, ℕ, Bool, true, false, cond, nat_lt, arith, inl, inr, refl, ap, ◌∙◌}
 use Rattle.std.proofs.lemmas.Bool.Decides.{nat_tests}
 use Rattle.c_store.specs.Store.{Store, byte_of, spelt}
 use Rattle.c_store.specs.Store as stores
 use Rattle.c_store.proofs.Laws.{store_ext, spelt_same, spelt_bytes}
-use Rattle.term_bank.specs.Memories.{behind, distance, is_within, lay, write, zero_range, copy_range, read}
+use Rattle.term_bank.specs.Memories.{behind, distance, is_within, lay, write, zero_range, read}
 
 behind_small : (a i : ℕ) → a + i < 2 ^ 64 → behind a i ≡ a + i
 unfolding behind

@@ -1,13 +1,13 @@
 -- What the parts of a term say of its value.
-use Rattle.std.proofs.Common.{◌≡◌, ◌+◌, ◌%◌, ◌/◌, ◌^◌, ◌-◌, ℕ, List, Bool, true, false, cond, nat_eq, refl, sym, ap, ◌∙◌}
-use Rattle.std.specs.Prelude.{Result, Ok, Err, IfOk, not, ◌&&◌, ◌||◌, bit_and, Option, Some, None}
+use Rattle.std.proofs.Common.{◌≡◌, ℕ, List, Bool, true, false, cond, nat_eq, refl, ap, ◌∙◌}
+use Rattle.std.specs.Prelude.{Result, Ok, Err, IfOk, not, ◌&&◌, ◌||◌, Option, Some, None}
 use Rattle.std.proofs.lemmas.Nat.{and_mask}
 use Rattle.bit_words.specs.declared.width.Width.TheVariants.{W64}
 use Rattle.c_store.specs.declared.object.Object.{Object}
 use Rattle.c_store.specs.declared.object.ObjectKind.{ObjectKind}
 use Rattle.c_store.specs.declared.object.ObjectKind.TheVariants as kind
-use Rattle.c_store.specs.Store.{Store, object_of, offset_of}
-use Rattle.c_store.specs.Access.{is_live, is_literal, is_heap, can_access, can_write, can_free, in_one_object}
+use Rattle.c_store.specs.Store.{object_of, offset_of}
+use Rattle.c_store.specs.Access.{is_live, is_literal, is_heap}
 use Rattle.term_bank.specs.declared.sort.Sort.{Sort}
 use Rattle.term_bank.specs.declared.sort.Node.{Node}
 use Rattle.term_bank.specs.declared.bank.BankFault.{BankFault}
@@ -15,11 +15,11 @@ use Rattle.term_bank.specs.declared.shape.WordOperator.TheVariants as operator
 use Rattle.term_bank.specs.declared.shape.WordTest.TheVariants as test
 use Rattle.term_bank.specs.declared.shape.Connective.TheVariants as connective
 use Rattle.term_bank.specs.declared.shape.Shape.{Shape}
-use Rattle.term_bank.specs.declared.shape.Shape.TheVariants.{Constant, Binary, Test, Not, Connect, IsLive, HasKind}
+use Rattle.term_bank.specs.declared.shape.Shape.TheVariants.{Constant, Binary, Test, Not, Connect, IsLive}
 use Rattle.term_bank.specs.Memories.{has_kind}
 use Rattle.term_bank.specs.Shapes.{sort_of}
 use Rattle.term_bank.specs.Values.{Environment, Worth, Values, Models, Grows, IsWorth, worth, of_truth, of_word, result_of, outcome_of}
-use Rattle.term_bank.specs.Terms.{IsTerm, Makes}
+use Rattle.term_bank.specs.Terms.{Makes}
 use Rattle.term_bank.proofs.BankLemmas.{weaken, grows_on}
 use Rattle.mem_terms.specs.Truths.{HasWorth, Gives}
 

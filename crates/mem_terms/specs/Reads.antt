@@ -1,6 +1,5 @@
 -- What a read of a memory finds.
 use Rattle.std.specs.Prelude.{◌≡◌, ◌+◌, ◌≤◌, ◌<◌, ◌^◌, ◌⊎◌, ℕ, List}
-use Rattle.term_bank.specs.declared.sort.Sort.TheVariants.{Memory}
 use Rattle.term_bank.specs.declared.sort.Node.{Node}
 use Rattle.term_bank.specs.declared.shape.Shape.{Shape}
 use Rattle.term_bank.specs.Memories.{read}

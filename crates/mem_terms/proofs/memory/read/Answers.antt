@@ -1,5 +1,4 @@
-use Rattle.std.proofs.Common.{◌≡◌, ◌∙◌, Some, ap, sym, true}
-use Rattle.bit_words.specs.declared.width.Width.TheVariants.{W64}
+use Rattle.std.proofs.Common.{◌∙◌, Some, ap, sym}
 use Rattle.term_bank.specs.declared.shape.Shape.TheVariants.{Read}
 use Rattle.term_bank.proofs.Equality.{width_true}
 use Rattle.term_bank.proofs.TermLemmas.{made}

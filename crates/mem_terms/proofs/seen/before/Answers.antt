@@ -1,7 +1,5 @@
-use Rattle.std.proofs.Common.{◌≡◌, ◌∙◌, Some, ap, sym, subst, true}
-use Rattle.std.specs.Prelude.{slice_get}
+use Rattle.std.proofs.Common.{◌∙◌, Some, ap, sym, subst}
 use Rattle.term_bank.specs.Memories.{octets}
-use Rattle.term_bank.specs.declared.shape.Shape.TheVariants.{Write}
 use Rattle.mem_terms.specs.Reads.{AreApart}
 use Rattle.mem_terms.proofs.SeenLemmas.{before_write, before_made, before_ended, written_at}
 use Rattle.mem_terms.proofs.seen.before.Goals as goal

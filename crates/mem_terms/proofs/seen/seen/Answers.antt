@@ -1,4 +1,4 @@
-use Rattle.std.proofs.Common.{◌≡◌, refl}
+use Rattle.std.proofs.Common.{refl}
 use Rattle.term_bank.specs.Memories.{octets}
 use Rattle.mem_terms.proofs.SeenLemmas.{alike_on}
 use Rattle.mem_terms.proofs.seen.seen.Goals as goal

@@ -1,4 +1,3 @@
-use Rattle.std.proofs.Common.{ℕ}
 use Rattle.term_bank.specs.Memories.{octets}
 use Rattle.term_bank.specs.Shapes.{IsNode, memory}
 use Rattle.mem_terms.specs.Reads.{ReadsAlike}
