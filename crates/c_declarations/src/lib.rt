@@ -12,6 +12,3 @@ pub use completeness::tentative_type;
 pub use declarations::{DeclarationSaid, declaration_says};
 pub use declarators::{Declared, declares};
 pub use functions::{FunctionSaid, function_says};
-
-#[cfg(test)]
-mod tests;

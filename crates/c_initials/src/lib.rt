@@ -13,6 +13,3 @@ pub use filling::{Filling, fills_value};
 pub use frames::{Frame, Frames};
 pub use parts::Part;
 pub use trees::{filling_of, fills};
-
-#[cfg(test)]
-mod tests;

@@ -25,6 +25,3 @@ pub use constants::{const_value, layout};
 pub use conversions::{promote, usual};
 pub use faults::TypeFault;
 pub use sizes::{align_of, offset_of, size_of};
-
-#[cfg(test)]
-mod tests;
