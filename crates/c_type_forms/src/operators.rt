@@ -11,7 +11,12 @@ use c_type_terms::{CType, Class, IntegerKind, Tables};
 use std::alloc::{AllocError, Global};
 
 /// What an operator makes of two numbers, brought to the type in which it works; `&&` and `||` take them as they are.
-pub fn worked(operator: BinaryOperator, kind: IntegerKind, x: i128, y: i128) -> Result<i128, Undefined>
+pub fn worked(
+    operator: BinaryOperator,
+    kind: IntegerKind,
+    x: i128,
+    y: i128,
+) -> Result<i128, Undefined>
     ensures { result ≡ spec.worked operator kind x y }
 {
     match operator {
