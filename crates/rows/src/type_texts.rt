@@ -87,7 +87,8 @@ fn base_text(alloc: Global, tables: &Tables, base: Base) -> Result<String> {
     })
 }
 
-/// The parameters of a function, so many functions deep.
+/// The parameters of a function, so many types deep.
+#[cycle(texts)]
 fn parameters_text(alloc: Global, tables: &Tables, number: u32, depth: u32) -> Result<String> {
     let mut text = String::new(alloc);
     if depth == 0 {
@@ -114,9 +115,13 @@ fn parameters_text(alloc: Global, tables: &Tables, number: u32, depth: u32) -> R
     Ok(text)
 }
 
-/// A type, in which functions take functions so many deep.
+/// A type, so many types deep.
+#[cycle(texts)]
 fn text_within(alloc: Global, tables: &Tables, ctype: &CType, depth: u32) -> Result<String> {
     let mut text = String::new(alloc);
+    if depth == 0 {
+        return Ok(text);
+    }
     for derivation in ctype.derivations.as_slice() {
         let step = match derivation {
             Derivation::Pointer(qualifiers) => {
@@ -126,7 +131,7 @@ fn text_within(alloc: Global, tables: &Tables, ctype: &CType, depth: u32) -> Res
             Derivation::Array(Some(length)) => format!(in alloc; "array {length} of ")?,
             Derivation::Array(None) => format!(in alloc; "array of ")?,
             Derivation::Function(number) => {
-                let parameters = parameters_text(alloc, tables, *number, depth)?;
+                let parameters = parameters_text(alloc, tables, *number, depth - 1)?;
                 format!(in alloc; "function ({parameters}) returning ")?
             }
         };
@@ -139,5 +144,5 @@ fn text_within(alloc: Global, tables: &Tables, ctype: &CType, depth: u32) -> Res
 
 /// A type.
 pub fn type_text(alloc: Global, tables: &Tables, ctype: &CType) -> Result<String> {
-    text_within(alloc, tables, ctype, 16)
+    text_within(alloc, tables, ctype, 32)
 }
