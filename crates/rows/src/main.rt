@@ -2,14 +2,12 @@
 //!
 //! - `words`, `texts`, `splits`: each line is a row, and is answered by a line (the modules of these names).
 //! - `table WORD`: the rows of a table are answered, each as the module `tables` says of the word.
-//! - `tree`: the text of the tree of a preprocessed source (`trees`); `layouts`: what its declarations declare
-//!   (`declaring`).
+//! - `tree`: the text of the tree of a preprocessed source (`trees`).
 //! - `check`: whether a refutation is accepted; with `--times` also, on standard error, how long parsing and checking
 //!   took. `solve CONFLICTS`: the answers to questions about a formula (`solving`).
 #![tactic(auto)]
 
 mod checking;
-mod declaring;
 mod formulas;
 mod lexing;
 mod meeting;
@@ -19,7 +17,6 @@ mod splits;
 mod tables;
 mod texts;
 mod trees;
-mod type_texts;
 mod words;
 
 use anyhow::{Result, anyhow};
@@ -47,15 +44,6 @@ fn print_tree(rt: &(impl Input + Print + AllocGlobal)) -> Result<()> {
     Ok(())
 }
 
-/// Prints the layouts of what the source in standard input declares.
-fn print_layouts(rt: &(impl Input + Print + AllocGlobal)) -> Result<()> {
-    let mut source = Vec::new(rt.alloc());
-    rt.reader().read_to_end(&mut source)?;
-    let text = declaring::layouts_of(rt.alloc(), source.as_slice())?;
-    io::writer(rt).write_all(text.as_bytes())?;
-    Ok(())
-}
-
 /// Does what the words ask for.
 fn run(rt: &HostRuntime, word: &str, second: &str) -> Result<()> {
     match word {
@@ -63,7 +51,6 @@ fn run(rt: &HostRuntime, word: &str, second: &str) -> Result<()> {
         "texts" => answer_lines(rt, Row::Texts),
         "splits" => answer_lines(rt, Row::Splits),
         "tree" => print_tree(rt),
-        "layouts" => print_layouts(rt),
         "table" => {
             let row = Row::named(second).ok_or(anyhow!("no such table"))?;
             let text = io::read_to_string(rt.alloc(), rt.stdin())?;

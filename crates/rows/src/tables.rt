@@ -1,4 +1,4 @@
-use crate::{checking, declaring, lexing, solving, splits, texts, trees, words};
+use crate::{checking, lexing, solving, splits, texts, trees, words};
 use anyhow::Result;
 use std::alloc::Global;
 
@@ -27,10 +27,6 @@ pub enum Row {
     Placed,
     /// A source: the name of its fault.
     Fault,
-    /// A source: the types of what it declares.
-    Types,
-    /// A source: the layouts of what it declares.
-    Layouts,
 }
 
 impl Row {
@@ -48,8 +44,6 @@ impl Row {
             "tree" => Some(Row::Tree),
             "placed" => Some(Row::Placed),
             "fault" => Some(Row::Fault),
-            "types" => Some(Row::Types),
-            "layouts" => Some(Row::Layouts),
             _ => None,
         }
     }
@@ -68,8 +62,6 @@ impl Row {
             Row::Tree => trees::answer(alloc, row),
             Row::Placed => trees::answer_placed(alloc, row),
             Row::Fault => trees::answer_fault(alloc, row),
-            Row::Types => declaring::answer_types(alloc, row),
-            Row::Layouts => declaring::answer_layouts(alloc, row),
         }
     }
 }
