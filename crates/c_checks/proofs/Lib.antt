@@ -1,0 +1,4 @@
+pub mod Labeling
+pub mod Least
+pub mod Loops
+pub mod Repeats

@@ -1,0 +1,18 @@
+//! The rules of statements and programs (C99 6.8, 6.9), over what their parts say: exactly those of `c_runs`, and which of
+//! several broken ones is the refusal.
+#![tactic(auto)]
+
+mod cases;
+mod found_labels;
+mod labels;
+mod order;
+mod statements;
+
+pub use cases::{Case, repeated_cases};
+pub use found_labels::{block_labels, every_label, front_labels};
+pub use labels::{Label, goto, labeled};
+pub use order::{least_fault, lesser};
+pub use statements::{
+    SwitchSaid, bare_return, case_label, case_value, condition, default_label, misplaced_if,
+    return_value, switch_value,
+};
