@@ -12,10 +12,10 @@ use Rattle.c_runs.specs.Statements.{stmt, every_if}
 use Rattle.c_runs.proofs.Equations as eq
 
 -- what a statement has in front of it, in the block that it is, and in all
-pub record Has (x : Stmt) (labels own every : List Label) : Type 0 where
-  pub labels : (stmt x).labels ≡ labels
-  pub own : (stmt x).own ≡ own
-  pub every : (stmt x).every ≡ every
+pub record Has (x : Stmt) (front block all : List Label) : Type 0 where
+  pub labels : (stmt x).labels ≡ front
+  pub own : (stmt x).own ≡ block
+  pub every : (stmt x).every ≡ all
 
 abbrev has : (x : Stmt) (c : Code) → stmt x ≡ c → Has x c.labels c.own c.every
 has x c is = record { labels = ap (λ y. y.labels) is; own = ap (λ y. y.own) is; every = ap (λ y. y.every) is }
@@ -83,27 +83,27 @@ none [] is = sym is
 none (f ∷ fs) is = ap (λ gs. f ∷ gs) (none fs is)
 
 -- the same labels
-pub same : {fs gs ls ks : List Label} → gs ≡ fs ++ ks → ls ≡ ks → gs ≡ fs ++ ls
-same {fs} found is = found ∙ ap (λ (zs : List Label). fs ++ zs) (sym is)
+pub same : (fs : List Label) {gs ls ks : List Label} → gs ≡ fs ++ ks → ls ≡ ks → gs ≡ fs ++ ls
+same fs found is = found ∙ ap (λ (zs : List Label). fs ++ zs) (sym is)
 
 grouped : (xs ys zs : List Label) → (xs ++ ys) ++ zs ≡ xs ++ (ys ++ zs)
 grouped [] ys zs = refl
 grouped (x ∷ xs) ys zs = ap (λ ws. x ∷ ws) (grouped xs ys zs)
 
 -- some behind others
-pub behind : {fs gs hs ks ms : List Label} → gs ≡ fs ++ ks → hs ≡ gs ++ ms → hs ≡ fs ++ (ks ++ ms)
-behind {fs} {gs} {hs} {ks} {ms} first second =
-    second ∙ ap (λ (zs : List Label). zs ++ ms) first ∙ grouped fs ks ms
+pub behind : (fs ks ms : List Label) {gs hs : List Label} → gs ≡ fs ++ ks → hs ≡ gs ++ ms → hs ≡ fs ++ (ks ++ ms)
+behind fs ks ms first second = second ∙ ap (λ (zs : List Label). zs ++ ms) first ∙ grouped fs ks ms
 
 -- those of a child that was read through its owner
-pub child : {A : Type 0} (f : A → List Label) {x y : A} {fs gs ls : List Label} → gs ≡ fs ++ f x → x ≡ y → ls ≡ f y →
-    gs ≡ fs ++ ls
-child f {x} {y} {fs} found same is = found ∙ ap (λ z. fs ++ f z) same ∙ ap (λ (zs : List Label). fs ++ zs) (sym is)
+pub child : {A : Type 0} (f : A → List Label) (fs : List Label) {x y : A} {gs ls : List Label} → gs ≡ fs ++ f x →
+    x ≡ y → ls ≡ f y → gs ≡ fs ++ ls
+child f fs found as_read is = found ∙ ap (λ z. fs ++ f z) as_read ∙ ap (λ (zs : List Label). fs ++ zs) (sym is)
 
 -- a label in front of others
-pub label : {fs gs hs ls ks : List Label} {at : ℕ} {copied name : Name} →
+pub label : (fs ks : List Label) (at : ℕ) {gs hs ls : List Label} {copied name : Name} →
     gs ≡ fs ++ record { at = at; name = copied } ∷ [] → hs ≡ gs ++ ks → copied ≡ name →
     ls ≡ record { at = at; name = name } ∷ ks → hs ≡ fs ++ ls
-label {fs} {gs} {hs} {ls} {ks} {at} {copied} {name} pushed found same is =
-    behind pushed found ∙ ap (λ (n : Name). fs ++ record { at = at; name = n } ∷ ks) same
+label fs ks at {copied} pushed found is_copy is =
+    behind fs (record { at = at; name = copied } ∷ []) ks pushed found
+    ∙ ap (λ (n : Name). fs ++ record { at = at; name = n } ∷ ks) is_copy
     ∙ ap (λ (zs : List Label). fs ++ zs) (sym is)

@@ -1,4 +1,5 @@
 pub mod Labeling
 pub mod Least
 pub mod Loops
+pub mod Plain
 pub mod Repeats

@@ -5,12 +5,14 @@
 mod cases;
 mod found_labels;
 mod labels;
+mod main_function;
 mod order;
 mod statements;
 
 pub use cases::{Case, repeated_cases};
 pub use found_labels::{block_labels, every_label, front_labels};
 pub use labels::{Label, goto, labeled};
+pub use main_function::is_main;
 pub use order::{least_fault, lesser};
 pub use statements::{
     SwitchSaid, bare_return, case_label, case_value, condition, default_label, misplaced_if,
