@@ -1,7 +1,8 @@
 -- The least of several refusals, taken together part by part.
 use Rattle.std.proofs.Common.{◌≡◌, ℕ, ◌<◌, ◌+◌, ◌*◌, Bool, true, false, cond, ◌&&◌, ◌||◌, nat_eq, nat_lt, List, [], ◌∷◌, ◌++◌}
-use Rattle.std.proofs.Common.{Option, Some, None, refl, sym, ap, ◌∙◌, arith, inl, inr}
-use Rattle.std.proofs.lemmas.Bool.{ltb-true, ltb-false, lt-ltb, le-ltb, cases_order}
+use Rattle.std.proofs.Common.{Option, Some, None, refl, sym, ap, subst, ◌∙◌, arith, inl, inr}
+use Rattle.std.specs.Prelude.{unwrap_or}
+use Rattle.std.proofs.lemmas.Option.{none-some}
 use Rattle.c_says.specs.declared.scope.Fault.{Fault}
 use Rattle.c_says.specs.declared.scope.Rule.{Rule}
 use Rattle.c_says.specs.declared.scope.Rule.TheVariants as rule
@@ -9,7 +10,7 @@ use Rattle.c_runs.specs.declared.breach.Breach.{Breach}
 use Rattle.c_runs.specs.declared.breach.BrokenRule.{BrokenRule}
 use Rattle.c_runs.specs.declared.breach.BrokenRule.TheVariants as broken
 use Rattle.c_runs.specs.Items.{typing}
-use Rattle.c_checks.specs.Refusals.{typing_number, number_of, comes_before, lesser_of, lesser, least_of}
+use Rattle.c_checks.specs.Refusals.{typing_number, number_of, comes_before, lesser_of, lesser, least_of, NoneBefore, IsLeast}
 
 -- ---- places by one number
 
@@ -107,3 +108,42 @@ from_is x (f ∷ fs) =
 
 pub all_faults : (fs : List Fault) → least_from None fs ≡ least_of (typing fs)
 all_faults fs = from_is None fs
+
+-- ---- the least is one of them, and none comes before it; there is none exactly where no rule is broken
+
+pub none_broken : (xs : List Breach) → least_of xs ≡ None → xs ≡ []
+none_broken [] e = refl
+none_broken (x ∷ xs) e = absurd (none-some (lesser_of x (least_of xs)) (sym e))
+
+itself : (x : Breach) → comes_before x x ≡ false
+itself x = placed x x ∙ not_less (place x)
+  where
+    not_less : (n : ℕ) → nat_lt n n ≡ false
+    not_less n = grind arith
+
+other : (x y : Breach) → comes_before y x ≡ true → comes_before x y ≡ false
+other x y h = placed x y ∙ turned (place x) (place y) (sym (placed y x) ∙ h)
+  where
+    turned : (m n : ℕ) → nat_lt n m ≡ true → nat_lt m n ≡ false
+    turned m n h = grind (arith, h)
+
+all_behind : (x y : Breach) → comes_before y x ≡ false → (zs : List Breach) → NoneBefore y zs → NoneBefore x zs
+all_behind x y h [] all = tt
+all_behind x y h (z ∷ zs) all = (goes_down x y z h all.0, all_behind x y h zs all.1)
+
+of_two : (x y : Breach) (ys : List Breach) (b : Bool) → comes_before x y ≡ b → IsLeast x ys →
+    IsLeast (cond b x y) (y ∷ ys)
+of_two x y ys true h least = record { among = inr least.among; first = (other y x h, least.first) }
+of_two x y ys false h least = record { among = inl refl; first = (itself y, all_behind y x h ys least.first) }
+
+with_rest : (x y : Breach) (ys : List Breach) (o : Option Breach) → least_of ys ≡ o →
+    ((z : Breach) → least_of ys ≡ Some z → IsLeast z ys) → lesser_of y o ≡ x → IsLeast x (y ∷ ys)
+with_rest x y ys None e rest is =
+    subst (λ (z : Breach). IsLeast z (y ∷ ys)) is
+    (record { among = inl refl; first = (itself y, rw (none_broken ys e) tt) })
+with_rest x y ys (Some z) e rest is =
+    subst (λ (z : Breach). IsLeast z (y ∷ ys)) is (of_two z y ys (comes_before z y) refl (rest z e))
+
+pub is_least : (xs : List Breach) (x : Breach) → least_of xs ≡ Some x → IsLeast x xs
+is_least [] x e = absurd (none-some x e)
+is_least (y ∷ ys) x e = with_rest x y ys (least_of ys) refl (is_least ys) (ap (λ o. unwrap_or o x) e)

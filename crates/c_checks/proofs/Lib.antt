@@ -3,3 +3,4 @@ pub mod Least
 pub mod Loops
 pub mod Plain
 pub mod Repeats
+pub mod Same

@@ -1,5 +1,5 @@
 -- The repeated cases of a `switch`, found from left to right.
-use Rattle.std.proofs.Common.{◌≡◌, ℕ, ℤ, Bool, true, false, cond, ◌||◌, List, [], ◌∷◌, ◌++◌, Option, Some, None}
+use Rattle.std.proofs.Common.{◌≡◌, ℤ, Bool, true, false, ◌||◌, List, [], ◌∷◌, ◌++◌, Option, Some, None}
 use Rattle.std.proofs.Common.{refl, sym, ap, ◌∙◌}
 use Rattle.c_runs.specs.declared.breach.Breach.{Breach}
 use Rattle.c_runs.specs.declared.breach.BrokenRule.TheVariants as broken

@@ -1,7 +1,7 @@
 -- Which of several broken rules is the refusal: the first in the source, and at one offset the first in the order of
 -- refusals.
 use Rattle.std.specs.Prelude.{◌≡◌, ℕ, Bool, false, cond, ◌&&◌, ◌||◌, nat_eq, nat_lt, List, [], ◌∷◌, Option, Some, None}
-use Rattle.std.specs.Prelude.{All, Contains}
+use Rattle.std.specs.Prelude.{◌⊎◌, ⊤}
 use Rattle.c_says.specs.declared.scope.Rule.{Rule}
 use Rattle.c_says.specs.declared.scope.Rule.TheVariants as rule
 use Rattle.c_runs.specs.declared.breach.Breach.{Breach}
@@ -44,7 +44,16 @@ abbrev pub least_of : List Breach → Option Breach
 least_of [] = None
 least_of (x ∷ xs) = Some (lesser_of x (least_of xs))
 
--- one of them, and none comes before it
+-- ---- one of them, and none comes before it
+
+abbrev pub Among : Breach → List Breach → Type 0
+Among x [] = ⊥
+Among x (y ∷ ys) = (x ≡ y) ⊎ Among x ys
+
+abbrev pub NoneBefore : Breach → List Breach → Type 0
+NoneBefore x [] = ⊤
+NoneBefore x (y ∷ ys) = (comes_before y x ≡ false) × NoneBefore x ys
+
 pub record IsLeast (x : Breach) (xs : List Breach) : Type 0 where
-  pub among : Contains xs x
-  pub first : All (λ y. comes_before y x ≡ false) xs
+  pub among : Among x xs
+  pub first : NoneBefore x xs

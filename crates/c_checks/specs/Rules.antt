@@ -3,7 +3,6 @@
 use Rattle.std.specs.Prelude.{ℕ, List, ◌++◌, not, Option}
 use Rattle.c_type_terms.specs.declared.ctype.CType.{CType}
 use Rattle.c_type_terms.specs.declared.ctype.IntegerKind.{IntegerKind}
-use Rattle.c_says.specs.declared.scope.Rule.{Rule}
 use Rattle.c_says.specs.declared.scope.Rule.TheVariants as rule
 use Rattle.c_says.specs.declared.shown.Told.{Told}
 use Rattle.c_says.specs.Scopes.{Name}

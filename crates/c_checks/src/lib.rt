@@ -2,6 +2,7 @@
 //! several broken ones is the refusal.
 #![tactic(auto)]
 
+mod calls;
 mod cases;
 mod found_labels;
 mod labels;
@@ -9,6 +10,7 @@ mod main_function;
 mod order;
 mod statements;
 
+pub use calls::{body_call, filling_call, identity_call, log_call};
 pub use cases::{Case, repeated_cases};
 pub use found_labels::{block_labels, every_label, front_labels};
 pub use labels::{Label, goto, labeled};

@@ -30,7 +30,7 @@ pub fn misplaced_if(wrong: bool, at: u32) -> Option<Breach>
     }
 }
 
-fn mismatch_if(wrong: bool, at: u32) -> Option<Breach>
+pub(crate) fn mismatch_if(wrong: bool, at: u32) -> Option<Breach>
     ensures { result ≡ least_of (items.breach_if wrong at spec.mismatch) }
 {
     if wrong {
