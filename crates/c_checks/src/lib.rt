@@ -8,6 +8,7 @@ mod found_labels;
 mod labels;
 mod main_function;
 mod order;
+mod profile;
 mod statements;
 
 pub use calls::{body_call, filling_call, identity_call, log_call};
@@ -16,7 +17,11 @@ pub use found_labels::{block_labels, every_label, front_labels};
 pub use labels::{Label, goto, labeled};
 pub use main_function::is_main;
 pub use order::{least_fault, lesser};
+pub use profile::{filling_function, identity_function, identity_index, log_function, runs_body};
 pub use statements::{
     SwitchSaid, bare_return, case_label, case_value, condition, default_label, misplaced_if,
     return_value, switch_value,
 };
+
+#[cfg(test)]
+mod tests;
