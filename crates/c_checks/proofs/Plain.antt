@@ -32,3 +32,7 @@ int_is t = same_from t.base t.derivations int_.Int
 
 pub char_is : (t : CType) → same_if (plain_kind t) int_.Char ≡ is_char t
 char_is t = same_from t.base t.derivations int_.Char
+
+pub unsigned_long_is : (t : CType) →
+    same_if (plain_kind t) int_.UnsignedLong ≡ same_plain (plain_type t) (Some (PlainInteger int_.UnsignedLong))
+unsigned_long_is t = same_from t.base t.derivations int_.UnsignedLong

@@ -50,7 +50,7 @@ fn is_char_kind(kind: IntegerKind) -> bool
 }
 
 /// The integer type other than an enumerated one that this is.
-fn plain_kind(ctype: &CType) -> Option<IntegerKind>
+pub(crate) fn plain_kind(ctype: &CType) -> Option<IntegerKind>
     ensures { result ≡ spec.plain_kind ctype.now }
 {
     match ctype.derivations.as_slice().first() {
@@ -69,7 +69,7 @@ fn plain_kind(ctype: &CType) -> Option<IntegerKind>
 }
 
 #[tactic(auto, using(crate::proofs::Plain::int_is))]
-fn is_int(ctype: &CType) -> bool
+pub(crate) fn is_int(ctype: &CType) -> bool
     ensures { result ≡ checks.is_int (plain_type ctype.now) }
 {
     match plain_kind(ctype) {
