@@ -1,0 +1,14 @@
+//! The texts of worlds, written and read exactly.
+#![tactic(auto)]
+
+mod entry;
+mod fault;
+mod lines;
+mod saying;
+mod stage;
+mod text;
+mod version;
+mod writing;
+
+pub use fault::CertFault;
+pub use writing::write_world;
