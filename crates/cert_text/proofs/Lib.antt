@@ -4,3 +4,5 @@ pub mod VersionLemmas
 pub mod SaidLemmas
 pub mod WritingLemmas
 pub mod WorldLaws
+pub mod TableLemmas
+pub mod ReadingLemmas

@@ -1,11 +1,11 @@
 -- What a line says, and the line that says so.
-use Rattle.std.proofs.Common.{◌≡◌, ◌≢◌, ℕ, suc, ◌+◌, ◌-◌, ◌*◌, ◌^◌, ◌<◌, ◌≤◌, min, ◌==◌, ◌&&◌, Bool, true, false, not, cond, nat_lt, nat_le, List, [], ◌∷◌, ◌++◌, Option, Some, None, refl, sym, ap, subst, ◌∙◌, arith}
+use Rattle.std.proofs.Common.{◌≡◌, ℕ, ◌+◌, ◌-◌, ◌*◌, ◌≤◌, min, ◌==◌, ◌&&◌, Bool, true, false, cond, nat_le, [], ◌∷◌, Some, None, refl, subst, arith}
 use Rattle.std.specs.Str.{bytes_eq}
 use Rattle.std.specs.Char.{is_ascii_digit}
 use Rattle.std.proofs.lemmas.Slice.Eq.{bytes_eq-Decides}
 use Rattle.std.proofs.lemmas.Bool.Decides.{nat_tests}
 use Rattle.cert_text.specs.Lines.{Text}
-use Rattle.cert_text.specs.WorldTexts.{head_line, end_line, entry_line, word_line, byte_line}
+use Rattle.cert_text.specs.WorldTexts.{head_line, end_line, word_line, byte_line}
 use Rattle.cert_text.specs.WorldSteps.{entry_with, entry_after, entry_in, spells, is_word, is_byte, entry_said, said_by}
 use Rattle.cert_text.specs.declared.entry.Entry.{Entry}
 use Rattle.cert_text.specs.declared.saying.Said.{Said}

@@ -3,7 +3,7 @@ use Rattle.std.proofs.lemmas.List.{append_cancel_left, append_cancel_right}
 use Rattle.std.proofs.lemmas.Slice.Eq.{bytes_eq-Decides}
 use Rattle.std.specs.Prelude.{codes}
 use Rattle.std.specs.Str.{bytes_eq}
-use Rattle.std.proofs.Common.{◌≡◌, ◌≢◌, Bool, true, false, not, refl, ℕ, ◌+◌, ◌<◌, List, [], ◌∷◌, ◌++◌, length, take, drop, sym, ap, subst, ◌∙◌, arith}
+use Rattle.std.proofs.Common.{◌≡◌, ◌≢◌, Bool, true, false, not, refl, ℕ, [], ◌∷◌, ◌++◌, take, sym, ap, subst, ◌∙◌, arith}
 use Rattle.cert_text.specs.Lines.{Text, lines_of, line_len}
 use Rattle.cert_text.specs.WorldTexts.{is_numeral, IsOtherVersion, NamesOtherVersion}
 use Rattle.cert_text.proofs.LineLemmas.{lines-first}

@@ -1,5 +1,5 @@
 -- What lines make of a world, without the code's steps.
-use Rattle.std.proofs.Common.{◌≡◌, ◌≢◌, ℕ, zero, suc, ◌+◌, ◌<◌, ◌≤◌, ◌⊎◌, inl, inr, ◌&&◌, Bool, true, false, cond, nat_le, List, [], ◌∷◌, ◌++◌, length, take, drop, append_assoc, append-nil, Option, Some, None, Result, Ok, Err, refl, sym, ap, subst, ◌∙◌, arith}
+use Rattle.std.proofs.Common.{◌≡◌, ◌≢◌, ℕ, suc, ◌+◌, ◌<◌, ◌≤◌, ◌⊎◌, inl, inr, Bool, true, false, cond, nat_le, List, [], ◌∷◌, ◌++◌, length, take, drop, append_assoc, append-nil, Option, Some, None, Result, Ok, Err, refl, sym, ap, subst, ◌∙◌, arith}
 use Rattle.std.specs.Prelude.{map, codes}
 use Rattle.std.specs.List.{filter, concat}
 use Rattle.std.proofs.lemmas.List.{append_cancel_left, append_cancel_right, take-append-drop}
@@ -7,7 +7,7 @@ use Rattle.std.proofs.lemmas.Bool.Decides.{nat_tests}
 use Rattle.bit_words.specs.Worlds.{Table, WorldTables}
 use Rattle.cert_text.specs.Lines.{Text, lines_of}
 use Rattle.cert_text.specs.WorldTexts.{head_line, end_line, word_line, byte_line, has_line, world_lines, world_text, Rises, InRange, Begins, AreWhole, IsFirstBad, IsOtherVersion, NamesOtherVersion, ReadsWorld}
-use Rattle.cert_text.specs.WorldSteps.{said_by, from_place, from_address, stage_after, with_said, end_read, line_stage, line_world, on_stage, read_from}
+use Rattle.cert_text.specs.WorldSteps.{said_by, from_place, from_address, stage_after, with_said, end_read, line_stage, line_world, on_stage, read_from, reading}
 use Rattle.cert_text.specs.declared.fault.CertFault.{CertFault}
 use Rattle.cert_text.specs.declared.fault.CertFault.TheVariants.{BadLine, WrongVersion, Memory}
 use Rattle.cert_text.specs.declared.saying.Said.{Said}
@@ -64,14 +64,14 @@ record Follows (s next : Stage) (said : Said) (w : WorldTables) : Type 0 where
   can : CanBeLeft s (before said w)
   lines : left_lines s (before said w) ≡ said_line said ∷ left_lines next w
 
-from-place : (least p : ℕ) (next : Stage) → from_place least p ≡ Some next → (least ≤ p) × (stage.Words (suc p) ≡ next)
+pub from-place : (least p : ℕ) (next : Stage) → from_place least p ≡ Some next → (least ≤ p) × (stage.Words (suc p) ≡ next)
 from-place least p next e = by (nat_le least p) refl e
   where
     by : (t : Bool) → nat_le least p ≡ t → cond t (Some (stage.Words (suc p))) None ≡ Some next → (least ≤ p) × (stage.Words (suc p) ≡ next)
     by true t e = (grind (arith, nat_tests), cc)
     by false t e = absurd cc
 
-from-address : (least p : ℕ) (next : Stage) → from_address least p ≡ Some next → (least ≤ p) × (stage.Bytes (suc p) ≡ next)
+pub from-address : (least p : ℕ) (next : Stage) → from_address least p ≡ Some next → (least ≤ p) × (stage.Bytes (suc p) ≡ next)
 from-address least p next e = by (nat_le least p) refl e
   where
     by : (t : Bool) → nat_le least p ≡ t → cond t (Some (stage.Bytes (suc p))) None ≡ Some next → (least ≤ p) × (stage.Bytes (suc p) ≡ next)
@@ -495,9 +495,6 @@ first-bad k lines h = (to-begins (take k lines) h.begins, by h.here)
     by (inr p) = inr (p.0, λ b. p.1 (from-whole lines b))
 
 -- ---- what is read of bytes
-
-abbrev pub reading : Text → Result WorldTables CertFault
-reading bytes = read_from stage.Head 1 no_entries (lines_of bytes)
 
 explained : (bytes : Text) (r : Result WorldTables CertFault) → reading bytes ≡ r → Explained stage.Head 1 no_entries (lines_of bytes) r
 explained bytes r e = subst (Explained stage.Head 1 no_entries (lines_of bytes)) e (explain (lines_of bytes) stage.Head 1 no_entries tt)

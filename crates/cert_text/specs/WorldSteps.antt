@@ -1,9 +1,9 @@
 -- A world's text read line by line.
-use Rattle.std.specs.Prelude.{ℕ, zero, suc, ◌+◌, ◌-◌, ◌*◌, ◌<◌, min, Bool, true, false, ◌&&◌, ◌==◌, nat_le, if◌then◌else◌, List, [], ◌∷◌, ◌++◌, Option, Some, None, Result, Ok, Err}
+use Rattle.std.specs.Prelude.{◌≡◌, ℕ, suc, ◌+◌, ◌-◌, ◌*◌, ◌<◌, min, Bool, ◌&&◌, ◌==◌, nat_le, if◌then◌else◌, List, [], ◌∷◌, ◌++◌, Option, Some, None, Result, Ok, Err}
 use Rattle.std.specs.Char.{is_ascii_digit}
 use Rattle.std.specs.Str.{bytes_eq}
-use Rattle.bit_words.specs.Worlds.{Table, WorldTables}
-use Rattle.cert_text.specs.Lines.{Text}
+use Rattle.bit_words.specs.Worlds.{Table, WorldTables, Sets}
+use Rattle.cert_text.specs.Lines.{Text, lines_of}
 use Rattle.cert_text.specs.WorldTexts.{head_line, end_line, entry_line}
 use Rattle.cert_text.specs.declared.fault.CertFault.{CertFault}
 use Rattle.cert_text.specs.declared.fault.CertFault.TheVariants.{BadLine}
@@ -96,7 +96,24 @@ read_from stage number world [] = end_read stage number world
 read_from stage number world (line ∷ lines) =
     on_stage (line_stage stage (said_by line)) number (λ next. read_from next (suc number) (line_world world (said_by line)) lines)
 
+-- what is read of bytes
+abbrev pub reading : Text → Result WorldTables CertFault
+reading bytes = read_from stage.Head 1 (record { words = []; bytes = [] }) (lines_of bytes)
+
 -- each key is below this one
 abbrev pub Below : ℕ → Table → Type 0
 Below key [] = Unit {0}
 Below key (entry ∷ table) = (entry.0 < key) × Below key table
+
+-- the world takes what a line says
+abbrev pub PutsSaid : WorldTables → WorldTables → Said → Type 0
+PutsSaid old new (Word place value) = Sets old.words new.words place value × (new.bytes ≡ old.bytes)
+PutsSaid old new (Byte address value) = (new.words ≡ old.words) × Sets old.bytes new.bytes address value
+PutsSaid old new _ = new ≡ old
+
+-- one line is taken at a stage
+pub record TakesLine (stage : Stage) (line : Text) (old new : WorldTables) (next : Stage) : Type 0 where
+  pub said : Said
+  pub is : said_by line ≡ Some said
+  pub goes : stage_after stage said ≡ Some next
+  pub puts : PutsSaid old new said

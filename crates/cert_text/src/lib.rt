@@ -4,6 +4,7 @@
 mod entry;
 mod fault;
 mod lines;
+mod reading;
 mod saying;
 mod stage;
 mod text;
@@ -11,4 +12,8 @@ mod version;
 mod writing;
 
 pub use fault::CertFault;
+pub use reading::read_world;
 pub use writing::write_world;
+
+#[cfg(test)]
+mod tests;

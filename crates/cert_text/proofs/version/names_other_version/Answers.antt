@@ -1,4 +1,3 @@
-use Rattle.std.proofs.Common.{rules}
 use Rattle.cert_text.proofs.VersionLemmas.{first_names}
 use Rattle.cert_text.proofs.version.names_other_version.Goals as goal
 
