@@ -99,11 +99,10 @@ struct Jump {
     level: u32,
 }
 
-/// Where a lesson leads that has its literals in the order of the trail: to level 0 where it has fewer than two.
+/// Where a lesson leads that has its literals from the trail's end down: to level 0 where it has fewer than two.
 fn jump_of(clause: &[Lit], trail: &Assigned) -> Jump {
-    let mut behind = clause.iter().rev();
-    let first = behind.next().copied().unwrap_or(Lit::new(1, true));
-    match behind.next() {
+    let first = clause.first().copied().unwrap_or(Lit::new(1, true));
+    match clause.get(1) {
         None => Jump {
             first,
             second: first,
