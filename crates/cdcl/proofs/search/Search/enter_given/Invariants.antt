@@ -1,5 +1,5 @@
 use Rattle.cdcl.specs.Searches.{IsReady, Goes}
-use Rattle.cdcl.proofs.search.Search.pass_learnt.Given as goal
+use Rattle.cdcl.proofs.search.Search.enter_given.Given as goal
 
 abbrev pub invariant-loop-index : goal.invariant-loop-index
 invariant-loop-index l = record {

@@ -1,6 +1,6 @@
 use Rattle.std.proofs.Common.{length, refl}
 use Rattle.cdcl.proofs.Searching.{unit-reason, ready-from}
-use Rattle.cdcl.proofs.search.Search.visit.Goals as goal
+use Rattle.cdcl.proofs.search.Search.heed.Goals as goal
 
 pub returns-in_ok-take-in-Implied-clause-ready : goal.returns-in_ok-take-in-Implied-clause-ready
 returns-in_ok-take-in-Implied-clause-ready c =
