@@ -1,15 +1,11 @@
--- What summaries of external declarations have, as functions of what `c_runs` says of them.
-use Rattle.std.specs.Prelude.{List, [], ◌∷◌, ◌++◌, length, map, option_map}
+-- What summaries of function definitions have, as functions of what `c_runs` says of them.
+use Rattle.std.specs.Prelude.{◌∷◌, ◌++◌, length}
 use Rattle.c_means.specs.Parts.{Level}
 use Rattle.c_runs.specs.declared.profile.Profile.{Profile}
-use Rattle.c_runs.specs.Items.{Lasting}
-use Rattle.c_runs.specs.Names.{Word, Binding}
-use Rattle.c_runs.specs.Programs.{Function, Outer, ordinaries}
+use Rattle.c_runs.specs.Programs.{Function, ordinaries}
 use Rattle.c_checks.specs.Refusals.{least_of}
 use Rattle.c_notes.specs.CallsTold.{told_calls}
 use Rattle.c_reach.specs.declared.summaries.FunctionNotes.{FunctionNotes}
-use Rattle.c_reach.specs.declared.summaries.LastingNote.{LastingNote}
-use Rattle.c_reach.specs.declared.summaries.OuterNotes.{OuterNotes}
 
 abbrev pub function_notes : Profile → Level → Function → FunctionNotes
 function_notes p l f = record {
@@ -21,21 +17,4 @@ function_notes p l f = record {
   breach = least_of f.body.breaches;
   calls = told_calls p l f.body.calls;
   called = f.body.called;
-}
-
-abbrev pub lasting_note : Lasting → LastingNote
-lasting_note x = record { at = x.at; first = x.entry.at; name = x.entry.name; is_defined = x.is_defined }
-
-abbrev pub words_of : List Binding → List Word
-words_of [] = []
-words_of (b ∷ bs) = b.word ∷ words_of bs
-
-abbrev pub outer_notes : Profile → Level → Outer → OuterNotes
-outer_notes p l x = record {
-  declares = words_of x.names.declares;
-  uses = x.names.uses;
-  breach = least_of x.item.breaches;
-  calls = told_calls p l x.item.calls;
-  lasting = map lasting_note x.item.lasting;
-  function = option_map (function_notes p l) x.function;
 }

@@ -8,5 +8,5 @@ mod words;
 
 pub use search::{Reaching, named_functions, reached};
 pub use stack::Stack;
-pub use summaries::{FunctionNotes, LastingNote, OuterNotes};
+pub use summaries::FunctionNotes;
 pub use words::{Word, has_word};

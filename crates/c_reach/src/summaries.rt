@@ -1,4 +1,4 @@
-//! Summaries of external declarations: what is to be known of each where the whole program has been read.
+//! Summaries of function definitions: what is to be known of each where the whole program has been read.
 
 ghost use Rattle.std.specs.Prelude.{◌≡◌};
 
@@ -7,7 +7,7 @@ use c_lexer::Name;
 use c_notes::CallNote;
 use c_runs::Breach;
 use c_type_scope::HasName;
-use plain_data::{Items, Shared};
+use plain_data::Items;
 
 /// A function definition: the offset of its name's first declaration, how many parameters it has, the `{` of a body that
 /// couldn't be read, the words that it uses, the rule that its body breaks first apart from those of calls, all calls in
@@ -30,26 +30,4 @@ impl HasName for FunctionNotes {
     fn name(&self) -> &Name {
         &self.name
     }
-}
-
-/// An object that lives throughout the run: the offsets of this declaration and of the first one, and whether it is
-/// defined here.
-#[derive(Drop)]
-pub struct LastingNote {
-    pub at: u32,
-    pub first: u32,
-    pub name: Name,
-    pub is_defined: bool,
-}
-
-/// An external declaration: the words that it declares and uses, the rule that it breaks first apart from those of calls,
-/// the calls in it, the objects that it declares, and the function that it defines.
-#[derive(Drop)]
-pub struct OuterNotes {
-    pub declares: Items<Word>,
-    pub uses: Items<Word>,
-    pub breach: Option<Breach>,
-    pub calls: Items<CallNote>,
-    pub lasting: Items<LastingNote>,
-    pub function: Option<Shared<FunctionNotes>>,
 }
