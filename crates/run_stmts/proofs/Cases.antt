@@ -1,5 +1,5 @@
 -- The cases of a `switch`, and the way to one of them.
-use Rattle.std.proofs.Common.{◌≡◌, ℕ, ℤ, List, [], ◌∷◌, Option, Some, None, refl, ap, sym, ◌∙◌, Bool, true, false, cond}
+use Rattle.std.proofs.Common.{◌≡◌, ℕ, ℤ, List, [], ◌∷◌, Option, Some, None, refl, ap, sym, ◌∙◌, true, cond}
 use Rattle.std.proofs.Common.{◌||◌}
 use Rattle.std.proofs.Common.{◌+◌, Ok}
 use Rattle.c_type_terms.specs.declared.ctype.IntegerKind.{IntegerKind}

@@ -1,3 +1,6 @@
 pub mod Bound
+pub mod Calling
 pub mod Cases
+pub mod Passing
+pub mod Settling
 pub mod Turning

@@ -1,9 +1,16 @@
 -- Parameters that are ready to be passed, and a body that runs (C99 6.9.1p9, p10).
-use Rattle.std.specs.Prelude.{◌+◌, ℕ, suc, ℤ, List, [], ◌∷◌, length}
+use Rattle.std.specs.Prelude.{◌≡◌, ◌+◌, ℕ, suc, ℤ, List, [], ◌∷◌, length, Some}
+use Rattle.c_type_terms.specs.declared.tables.Tables.{Tables}
+use Rattle.c_type_terms.specs.Types.{class_of}
 use Rattle.c_store.specs.Store.{start, write}
-use Rattle.c_means.specs.Parts.{Level, with_store}
-use Rattle.c_means.specs.Values.{bytes_as, bytes_of_value, converted_to}
+use Rattle.c_says.specs.declared.scope.Entry.{Entry}
+use Rattle.c_says.specs.declared.scope.Means.{Means}
+use Rattle.c_says.specs.declared.scope.Means.TheVariants as means
+use Rattle.c_says.specs.Scopes.{Scope}
+use Rattle.c_means.specs.Parts.{State, Level, Env, with_store}
+use Rattle.c_means.specs.Values.{bytes_as, bytes_of, bytes_of_value, converted_to}
 use Rattle.c_runs.specs.Items.{Item, Made, Arrow, born, dead, known, lived}
+use Rattle.c_runs.specs.Programs.{Function}
 use Rattle.c_runs.specs.Runs.{back}
 use Rattle.c_runs.specs.Statements.{no_env}
 use Rattle.run_stmts.specs.declared.bodies.Parameter.{Parameter}
@@ -28,3 +35,24 @@ abbrev pub body_runs : Level → List Parameter → Item → List ℤ → ℕ �
 body_runs l ps body vs base d =
     let ms = objects_of base ps in
     back (dead ms (lived body l (known ms no_env) (base + length ps) (passes_to base ps vs (born ms d))))
+
+-- ---- the parameters of a function that the source defines
+
+-- it stores as the definition passes: a parameter is an object
+abbrev pub PassesAs : Tables → Means → Parameter → Type 0
+PassesAs tables (means.Object t dur l) p =
+    (p.class ≡ class_of t) × (bytes_as p.class p.size ≡ bytes_of tables (Some t))
+PassesAs tables (means.Function t l) p = ⊥
+PassesAs tables (means.Typedef t) p = ⊥
+PassesAs tables (means.Constant z) p = ⊥
+PassesAs tables means.Faulty p = ⊥
+
+abbrev pub Takes : Scope → List Entry → List Parameter → Type 0
+Takes s [] [] = Unit {0}
+Takes s [] (p ∷ ps) = ⊥
+Takes s (e ∷ es) [] = ⊥
+Takes s (e ∷ es) (p ∷ ps) = (p.at ≡ e.at) × PassesAs s.tables e.means p × Takes s es ps
+
+-- the function's body, as a block, does what these items do as one
+abbrev pub IsBody : Level → Function → Item → Type 0
+IsBody l f item = (env : Env) (base : ℕ) (d : State) → lived f.body l env base d ≡ lived item l env base d

@@ -1,10 +1,10 @@
 -- What the parts of a statement that may be missing are worth, and what a test found.
-use Rattle.std.specs.Prelude.{◌≡◌, ℕ, ℤ, Bool, true, false, List, [], ◌∷◌, ◌+◌, Option, Some, None, Result, Ok, Err}
+use Rattle.std.specs.Prelude.{◌≡◌, ℕ, Bool, Option, Some, None, Result, Ok, Err}
 use Rattle.std.specs.declared.alloc.AllocError.{AllocError}
 use Rattle.c_says.specs.Scopes.{empty}
 use Rattle.c_means.specs.Parts.{State, Env, Level}
 use Rattle.c_runs.specs.Notes.{Noted}
-use Rattle.c_runs.specs.Items.{Item, Arrow, Acts, nothing}
+use Rattle.c_runs.specs.Items.{Item, Arrow, nothing}
 use Rattle.c_runs.specs.Statements.{Test, test_of, always, value_of}
 
 -- a substatement that may be missing does nothing then

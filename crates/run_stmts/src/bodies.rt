@@ -1,17 +1,18 @@
 //! Calls by body (C99 6.5.2.2p4, 6.9.1): the parameters' objects, the body, and the way back.
 ghost use Rattle.std.specs.Prelude.{◌≡◌, ◌+◌, [], ◌∷◌, OnOk, length};
-ghost use Rattle.c_machine.specs.States.{state};
+ghost use Rattle.c_means.specs.Parts.{entered, returned};
+ghost use Rattle.c_machine.specs.States.{state, Runs};
 ghost use Rattle.c_runs.specs.Items as parts;
-ghost use Rattle.c_runs.specs.Runs.{back};
+ghost use Rattle.c_runs.specs.Runs.{back, by_body};
 ghost use Rattle.c_runs.specs.Statements.{no_env};
 ghost use Rattle.run_exprs.specs.Frames.{env_of};
 ghost use Rattle.run_stmts.specs.Below.{ReachesItem, Low};
 ghost use Rattle.run_stmts.specs.Blocks.{all_followed, items_of, HaveRooms, made_at, AreLow};
-ghost use Rattle.run_stmts.specs.Bodies.{objects_of, passes_to, body_runs};
+ghost use Rattle.run_stmts.specs.Bodies.{objects_of, passes_to, body_runs, Takes, IsBody};
 
 use crate::below::{Acting, Steps};
 use crate::blocks::{Birth, Roomed, bind};
-use c_machine::{Machine, Value, bytes_as};
+use c_machine::{Halt, Machine, Value, bytes_as};
 use c_means::Kind;
 use c_store::{Object, ObjectKind};
 use c_type_terms::Class;
@@ -146,7 +147,7 @@ fn no_objects(alloc: Global) -> Frame
 
 impl<'a, L: Context, V, X> Steps<'a, L, V, X> {
     /// Runs a body, from where its function begins: the parameters' objects have the first places.
-    pub fn body<C: Acting>(
+    fn body<C: Acting>(
         &self,
         alloc: Global,
         parameters: &[Parameter],
@@ -180,5 +181,58 @@ impl<'a, L: Context, V, X> Steps<'a, L, V, X> {
         bury(parameters, base, m)?;
         come_back(m);
         Ok(())
+    }
+
+    /// Calls a function by its body: its caller goes on with what it printed, noted and met, and with its value, where it
+    /// gave one.
+    pub fn call<C: Acting>(
+        &self,
+        alloc: Global,
+        parameters: &[Parameter],
+        objects: &[Birth],
+        items: &[Roomed<C>],
+        values: &[i128],
+        base: u64,
+        m: &mut Machine,
+    ) -> Result<Option<i128>, Halt>
+    where
+        X: Fn(&L, &mut Frame, &C, u64, &mut Machine) -> Result<(), AllocError>,
+        requires items { ReachesItem L.level C.item X.Fn self.now.context self.now.code }
+        requires rooms { HaveRooms C.item (L.level self.now.context.now) items.now }
+        requires objects { (all_followed (items_of C.item items.now)).objects (L.level self.now.context.now) (base + length parameters.now) ≡ made_at (base + length parameters.now) objects.now }
+        requires low { Low (base + length parameters.now) ((all_followed (items_of C.item items.now)).room (L.level self.now.context.now)) }
+        requires low_objects { AreLow (base + length parameters.now) objects.now }
+        ensures world { m.new.world ≡ m.old.world }
+        ensures runs { Runs result (state m.new) (returned (state m.old) (body_runs (L.level self.now.context.now) parameters.now (all_followed (items_of C.item items.now)) values.now base
+            (entered (state m.old).store (state m.old).count))) }
+    {
+        let caller = m.enter();
+        self.body(alloc, parameters, objects, items, values, base, m)?;
+        m.resume(caller)
+    }
+
+    /// The same as the definition has it: a call of the function whose parameters and body these are (C99 6.9.1p9, p10).
+    pub fn call_function<C: Acting>(
+        &self,
+        alloc: Global,
+        parameters: &[Parameter],
+        objects: &[Birth],
+        items: &[Roomed<C>],
+        values: &[i128],
+        base: u64,
+        m: &mut Machine,
+    ) -> Result<Option<i128>, Halt>
+    where
+        X: Fn(&L, &mut Frame, &C, u64, &mut Machine) -> Result<(), AllocError>,
+        requires items { ReachesItem L.level C.item X.Fn self.now.context self.now.code }
+        requires rooms { HaveRooms C.item (L.level self.now.context.now) items.now }
+        requires objects { (all_followed (items_of C.item items.now)).objects (L.level self.now.context.now) (base + length parameters.now) ≡ made_at (base + length parameters.now) objects.now }
+        requires low { Low (base + length parameters.now) ((all_followed (items_of C.item items.now)).room (L.level self.now.context.now)) }
+        requires low_objects { AreLow (base + length parameters.now) objects.now }
+        ensures world { m.new.world ≡ m.old.world }
+        ensures runs { (f : _) → Takes f.inside f.parameters parameters.now → IsBody (L.level self.now.context.now) f (all_followed (items_of C.item items.now))
+            → Runs result (state m.new) (returned (state m.old) (by_body (L.level self.now.context.now) f values.now base (state m.old).store (state m.old).count)) }
+    {
+        self.call(alloc, parameters, objects, items, values, base, m)
     }
 }

@@ -2,6 +2,7 @@
 ghost use Rattle.std.specs.Prelude.{◌≡◌, ◌+◌, OnOk};
 ghost use Rattle.c_store.specs.Store.{start};
 ghost use Rattle.c_machine.specs.States.{state};
+ghost use Rattle.c_runs.specs.Initials.{initial_of};
 ghost use Rattle.c_runs.specs.Items.{running};
 ghost use Rattle.c_runs.specs.Statements as form;
 ghost use Rattle.run_exprs.specs.Frames.{env_of};
@@ -144,5 +145,29 @@ impl<'a, L: Context, V, X> Steps<'a, L, V, X> {
             m.zero(u64::from(number) * (1 << 32), u64::from(size))?;
         }
         self.set_all(all, number, frame, base + 1, m)
+    }
+
+    /// The same as the definition has it: the object's declaration, with the parts that its initializer's expressions
+    /// initialise.
+    pub fn declaration<E: Valued>(
+        &self,
+        at: u32,
+        size: u32,
+        zeroes: bool,
+        all: &[Setting<E>],
+        frame: &Frame,
+        base: u64,
+        m: &mut Machine,
+    ) -> Result<(), AllocError>
+    where
+        V: Fn(&L, &Frame, &E, bool, u64, &mut Machine) -> Result<Value, Halt>,
+        requires values { ReachesValue L.level E.noted V.Fn self.now.context self.now.value }
+        requires rooms { settings.HaveRooms E.noted (L.level self.now.context.now) all.now }
+        requires low { Low base (1 + settings.rooms_by all.now) }
+        ensures world { m.new.world ≡ m.old.world }
+        ensures runs { (e : _) (y : _) (xs : _) (s : _) → e.at ≡ at → settings.SettleAll E.noted (L.level self.now.context.now) y.parts xs all.now
+            → OnOk result (state m.new ≡ (form.automatic e size (initial_of zeroes y xs) s).run (L.level self.now.context.now) (env_of frame.now) base (state m.old)) }
+    {
+        self.automatic(at, size, zeroes, all, frame, base, m)
     }
 }

@@ -2,7 +2,7 @@ use Rattle.std.proofs.Common.{sym, ◌∙◌}
 use Rattle.c_memory.proofs.Cells.{on_ok}
 use Rattle.c_runs.specs.Statements.{test_of}
 use Rattle.run_exprs.specs.Frames.{env_of}
-use Rattle.run_stmts.proofs.Turning.{no_round, round_left, round_ends, round_over, next_round}
+use Rattle.run_stmts.proofs.Turning.{round_left, round_ends, round_over, next_round}
 use Rattle.run_stmts.proofs.below.Steps.+rounds.Goals as goal
 
 pub returns-then-not-is_running-clause-runs : goal.returns-then-not-is_running-clause-runs
