@@ -4,6 +4,8 @@
 mod answers;
 mod library;
 mod outside;
+mod texts;
 
 pub use library::{Heap, abort, exit, free, identity};
 pub use outside::Outside;
+pub use texts::read_text;
