@@ -1,41 +1,15 @@
 -- Texts in memory, byte by byte.
-use Rattle.std.proofs.Common.{◌≡◌, ◌+◌, ◌-◌, ◌%◌, ℕ, zero, suc, true, false, List, [], ◌∷◌, ◌++◌, Option, Some, None}
+use Rattle.std.proofs.Common.{◌≡◌, ◌+◌, ◌-◌, ◌%◌, ℕ, zero, suc, false, List, [], ◌∷◌, ◌++◌, Option, Some, None}
 use Rattle.std.proofs.Common.{refl, sym, ap, ◌∙◌, arith, append_assoc}
-use Rattle.std.proofs.lemmas.List.{append-nil}
 use Rattle.c_store.specs.Store.{Store}
 use Rattle.c_runs.specs.Calls.{text_from, with_byte}
 use Rattle.run_calls.specs.Reading.{after, is_spent, fewer}
-
-pub from_start : (o : Option (List ℕ)) → after [] o ≡ o
-from_start None = refl
-from_start (Some bytes) = refl
-
-pub spent : (n : ℕ) (most : Option ℕ) (s : Store) (a : ℕ) (t : List ℕ) → is_spent most ≡ true
-    → after t (text_from n most s a) ≡ Some t
-spent n None s a t h = absurd cc
-spent n (Some zero) s a t h = ap Some (append-nil t)
-spent n (Some (suc m)) s a t h = absurd cc
-
-pub none_left : (n : ℕ) (most : Option ℕ) (s : Store) (a : ℕ) (t : List ℕ) → n ≡ 0 → is_spent most ≡ false
-    → after t (text_from n most s a) ≡ None
-none_left n None s a t z h = rw z refl
-none_left n (Some zero) s a t z h = absurd cc
-none_left n (Some (suc m)) s a t z h = rw z refl
-
-pub at_zero : (n : ℕ) (most : Option ℕ) (s : Store) (a b : ℕ) (t : List ℕ) → (n ≡ 0 → ⊥) → is_spent most ≡ false
-    → b ≡ s.bytes a % 256 → b ≡ 0 → after t (text_from n most s a) ≡ Some t
-at_zero zero most s a b t some h byte z = absurd (some refl)
-at_zero (suc n) None s a b t some h byte z =
-    let here : s.bytes a % 256 ≡ 0 = sym byte ∙ z in rw here (ap Some (append-nil t))
-at_zero (suc n) (Some zero) s a b t some h byte z = absurd cc
-at_zero (suc n) (Some (suc m)) s a b t some h byte z =
-    let here : s.bytes a % 256 ≡ 0 = sym byte ∙ z in rw here (ap Some (append-nil t))
 
 behind : (t : List ℕ) (b : ℕ) (more : Option (List ℕ)) → after t (with_byte b more) ≡ after (t ++ b ∷ []) more
 behind t b None = refl
 behind t b (Some bytes) = ap Some (sym (append_assoc t (b ∷ []) bytes))
 
-pub one_on : (n : ℕ) (most : Option ℕ) (s : Store) (a b : ℕ) (t : List ℕ) → (n ≡ 0 → ⊥) → is_spent most ≡ false
+one_on : (n : ℕ) (most : Option ℕ) (s : Store) (a b : ℕ) (t : List ℕ) → (n ≡ 0 → ⊥) → is_spent most ≡ false
     → b ≡ s.bytes a % 256 → (b ≡ 0 → ⊥)
     → after t (text_from n most s a) ≡ after (t ++ b ∷ []) (text_from (n - 1) (fewer most) s (a + 1))
 one_on zero most s a b t some h byte z = absurd (some refl)

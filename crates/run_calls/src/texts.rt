@@ -1,5 +1,5 @@
 //! Texts in memory, as `%s` reads them (C99 7.19.6.1p8).
-ghost use Rattle.std.specs.Prelude.{◌≡◌, IfOk};
+ghost use Rattle.std.specs.Prelude.{◌≡◌, ◌<◌, ◌+◌, ◌^◌, IfOk};
 ghost use Rattle.c_machine.specs.States.{state};
 ghost use Rattle.c_runs.specs.Calls as calls;
 ghost use Rattle.run_calls.specs.Reading as reading;
@@ -35,6 +35,7 @@ fn text_from(
     address: u64,
     m: &Machine,
 ) -> Result<Option<Bytes>, AllocError>
+    requires { address + left < 2 ^ 64 }
     ensures { IfOk result (λ text. text ≡ calls.text_from left most (state m.now).store address) }
 {
     let mut text = Bytes::new(alloc);
@@ -52,17 +53,15 @@ fn text_from(
         text.push(byte)?;
         rest -= 1;
         wanted = fewer(wanted);
-        place = match place.checked_add(1) {
-            Some(next) => next,
-            None => return Err(AllocError),
-        };
+        place += 1;
     }
     Ok(Some(text))
 }
 
 /// How many bytes of a live object stand from an address on.
 fn bytes_left(address: u64, m: &Machine) -> u64
-    ensures { result ≡ calls.bytes_left (state m.now).store address }
+    ensures left { result ≡ calls.bytes_left (state m.now).store address }
+    ensures low { address + result < 2 ^ 64 }
 {
     match m.object(address / (1 << 32)) {
         Some(object) => {

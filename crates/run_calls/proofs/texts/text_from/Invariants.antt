@@ -1,4 +1,4 @@
-use Rattle.std.proofs.Common.{◌≡◌}
+use Rattle.std.proofs.Common.{◌≡◌, ◌+◌}
 use Rattle.c_machine.specs.States.{state}
 use Rattle.c_runs.specs.Calls.{text_from}
 use Rattle.run_calls.specs.Reading.{after}
@@ -8,6 +8,7 @@ abbrev pub invariant-bytes : goal.invariant-bytes
 invariant-bytes l = record {
   reads : after l.text (text_from l.rest l.wanted (state l.m).store l.place)
       ≡ text_from l.left l.fn.most (state l.m).store l.address;
+  low : l.place + l.rest ≡ l.address + l.left;
 }
 
 abbrev pub decreases-bytes : goal.decreases-bytes
