@@ -6,17 +6,16 @@ use Rattle.c_type_terms.specs.declared.ctype.CType.{CType}
 use Rattle.c_type_terms.specs.declared.tables.Tables.{Tables}
 use Rattle.c_says.specs.declared.scope.Means.TheVariants as means
 use Rattle.c_says.specs.Scopes.{empty}
-use Rattle.c_means.specs.Parts.{Level, Site, entered}
+use Rattle.c_means.specs.Parts.{Level, Limits, Site, entered}
 use Rattle.c_runs.specs.Units.{world_of, limits_of}
 
 abbrev pub silent : WorldTables
 silent = record { words = []; bytes = [] }
 
--- a level of which the world and the bounds are known
-abbrev pub level_in : WorldTables → Bounds → Level
-level_in w b = record {
+abbrev pub level_with : WorldTables → Limits → Level
+level_with w limits = record {
   world = world_of w;
-  limits = limits_of b;
+  limits = limits;
   turns = 0;
   static = λ at. 0;
   identity = λ name. None;
@@ -24,6 +23,14 @@ level_in w b = record {
   room = λ g. 0;
   call = λ g env vs base s count. entered s count;
 }
+
+-- a level of which the world and the bounds are known
+abbrev pub level_in : WorldTables → Bounds → Level
+level_in w b = level_with w (limits_of b)
+
+-- one of which the world alone matters
+abbrev pub level_of : WorldTables → Level
+level_of w = level_with w record { turns = 0; heap = 0; outside = 0; texts = 0; arguments = 0 }
 
 -- a call of which the token of the callee's name, the type and the tables are known
 abbrev pub site_in : Tables → ℕ → Option CType → Site

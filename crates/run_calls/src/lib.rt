@@ -2,10 +2,12 @@
 #![tactic(auto)]
 
 mod answers;
+mod arguments;
 mod library;
 mod outside;
 mod texts;
 
+pub use arguments::argument;
 pub use library::{Heap, abort, exit, free, identity};
 pub use outside::Outside;
 pub use texts::read_text;
