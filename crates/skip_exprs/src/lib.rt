@@ -8,5 +8,7 @@ mod members;
 mod operators;
 mod skips;
 mod telling;
+mod walking;
 
 pub use skips::{Skipped, Skips};
+pub use walking::{Walk, told_of_tree};
