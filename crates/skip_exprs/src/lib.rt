@@ -1,5 +1,5 @@
-//! What is known of expressions of C that are not evaluated: their types, the names in force behind them, and the first place
-//! behind their own.
+//! What is known of expressions of C that are not evaluated: their types, the names in force behind them, and the first
+//! place behind their own.
 #![tactic(auto)]
 
 mod calls;

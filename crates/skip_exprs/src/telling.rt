@@ -16,8 +16,8 @@ impl<'a, L: Context, K: Fn(Global, &L, &Expr, &mut Scope, u64) -> Result<Facts, 
     L,
     K,
 > {
-    /// Tells of an expression that is not evaluated, over what is told of its parts: its types, the names in force behind it,
-    /// and the first place behind its own. It fails for want of memory alone where no rule is broken.
+    /// Tells of an expression that is not evaluated, over what is told of its parts: its types, the names in force
+    /// behind it, and the first place behind its own. It fails for want of memory alone where no rule is broken.
     pub fn tell(&self, e: &Expr, scope: &mut Scope, base: u64) -> Result<Facts, AllocError>
         requires skips { ReachesSkip L.level K.Fn self.now.context self.now.skip }
         requires low { base + (part e.now scope.old).room (L.level self.now.context.now) < 2 ^ 63 }

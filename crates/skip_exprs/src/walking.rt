@@ -33,9 +33,9 @@ impl<'a, X: Context> Context for Walk<'a, X> {
     }
 }
 
-/// Tells of an expression that is not evaluated: its types, the names in force behind it, and the first place behind its
-/// own. It fails for want of memory, as which a tree of more levels than the walk goes down into is answered too, and a call
-/// of what is no name, which no accepted program has.
+/// Tells of an expression that is not evaluated: its types, the names in force behind it, and the first place behind
+/// its own. It fails for want of memory, as which two things are answered besides: a tree of more levels than the walk
+/// goes down into, and a call of what is no name, which no accepted program has.
 pub fn told_of_tree<'a, X: Context>(
     alloc: Global,
     here: &Walk<'a, X>,
