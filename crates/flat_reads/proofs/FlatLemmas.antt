@@ -6,7 +6,7 @@ use Rattle.term_bank.specs.declared.sort.Node.{Node}
 use Rattle.term_bank.specs.declared.bank.BankFault.{BankFault}
 use Rattle.term_bank.specs.declared.shape.Shape.{Shape}
 use Rattle.term_bank.specs.Shapes.{Each, IsNode, IsWell, parts, sort_of}
-use Rattle.term_bank.specs.Values.{Environment, Worth, Values, Models, Grows, IsWorth, worth}
+use Rattle.term_bank.specs.Values.{Environment, Worth, Values, Models, Grows, IsWorth, worth, of_truth, of_word}
 use Rattle.term_bank.specs.Under.{IsOnly, IsOver}
 use Rattle.term_bank.specs.Terms.{IsTerm}
 use Rattle.term_bank.specs.Banks.{IsBank}
@@ -57,3 +57,27 @@ gives_added old mid new ps shape x r before g bank node sort value over plain fl
   flats : (r : Result Node BankFault) → IfOk r (IsOver new shape) → IfOk r (λ n. IsFlatOver new ps n.index)
   flats (Ok n) h = flat_over new ps shape n h plain flat
   flats (Err e) h = tt
+
+-- the answer of a last call that gives it, over other nodes and in other words
+pub gives_through : (old mid new : List Shape) (ps rs : List Node) (s : Sort) (x y : Values → Worth) (r : Result Node BankFault) → Grows old mid → Gives mid new rs s x r → Each (λ p. IsFlatOver mid ps p.index) rs → ((e : Environment) (v : Values) → IsHonest e → Models new e v → x v ≡ y v) → Gives old new ps s y r
+gives_through old mid new ps rs s x y r before h flat is = record {
+  node = h.node;
+  value = values r h.value;
+  flat = flats r h.flat;
+  grows = grows_on before h.grows;
+  bank = h.bank;
+} where
+  values : (r : Result Node BankFault) → IfOk r (HasWorth new x) → IfOk r (HasWorth new y)
+  values (Ok n) h = record { is = λ e v honest m. h.is e v honest m ∙ is e v honest m }
+  values (Err e) h = tt
+
+  flats : (r : Result Node BankFault) → IfOk r (λ n. IsFlatOver new rs n.index) → IfOk r (λ n. IsFlatOver new ps n.index)
+  flats (Ok n) k = flat_through new ps rs n.index k (each (λ p. IsFlatOver mid ps p.index) (λ p. IsFlatOver new ps p.index) rs (λ p y. flat_grown mid new ps p.index h.grows y) flat)
+  flats (Err e) k = tt
+
+-- the word and the truth of a node that is worth one
+pub word_at : (a b : List Shape) (x : Values → ℕ) (node : Node) → HasWorth a (λ v. of_word (x v)) node → Grows a b → (e : Environment) (v : Values) → IsHonest e → Models b e v → (v node.index).word ≡ x v
+word_at a b x node h g e v honest m = ap (λ (y : Worth). y.word) (h.is e v honest (weaken g m))
+
+pub truth_at : (a b : List Shape) (x : Values → Bool) (node : Node) → HasWorth a (λ v. of_truth (x v)) node → Grows a b → (e : Environment) (v : Values) → IsHonest e → Models b e v → (v node.index).truth ≡ x v
+truth_at a b x node h g e v honest m = ap (λ (y : Worth). y.truth) (h.is e v honest (weaken g m))

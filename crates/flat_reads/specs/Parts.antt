@@ -15,3 +15,7 @@ octet_of W8 x by = x
 octet_of W16 x by = moved W16 x by
 octet_of W32 x by = moved W32 x by
 octet_of W64 x by = moved W64 x by
+
+-- a word with a byte below it, as terms have it
+abbrev pub joined_of : Width → ℕ → ℕ → ℕ
+joined_of w high byte = result_of operator.Or w (result_of operator.Shl w high 8) byte

@@ -2,5 +2,8 @@
 //! memory, which stand in a table with constraints on equal addresses.
 #![tactic(auto)]
 
+mod answers;
 mod choices;
+mod flatten;
 mod parts;
+mod words;

@@ -1,14 +1,15 @@
 ghost use Rattle.std.specs.Prelude.{◌≡◌, ◌∷◌, [], nat_lt, ◌<◌, ◌^◌};
 ghost use Rattle.bit_words.specs.Words.{bits};
-ghost use Rattle.bit_words.specs.declared.width.Width.TheVariants.{W64};
+ghost use Rattle.bit_words.specs.declared.width.Width.TheVariants.{W8, W64};
 ghost use Rattle.term_bank.specs.Memories.{behind as behind_of, distance as distance_of};
 ghost use Rattle.term_bank.specs.Shapes.{IsNode, word};
+ghost use Rattle.term_bank.specs.Banks.{IsBank};
 ghost use Rattle.term_bank.specs.Terms.{IsTerm};
 ghost use Rattle.term_bank.specs.Values.{of_truth, of_word, converted, result_of};
 ghost use Rattle.term_bank.specs.declared.shape.Extension.TheVariants as extension;
 ghost use Rattle.term_bank.specs.declared.sort.Sort.TheVariants.{Truth, Word};
 ghost use Rattle.flat_reads.specs.Flats.{Gives};
-ghost use Rattle.flat_reads.specs.Parts.{octet_of};
+ghost use Rattle.flat_reads.specs.Parts.{moved, octet_of};
 
 use bit_words::Width;
 use term_bank::{Bank, BankFault, Extension, Node, Shape, Sort, WordOperator, WordTest};
@@ -16,11 +17,11 @@ use term_bank::{Bank, BankFault, Extension, Node, Shape, Sort, WordOperator, Wor
 
 
 /// A constant word.
-pub(crate) fn constant(bank: &mut Bank, bits: u64, width: Width) -> Result<Node, BankFault>
-    requires { bits < 2 ^ bits width }
-    ensures { Gives bank.old bank.new [] (Word width) (λ _. of_word bits) result }
+pub(crate) fn constant(bank: &mut Bank, value: u64, width: Width) -> Result<Node, BankFault>
+    requires { value < 2 ^ bits width }
+    ensures { Gives bank.old bank.new [] (Word width) (λ _. of_word value) result }
 {
-    bank.add(Shape::Constant { bits, width })
+    bank.add(Shape::Constant { bits: value, width })
 }
 
 /// How far an address is behind another, round the end of the address space.
@@ -106,4 +107,45 @@ pub(crate) fn binary(
         left,
         right,
     })
+}
+
+/// The octet of a word of more than one that is so many behind its first.
+fn shifted_octet(
+    bank: &mut Bank,
+    value: u32,
+    width: Width,
+    far: Node,
+) -> Result<Node, BankFault>
+    requires value { IsNode bank.old (word width value) }
+    requires far { IsTerm bank.old (Word W64) far }
+    ensures { Gives bank.old bank.new (word width value ∷ (word W64 far.index ∷ [])) (Word W8)
+        (λ v. of_word (moved width (v value).word (v far.index).word)) result }
+{
+    let three = constant(bank, 3, Width::W64)?;
+    let shift = binary(bank, WordOperator::Shl, Width::W64, far.index, three.index)?;
+    let by = converted_to(bank, Width::W64, width, shift.index)?;
+    let low = binary(bank, WordOperator::Lshr, width, value, by.index)?;
+    converted_to(bank, width, Width::W8, low.index)
+}
+
+/// The octet of a word that is so many behind its first.
+pub(crate) fn octet(
+    bank: &mut Bank,
+    value: u32,
+    width: Width,
+    far: Node,
+) -> Result<Node, BankFault>
+    requires bank { IsBank bank.old }
+    requires value { IsNode bank.old (word width value) }
+    requires far { IsTerm bank.old (Word W64) far }
+    ensures { Gives bank.old bank.new (word width value ∷ (word W64 far.index ∷ [])) (Word W8)
+        (λ v. of_word (octet_of width (v value).word (v far.index).word)) result }
+{
+    match width {
+        Width::W8 => Ok(Node {
+            index: value,
+            sort: Sort::Word(Width::W8),
+        }),
+        _ => shifted_octet(bank, value, width, far),
+    }
 }

@@ -16,4 +16,4 @@ returns c =
     let new = c.add.new.self in
     let e = c.add.ensures in
     let ps = [] in
-    gives_added old old new ps (Constant c.args.bits c.args.width) (λ _. of_word c.args.bits) c.add.result stays e.grows e.bank e.node e.sort e.value e.over (record { plain = λ q. refl }) tt (λ e v honest m. refl)
+    gives_added old old new ps (Constant c.args.value c.args.width) (λ _. of_word c.args.value) c.add.result stays e.grows e.bank e.node e.sort e.value e.over (record { plain = λ q. refl }) tt (λ e v honest m. refl)
