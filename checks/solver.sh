@@ -1,7 +1,7 @@
 #!/usr/bin/env bash
 # Asks the solver instances made here. The program examines each answer's evidence itself: an assignment by
 # `satisfies`, a refutation or a trail by `check`. The verdict is compared with what is known beforehand and, where
-# they are installed, with minisat's and cadical's.
+# they are installed, with minisat's and cadical's. At the end stand the times, reading and examining included.
 set -u
 cd "$(dirname "$0")/.." || exit 2
 if ! command -v cc >/dev/null; then
@@ -32,6 +32,11 @@ write_question() {
               for (i = 1; i <= units; i++) print unit[i] }' "$1" >"$folder/question.cnf"
 }
 
+# The time of day in microseconds.
+now() {
+    echo "${EPOCHREALTIME/[.,]/}"
+}
+
 verdict_of() {
     case $1 in
     minisat) minisat -verb=0 "$folder/question.cnf" >/dev/null 2>&1 ;;
@@ -46,13 +51,19 @@ verdict_of() {
 
 failed=0
 asked=0
+ours=0
+declare -A theirs
 while read -r name known; do
     file=$folder/$name.cnf
+    start=$(now)
     if ! timeout 100 "$program" solve 200000 <"$file" >"$folder/answers" 2>"$folder/error"; then
         echo "solver: $name: no answer, or evidence that does not hold: $(head -n 1 "$folder/error")"
         failed=1
         continue
     fi
+    took=$(($(now) - start))
+    ours=$((ours + took))
+    [ "$took" -lt 1000000 ] || echo "solver: $name: $((took / 1000)) ms"
     question=0
     while read -r answer _; do
         question=$((question + 1))
@@ -63,7 +74,9 @@ while read -r name known; do
         fi
         for tool in "${others[@]}"; do
             write_question "$file" "$question"
+            start=$(now)
             verdict=$(verdict_of "$tool")
+            theirs[$tool]=$((${theirs[$tool]:-0} + $(now) - start))
             if [ "$answer" != "$verdict" ]; then
                 echo "solver: $name: question $question: $answer, and $tool says $verdict"
                 failed=1
@@ -75,5 +88,8 @@ while read -r name known; do
         failed=1
     fi
 done <"$folder/list"
+for tool in "${others[@]}"; do
+    echo "solver: $((ours / 1000)) ms; $tool: $((${theirs[$tool]:-0} / 1000)) ms"
+done
 [ "$failed" -eq 0 ] && echo "solver: $asked answers of $(wc -l <"$folder/list") instances hold"
 exit "$failed"

@@ -1,3 +1,4 @@
 pub mod Worth
 pub mod States
 pub mod Callers
+pub mod Kinds

@@ -3,6 +3,7 @@
 #![tactic(auto, unfolding(crate::specs::States::state))]
 
 mod calls;
+mod control;
 mod halt;
 mod lives;
 mod machine;
@@ -10,6 +11,7 @@ mod objects;
 mod operand;
 mod operators;
 mod pointers;
+mod ranges;
 mod value;
 
 pub use calls::Caller;

@@ -52,7 +52,7 @@ fn is_read(class: Class) -> bool
 }
 
 /// Whether these addresses are all of one number.
-fn has_room(address: u64, count: u64) -> bool
+pub(crate) fn has_room(address: u64, count: u64) -> bool
     ensures { IsTrue result → offset_of address + count ≤ 2 ^ 32 }
 {
     count <= ROOM - address % ROOM
@@ -85,7 +85,7 @@ impl Machine {
     }
 
     /// The number in at most eight bytes.
-    fn word_at(&self, address: u64, count: u64) -> Result<u64, AllocError>
+    pub(crate) fn word_at(&self, address: u64, count: u64) -> Result<u64, AllocError>
         requires { count ≤ 8 }
         ensures { IfOk result (λ word. word ≡ read count (state self.now).store address) }
     {

@@ -1,6 +1,6 @@
 -- What an expression does (C99 6.5): one function a form, over what its parts do, from left to right.
 use Rattle.std.specs.Prelude.{ℕ, suc, ◌+◌, ◌%◌, ◌^◌, ℤ, pos, Bool, true, false, cond, not, List, [], ◌∷◌, ◌++◌, Option}
-use Rattle.std.specs.Prelude.{Some, None, Ok, slice_get, unwrap_or, unsigned_abs}
+use Rattle.std.specs.Prelude.{Some, None, Ok, Err, slice_get, unwrap_or, unsigned_abs}
 use Rattle.bit_words.specs.declared.run.Undefined.TheVariants.{MissingValue}
 use Rattle.bit_words.specs.declared.run.Side.TheVariants as side
 use Rattle.bit_words.specs.declared.run.Happening.TheVariants as happening
@@ -20,7 +20,7 @@ use Rattle.c_type_terms.specs.declared.ctype.IntegerKind.{IntegerKind}
 use Rattle.c_type_terms.specs.declared.tables.Member.{Member}
 use Rattle.c_type_terms.specs.declared.tables.Signature.{Signature}
 use Rattle.c_type_terms.specs.declared.tables.Tables.{Tables}
-use Rattle.c_type_terms.specs.Types.{integer, kind_of}
+use Rattle.c_type_terms.specs.Types.{integer, kind_of, class_of}
 use Rattle.c_type_terms.specs.Integers.{promoted, is_zero, number_of}
 use Rattle.c_type_terms.specs.Layouts.{member_of}
 use Rattle.c_store.specs.Store.{start}
@@ -76,6 +76,7 @@ nowhere l env base d = Ok (0, d)
 abbrev pub valued : Typed → Needs → (Level → Run ℤ) → Part
 valued x needs run = record {
   typed = x;
+  is_place = false;
   rooted = false;
   text = no_text;
   size = needs.size;
@@ -94,6 +95,7 @@ loading x rooted reach l env base d = do
 abbrev pub placed : Typed → Bool → Needs → (Level → Run ℕ) → Part
 placed x rooted needs reach = record {
   typed = x;
+  is_place = true;
   rooted = rooted;
   text = no_text;
   size = needs.size;
@@ -217,14 +219,10 @@ abbrev pub member_by : Bool → ℕ → Typed → Part → Part
 member_by true offset x p = member_of_lvalue offset x p
 member_by false offset x p = member_of_value offset x p
 
-abbrev pub is_lvalue : Option Shown → Bool
-is_lvalue None = false
-is_lvalue (Some x) = x.is_lvalue
-
+-- by the form of the operand: where no rule is broken, a structure that has an address is an lvalue
 abbrev pub member : ℕ → Name → Part → Part
 member at name p =
-    member_by (is_lvalue p.typed.shown) (offset_of p.typed.after.tables (type_of p.typed) name)
-    (says.member at name p.typed) p
+    member_by p.is_place (offset_of p.typed.after.tables (type_of p.typed) name) (says.member at name p.typed) p
 
 -- C99 6.5.2.3p4
 abbrev pub arrow : ℕ → Name → Part → Part
@@ -315,8 +313,14 @@ cast_as c x p = valued x (over_one p)
       v ← cast_operand c p l env base d
       Ok (converted_to c v.0, v.1))
 
+-- of the named type, whether or not a rule is broken
+abbrev pub named_class : NamedType → Class
+named_class None = class.Void
+named_class (Some (Err r)) = class.Void
+named_class (Some (Ok t)) = class_of t
+
 abbrev pub cast : ℕ → NamedType → List Fault → Part → Part
-cast at t faults p = let x = says.cast at t faults p.typed in cast_as (class_in (type_of x)) x p
+cast at t faults p = cast_as (named_class t) (says.cast at t faults p.typed) p
 
 -- ---- binary operators
 
@@ -502,6 +506,7 @@ text_at (Some i) texts = unwrap_or (slice_get texts i) None
 abbrev pub direct_call : ℕ → Typed → (Level → Site) → List Passed → Part
 direct_call at x g qs = record {
   typed = x;
+  is_place = false;
   rooted = false;
   text = λ l. text_at (l.identity (g l).callee.name) (g l).texts;
   size = λ l. suc (all_sizes qs l + l.size (g l));

@@ -161,12 +161,14 @@ returned d r = returned_in d r r.kind
 
 -- ---- expressions
 
--- What an expression says to the types, whether the root of the lvalue that it is is a name, its bytes where it is a
--- string literal (through parentheses, and calls of identity functions), how many nodes it unrolls to, those of called
--- bodies too, and how many places it takes. `reach` is the address of an lvalue or function, `run` its value, and
--- `effect` what it does where its value isn't used.
+-- What an expression says to the types, whether its form gives it an address (as an lvalue or a function has), whether
+-- the root of the lvalue that it is is a name, its bytes where it is a string literal (through parentheses, and calls
+-- of identity functions), how many nodes it unrolls to, those of called bodies too, and how many places it takes.
+-- `reach` is the address of an lvalue or function, `run` its value, and `effect` what it does where its value isn't
+-- used.
 pub record Part : Type 0 where
   pub typed : Typed
+  pub is_place : Bool
   pub rooted : Bool
   pub text : Level → Option (List ℕ)
   pub size : Level → ℕ

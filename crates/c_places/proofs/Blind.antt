@@ -20,7 +20,7 @@ use Rattle.c_says.specs.Typing.{Typed, type_of}
 use Rattle.c_says.specs.Typing as says
 use Rattle.c_means.specs.Parts.{Level, Run, Site, Part, entered}
 use Rattle.c_means.specs.Expressions.{Needs, valued, placed, over_one, over_both, over_three, named_as, identifier}
-use Rattle.c_means.specs.Expressions.{member_by, is_lvalue, offset_of, postfix, unary, binary}
+use Rattle.c_means.specs.Expressions.{member_by, offset_of, postfix, unary, binary}
 use Rattle.c_means.specs.Expressions.{Passed, passed, all_sizes, all_rooms, passed_texts}
 use Rattle.c_means.specs.Expressions.{text_at, direct_call, call_of, site, designated, parameters_of}
 use Rattle.c_means.specs.Trees.{ExprMeans, part, through, type_name_said}
@@ -194,7 +194,7 @@ steps = record {
       (passed_blind xs.all ts (arguments es hs g.typed.after)));
   on_member = λ at x n hx. holds _ _ (meaning.means-Member at x n)
       (λ s. let y = part x s in
-      member_blind (is_lvalue y.typed.shown) (offset_of y.typed.after.tables (type_of y.typed) n)
+      member_blind y.is_place (offset_of y.typed.after.tables (type_of y.typed) n)
       (says.member at n y.typed) y (hx s));
   on_arrow = λ at x n hx. holds _ _ (meaning.means-Arrow at x n)
       (λ s. place_blind _ false (over_one (part x s)) _ (one_needs (part x s) (hx s)));

@@ -7,7 +7,7 @@ use Rattle.c_says.specs.Scopes.{Scope, look_up}
 use Rattle.c_says.specs.Typing.{type_of, constant_of}
 use Rattle.c_says.specs.Typing as says
 use Rattle.c_means.specs.Parts.{Level}
-use Rattle.c_means.specs.Expressions.{is_lvalue, offset_of}
+use Rattle.c_means.specs.Expressions.{offset_of}
 use Rattle.c_means.specs.Trees.{ExprMeans, part, through, type_name_said}
 use Rattle.c_means.proofs.Equations as meaning
 use Rattle.c_runs.specs.Notes.{noted}
@@ -47,7 +47,7 @@ module _ (w : ℕ → ℕ) (p : ℕ) (l : Level) (c : Calling w p l) where
         parts.call_keeps w p l c at (part f s) xs.all xs.after (arguments es hs (part f s).typed.after));
     on_member = λ at x n hx. holds _ _ (meaning.means-Member at x n)
         (λ s. let y = part x s in
-        parts.member_keeps w p l c (is_lvalue y.typed.shown) (offset_of y.typed.after.tables (type_of y.typed) n)
+        parts.member_keeps w p l c y.is_place (offset_of y.typed.after.tables (type_of y.typed) n)
         (says.member at n y.typed) y (hx s));
     on_arrow = λ at x n hx. holds _ _ (meaning.means-Arrow at x n) (λ s. parts.arrow_keeps w p l c at n _ (hx s));
     on_postfix =

@@ -28,7 +28,7 @@ use Rattle.c_means.specs.Values.{address, class_in, converted_to}
 use Rattle.c_type_terms.specs.Integers.{is_zero, number_of}
 use Rattle.c_says.specs.declared.scope.Duration.TheVariants as duration
 use Rattle.c_means.specs.Expressions.{Needs, valued, placed, alone, over_one, over_both, over_three, on_value}
-use Rattle.c_means.specs.Expressions.{part_of_value, both_run, subscript, member, member_by, is_lvalue}
+use Rattle.c_means.specs.Expressions.{part_of_value, both_run, subscript, member, member_by}
 use Rattle.c_means.specs.Expressions.{offset_of, arrow, stepped, postfix, postfix_by, prefix, unary, size_of_expression}
 use Rattle.c_means.specs.Expressions.{size_of_type, cast, cast_as, cast_operand, on_branch, truth_of, and_then, or_else}
 use Rattle.c_means.specs.Expressions.{logical, both_evaluated, binary, chosen, choice_as, choice, simple, compound}

@@ -24,7 +24,7 @@ impl Model for Arguments {
 }
 
 /// No arguments, behind the faults of the callee. It takes no memory.
-pub(crate) fn no_arguments(alloc: Global, faults: Items<Fault>) -> Arguments
+pub fn no_arguments(alloc: Global, faults: Items<Fault>) -> Arguments
     ensures { result ≡ spec.no_arguments faults }
 {
     Arguments {
@@ -34,7 +34,7 @@ pub(crate) fn no_arguments(alloc: Global, faults: Items<Fault>) -> Arguments
 }
 
 /// One more argument, as a value. It fails for want of memory alone.
-pub(crate) fn and_argument(before: Arguments, x: Told) -> Result<Arguments, AllocError>
+pub fn and_argument(before: Arguments, x: Told) -> Result<Arguments, AllocError>
     ensures { IfOk result (λ xs. xs ≡ spec.and_argument before x) }
 {
     let Arguments { all, faults } = before;

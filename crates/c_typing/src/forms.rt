@@ -15,14 +15,14 @@ use plain_data::Shared;
 use std::alloc::{AllocError, Global};
 
 /// A character constant. It fails for want of memory alone.
-pub(crate) fn character_constant(alloc: Global, at: u32, value: &i32) -> Result<Told, AllocError>
+pub fn character_constant(alloc: Global, at: u32, value: &i32) -> Result<Told, AllocError>
     ensures { IfOk result (λ x. x ≡ spec.character_told at value.now) }
 {
     forms::character_constant(alloc, at, *value)
 }
 
 /// A name, by its declaration in force. It fails for want of memory alone.
-pub(crate) fn identifier(
+pub fn identifier(
     alloc: Global,
     scope: &Scope,
     at: u32,
@@ -34,14 +34,14 @@ pub(crate) fn identifier(
 }
 
 /// A part as a value. It fails for want of memory alone.
-pub(crate) fn value(alloc: Global, scope: &Scope, x: Told) -> Result<Told, AllocError>
+pub fn value(alloc: Global, scope: &Scope, x: Told) -> Result<Told, AllocError>
     ensures { IfOk result (λ y. y ≡ spec.used_told scope.now.tables x) }
 {
     forms::used(alloc, scope.tables(), x)
 }
 
 /// A subscript, of which the array is a value already. It fails for want of memory alone.
-pub(crate) fn subscript(
+pub fn subscript(
     alloc: Global,
     scope: &Scope,
     at: u32,
@@ -55,7 +55,7 @@ pub(crate) fn subscript(
 }
 
 /// A call of what stands at `callee`. It fails for want of memory alone.
-pub(crate) fn call(
+pub fn call(
     alloc: Global,
     scope: &Scope,
     at: u32,
@@ -70,7 +70,7 @@ pub(crate) fn call(
 }
 
 /// A member of an object. It fails for want of memory alone.
-pub(crate) fn member(
+pub fn member(
     alloc: Global,
     scope: &Scope,
     at: u32,
@@ -83,7 +83,7 @@ pub(crate) fn member(
 }
 
 /// A member of what a value points to. It fails for want of memory alone.
-pub(crate) fn arrow(
+pub fn arrow(
     alloc: Global,
     scope: &Scope,
     at: u32,
@@ -97,14 +97,14 @@ pub(crate) fn arrow(
 }
 
 /// A postfix operator over its operand as it stands. It fails for want of memory alone.
-pub(crate) fn postfix(alloc: Global, scope: &Scope, at: u32, x: Told) -> Result<Told, AllocError>
+pub fn postfix(alloc: Global, scope: &Scope, at: u32, x: Told) -> Result<Told, AllocError>
     ensures { IfOk result (λ z. spec.typed_in z scope.now ≡ spec.postfix at (spec.typed_in x scope.now)) }
 {
     forms::postfix(alloc, scope.tables(), at, x)
 }
 
 /// A unary operator over its operand as it stands. It fails for want of memory alone.
-pub(crate) fn unary(
+pub fn unary(
     alloc: Global,
     scope: &Scope,
     at: u32,
@@ -118,7 +118,7 @@ pub(crate) fn unary(
 }
 
 /// The size of an expression's type. It fails for want of memory alone.
-pub(crate) fn size_of_expression(
+pub fn size_of_expression(
     alloc: Global,
     scope: &Scope,
     at: u32,
@@ -130,7 +130,7 @@ pub(crate) fn size_of_expression(
 }
 
 /// The size of a named type. It fails for want of memory alone.
-pub(crate) fn size_of_type(
+pub fn size_of_type(
     alloc: Global,
     scope: &Scope,
     at: u32,
@@ -143,7 +143,7 @@ pub(crate) fn size_of_type(
 }
 
 /// A binary operator, of which the left operand is a value already. It fails for want of memory alone.
-pub(crate) fn binary(
+pub fn binary(
     alloc: Global,
     scope: &Scope,
     at: u32,
@@ -158,7 +158,7 @@ pub(crate) fn binary(
 }
 
 /// A cast of a value to a named type. It fails for want of memory alone.
-pub(crate) fn cast(
+pub fn cast(
     alloc: Global,
     scope: &Scope,
     at: u32,
@@ -174,7 +174,7 @@ pub(crate) fn cast(
 
 /// The conditional operator, of which the condition and the first choice are values already. It fails for want of memory
 /// alone.
-pub(crate) fn choice(
+pub fn choice(
     alloc: Global,
     scope: &Scope,
     at: u32,
@@ -189,7 +189,7 @@ pub(crate) fn choice(
 }
 
 /// An assignment to a target as it stands. It fails for want of memory alone.
-pub(crate) fn assignment(
+pub fn assignment(
     alloc: Global,
     scope: &Scope,
     at: u32,
@@ -204,7 +204,7 @@ pub(crate) fn assignment(
 }
 
 /// The comma operator over operands as they stand. It fails for want of memory alone.
-pub(crate) fn comma(
+pub fn comma(
     alloc: Global,
     scope: &Scope,
     at: u32,
@@ -218,7 +218,7 @@ pub(crate) fn comma(
 }
 
 /// Adjacent string literals. It fails for want of memory alone.
-pub(crate) fn string_literal(
+pub fn string_literal(
     alloc: Global,
     scope: &Scope,
     at: u32,
@@ -230,7 +230,7 @@ pub(crate) fn string_literal(
 }
 
 /// `__func__`, in the body of a function or outside of any. It fails for want of memory alone.
-pub(crate) fn function_name(alloc: Global, scope: &Scope, at: u32) -> Result<Told, AllocError>
+pub fn function_name(alloc: Global, scope: &Scope, at: u32) -> Result<Told, AllocError>
     ensures { IfOk result (λ z. spec.typed_in z scope.now ≡ spec.function_name at scope.now.function scope.now) }
 {
     forms::function_name(alloc, scope.tables(), at, scope.function())

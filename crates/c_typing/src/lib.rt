@@ -1,4 +1,5 @@
-//! What the trees of C say of types, constants and names (`c_says`), as code: one recursion over the whole syntax. It
+//! What the trees of C say of types, constants and names (`c_says`), as code: one recursion over the whole syntax, and
+//! its forms of expressions, for walks that find more beside. It
 //! fails for want of memory alone.
 #![tactic(auto)]
 
@@ -6,4 +7,10 @@ mod arguments;
 mod forms;
 mod trees;
 
+pub use arguments::{Arguments, and_argument, no_arguments};
+pub use forms::{
+    arrow, assignment, binary, call, cast, character_constant, choice, comma, function_name,
+    identifier, member, postfix, size_of_expression, size_of_type, string_literal, subscript, unary,
+    value,
+};
 pub use trees::{declarator, specifiers, type_name, typed};

@@ -27,7 +27,7 @@ pub slice-last : {X : Type 0} (xs : List X) (x : X) → slice_get (xs ++ x ∷ [
 slice-last [] x = refl
 slice-last (y ∷ ys) x = slice-last ys x
 
-member-cases : (xs : List Literal) (x l : Literal) → Member l (xs ++ x ∷ []) → Member l xs ⊎ (l ≡ x)
+pub member-cases : (xs : List Literal) (x l : Literal) → Member l (xs ++ x ∷ []) → Member l xs ⊎ (l ≡ x)
 member-cases xs x l (k, e) = elim (slice-cases xs x l k e) [ inl h ↦ inl (k, h) | inr h ↦ inr h.1 ]
 
 false-push : (known : Known) (xs : List Literal) (x : Literal) → AllFalse known xs → known (negated x) ≡ true → AllFalse known (xs ++ x ∷ [])

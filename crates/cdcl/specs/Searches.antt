@@ -5,11 +5,15 @@ use Rattle.proof_check.specs.Refutations.{AreValid}
 use Rattle.cdcl.specs.declared.clauses.Clauses.{Clauses}
 use Rattle.cdcl.specs.declared.clauses.ClauseId.{ClauseId}
 use Rattle.cdcl.specs.declared.assigned.Entry.{Entry}
+use Rattle.cdcl.specs.declared.assigned.Reading.{Reading}
+use Rattle.cdcl.specs.declared.assigned.Reading.TheVariants.{Falsified, Satisfied, Implied, Undecided}
 use Rattle.cdcl.specs.declared.search.Search.{Search}
 use Rattle.cdcl.specs.declared.search.Next.{Next}
 use Rattle.cdcl.specs.declared.search.Next.TheVariants.{Decide, Conflict as NextConflict, Satisfied as NextSatisfied}
 use Rattle.cdcl.specs.declared.search.Event.{Event}
-use Rattle.cdcl.specs.declared.search.Event.TheVariants.{Conflict, Satisfied}
+use Rattle.cdcl.specs.declared.search.Event.TheVariants.{Conflict, Satisfied as EventSatisfied}
+use Rattle.cdcl.specs.declared.watching.Visit.{Visit}
+use Rattle.cdcl.specs.declared.watching.Visit.TheVariants.{Stays, Moves, Conflict as VisitConflict}
 use Rattle.cdcl.specs.Known.{Member, known, HasTrue, IsOpen, open_count}
 use Rattle.cdcl.specs.Trails.{IsTrailOf, IsConflict}
 use Rattle.cdcl.specs.Tidy.{AreTidy}
@@ -55,7 +59,7 @@ IsNext s NextSatisfied = AllTrue s
 
 abbrev pub IsEvent : Search → Event → Type 0
 IsEvent s (Conflict id) = IsConflict 1 s.clauses s.trail.entries.items id
-IsEvent s Satisfied = AllTrue s
+IsEvent s EventSatisfied = AllTrue s
 
 -- a conflict at level 0, which refutes the clauses with the assumptions
 pub record CanRefute (s : Search) (id : ClauseId) : Type 0 where
@@ -63,3 +67,14 @@ pub record CanRefute (s : Search) (id : ClauseId) : Type 0 where
   pub trail : IsTrailOf s.clauses s.trail
   pub root : s.trail.level ≡ 0
   pub conflict : IsConflict 0 s.clauses s.trail.entries.items id
+
+abbrev pub IfFalsified : Type 0 → Reading → Type 0
+IfFalsified P Falsified = P
+IfFalsified P (Satisfied l) = Unit {0}
+IfFalsified P (Implied l) = Unit {0}
+IfFalsified P (Undecided l k) = Unit {0}
+
+abbrev pub IfConflict : (ClauseId → Type 0) → Visit → Type 0
+IfConflict P (Stays watch) = Unit {0}
+IfConflict P Moves = Unit {0}
+IfConflict P (VisitConflict id) = P id

@@ -1,5 +1,5 @@
 -- The clause that a name stands for, and its number.
-use Rattle.std.specs.Prelude.{◌+◌, ℕ, min, cond, nat_le, map, zero, suc, List, [], ◌∷◌, Option, None, slice_get}
+use Rattle.std.specs.Prelude.{◌≡◌, ◌⊎◌, ◌+◌, ℕ, min, cond, nat_le, map, zero, suc, List, [], ◌∷◌, Option, Some, None, slice_get}
 use Rattle.std.specs.Option.{option_map}
 use Rattle.cnf_core.specs.Literal.{Literal}
 use Rattle.proof_check.specs.Steps.{Step, clause_of}
@@ -20,6 +20,10 @@ abbrev pub named : ℕ → Clauses → ClauseId → Option (List Literal)
 named level clauses (Given i) = slice_get clauses.given i
 named level clauses (Assumed i) = assumed_at level clauses.assumed i
 named level clauses (Learnt i) = option_map clause_of (slice_get clauses.learnt i)
+
+-- a step at this level may cite the name, as each may at level 0
+abbrev pub IsCiteable : ℕ → Clauses → ClauseId → Type 0
+IsCiteable from clauses id = (from ≡ 0) ⊎ ((c : List Literal) × (named 1 clauses id ≡ Some c))
 
 -- the number that a name has in a list of given clauses, as many assumptions as are listed, and learnt clauses
 abbrev pub number_of : ℕ → ℕ → ClauseId → ℕ

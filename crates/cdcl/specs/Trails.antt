@@ -1,5 +1,5 @@
 -- Trails, and clauses that follow by unit propagation along named clauses.
-use Rattle.std.specs.Prelude.{◌≡◌, ◌<◌, ◌≤◌, ◌⊎◌, ◌*◌, ◌-◌, ◌^◌, ℕ, Bool, true, false, eqb, List, [], ◌∷◌, map, filter, length, Option, Some, None, slice_get, slice_index_or, vec_len}
+use Rattle.std.specs.Prelude.{◌≡◌, ◌<◌, ◌≤◌, ◌⊎◌, ◌*◌, ◌-◌, ◌^◌, ℕ, Bool, true, false, eqb, List, [], ◌∷◌, length, Option, Some, None, slice_get, slice_index_or, vec_len}
 use Rattle.std.specs.List.{list_any}
 use Rattle.std.specs.Option.{option_map}
 use Rattle.cnf_core.specs.Literal.{Literal, negated}
@@ -19,10 +19,6 @@ seen_at seen v = slice_index_or seen v false
 -- some literal of the clause has this variable
 abbrev pub names : ℕ → List Literal → Bool
 names v clause = list_any (λ l. eqb l.variable v) clause
-
--- the negations of the entries whose variables are marked
-abbrev pub lesson_clause : List Bool → List Entry → List Literal
-lesson_clause seen entries = map (λ e. negated e.literal) (filter (λ e. seen_at seen e.literal.variable) entries)
 
 -- what comes after a clause was read
 abbrev pub after : (Literal → Bool) → Reading → Bool
@@ -99,10 +95,6 @@ pub record IsTrailOf (clauses : Clauses) (t : Assigned) : Type 0 where
 -- no entry is a decision
 abbrev pub AllReasoned : List Entry → Type 0
 AllReasoned entries = (i : ℕ) (e : Entry) → slice_get entries i ≡ Some e → e.reason ≡ None → ⊥
-
--- the entry is a decision
-abbrev pub IsDecision : List Entry → ℕ → Type 0
-IsDecision entries i = (e : Entry) × (slice_get entries i ≡ Some e) × (e.reason ≡ None)
 
 -- the named clause, which a step at this level may cite, is false
 abbrev pub IsConflict : ℕ → Clauses → List Entry → ClauseId → Type 0

@@ -4,9 +4,10 @@ ghost use Rattle.proof_check.specs.Propagation.{negations};
 ghost use Rattle.proof_check.specs.Room.{Within};
 ghost use Rattle.cdcl.specs.Sources.{named};
 ghost use Rattle.cdcl.specs.Fits.{Fits};
-ghost use Rattle.cdcl.specs.Derives.{Derives, NamesWithin, MarksWithin};
+ghost use Rattle.cdcl.specs.Derives.{Derives, NamesWithin, WorkWithin};
 ghost use Rattle.cdcl.specs.Tidy.{AreApart};
-ghost use Rattle.cdcl.specs.Trails.{seen_at, names, follows, IsTrailOf, IsConflict, HasRoom, AllReasoned, IsDecision, lesson_clause};
+ghost use Rattle.cdcl.specs.Trails.{seen_at, names, follows, IsTrailOf, IsConflict, HasRoom, AllReasoned};
+ghost use Rattle.cdcl.specs.Sources.{IsCiteable};
 
 use crate::assigned::{Assigned, Entry};
 use crate::clauses::{ClauseId, Clauses};
@@ -37,22 +38,12 @@ fn mark(seen: &mut Vec<bool>, clause: &[Lit], trail: &Assigned) -> usize
     fresh
 }
 
-/// The negations of the marked literals among the first entries.
-fn marked_negations(alloc: Global, entries: &[Entry], seen: &[bool]) -> Result<Vec<Lit>, AllocError>
-    ensures { IfOk result (λ v. v.items ≡ lesson_clause seen.now entries.now) }
-{
-    entries
-        .iter()
-        .filter(|entry| seen.get(entry.literal.variable() as usize) == Some(&true))
-        .map(|entry| entry.literal.negated())
-        .collect(alloc)
-}
-
-/// The marked variables, the clauses read so far, the last one first, and how many marked variables
-/// are of the level.
+/// The marked variables, the lesson's literals and the clauses read so far, the last one first, and how many marked
+/// variables are of the level.
 #[derive(Drop)]
 struct Work {
     seen: Vec<bool>,
+    kept: Vec<Lit>,
     hints: Vec<ClauseId>,
     open: usize,
 }
@@ -64,13 +55,14 @@ fn is_marked(seen: &[bool], literal: Lit) -> bool
     seen[literal.variable() as usize]
 }
 
-/// The entry's reason, where it is wanted.
-fn resolvable(entry: &Entry, from: u32, wanted: bool) -> Option<ClauseId>
-    ensures reason { IfSome result (λ id. (entry.now.reason ≡ Some id) × (from ≤ entry.now.level)) }
+/// The entry's reason, where it is wanted and a step may cite it.
+fn resolvable(clauses: &Clauses, entry: &Entry, from: u32, wanted: bool) -> Option<ClauseId>
+    ensures reason { IfSome result (λ id. (entry.now.reason ≡ Some id) × IsCiteable from clauses.now id) }
     ensures nothing { result ≡ None → wanted ≡ true → from ≡ 0 → entry.now.reason ≡ None }
 {
-    if wanted && entry.level >= from {
-        entry.reason
+    let reason = entry.reason?;
+    if wanted && (from == 0 || clauses.has(reason)) {
+        Some(reason)
     } else {
         None
     }
@@ -96,14 +88,50 @@ impl Work {
         requires room { HasRoom (vec_len trail.now.levels) trail.now.entries.items }
         requires conflict { IsConflict from clauses.now trail.now.entries.items conflict }
         ensures room { IfOk result (λ w. vec_len w.seen ≡ vec_len trail.now.levels) }
-        ensures occurs { IfOk result (λ w. (vars : List ℕ) → NamesWithin vars (named from clauses.now) → MarksWithin vars w.seen.items) }
-        ensures derives { IfOk result (λ w. Derives (named from clauses.now) trail.now.entries.items (length trail.now.entries.items) w.seen.items (reverse w.hints.items)) }
+        ensures kept { IfOk result (λ w. w.kept.items ≡ []) }
+        ensures occurs { IfOk result (λ w. (vars : List ℕ) → NamesWithin vars (named from clauses.now) → WorkWithin vars w.seen.items w.kept.items) }
+        ensures derives { IfOk result (λ w. Derives (named from clauses.now) trail.now.entries.items (length trail.now.entries.items) w.seen.items w.kept.items (reverse w.hints.items)) }
     {
         let mut hints = Vec::new(alloc);
         hints.push(conflict)?;
         let mut seen = unmarked(alloc, trail.levels.len())?;
         let open = mark(&mut seen, clauses.clause(conflict), trail);
-        Ok(Work { seen, hints, open })
+        Ok(Work {
+            seen,
+            kept: Vec::new(alloc),
+            hints,
+            open,
+        })
+    }
+
+    /// Whether the literals of an entry's reason are marked but for its own, or stand at level 0: then the lesson goes
+    /// without it (Sörensson and Biere, "Minimizing learned clauses", SAT 2009).
+    fn is_covered(&self, clauses: &Clauses, trail: &Assigned, entry: &Entry) -> bool {
+        let Some(reason) = entry.reason else {
+            return false;
+        };
+        if !clauses.has(reason) {
+            return false;
+        }
+        let own = entry.literal;
+        for literal in clauses.clause(reason) {
+            let is_seen = self.seen.get(literal.variable() as usize) == Some(&true);
+            if !is_seen && *literal != own && trail.level_of(*literal) > 0 {
+                return false;
+            }
+        }
+        true
+    }
+
+    /// Whether an entry's mark is to go to the literals of its reason.
+    fn is_wanted(&self, clauses: &Clauses, trail: &Assigned, entry: &Entry) -> bool {
+        if entry.level == trail.level {
+            return self.open > 1;
+        }
+        if entry.level == 0 {
+            return clauses.assumed.is_empty();
+        }
+        self.is_covered(clauses, trail, entry)
     }
 
     /// Replaces the entry's mark by those of its reason's other literals.
@@ -120,6 +148,7 @@ impl Work {
         ensures off { OnOk result (seen_at self.new.seen.items literal.variable ≡ false) }
         ensures marks { OnOk result ((v : ℕ) → (v ≡ literal.variable → ⊥) → seen_at self.new.seen.items v ≡ (seen_at self.old.seen.items v || names v clause.now)) }
         ensures hints { OnOk result (self.new.hints.items ≡ self.old.hints.items ++ reason ∷ []) }
+        ensures kept { self.new.kept ≡ self.old.kept }
     {
         self.hints.push(reason)?;
         let fresh = mark(&mut self.seen, clause, trail);
@@ -128,58 +157,74 @@ impl Work {
         Ok(())
     }
 
-    /// Goes below the entry, or answers false where the entry's mark stays.
+    /// Takes the entry's mark off, and puts the negation of its literal into the lesson.
+    fn keep(&mut self, literal: Lit) -> Result<(), AllocError>
+        requires { literal.variable < vec_len self.old.seen }
+        ensures room { vec_len self.new.seen ≡ vec_len self.old.seen }
+        ensures off { OnOk result (seen_at self.new.seen.items literal.variable ≡ false) }
+        ensures marks { OnOk result ((v : ℕ) → (v ≡ literal.variable → ⊥) → seen_at self.new.seen.items v ≡ seen_at self.old.seen.items v) }
+        ensures kept { OnOk result (self.new.kept.items ≡ self.old.kept.items ++ negated literal ∷ []) }
+        ensures hints { self.new.hints ≡ self.old.hints }
+    {
+        self.kept.push(literal.negated())?;
+        self.seen[literal.variable() as usize] = false;
+        Ok(())
+    }
+
+    /// Goes below the entry: its mark goes to its reason's other literals, or its negation into the lesson.
     fn descend(
         &mut self,
         clauses: &Clauses,
         trail: &Assigned,
         index: usize,
         from: u32,
-    ) -> Result<bool, AllocError>
+    ) -> Result<(), AllocError>
         requires trail { IsTrailOf clauses.now trail.now }
         requires index { index < length trail.now.entries.items }
         requires seen { vec_len self.old.seen ≡ vec_len trail.now.levels }
-        requires derives { Derives (named from clauses.now) trail.now.entries.items (index + 1) self.old.seen.items (reverse self.old.hints.items) }
+        requires derives { Derives (named from clauses.now) trail.now.entries.items (index + 1) self.old.seen.items self.old.kept.items (reverse self.old.hints.items) }
         ensures seen { vec_len self.new.seen ≡ vec_len trail.now.levels }
-        ensures stuck { IfOk result (λ moved. moved ≡ false → from ≡ 0 → IsDecision trail.now.entries.items index) }
-        ensures occurs { OnOk result ((vars : List ℕ) → NamesWithin vars (named from clauses.now) → MarksWithin vars self.old.seen.items → MarksWithin vars self.new.seen.items) }
-        ensures derives { IfOk result (λ moved. Derives (named from clauses.now) trail.now.entries.items (cond moved index (index + 1)) self.new.seen.items (reverse self.new.hints.items)) }
+        ensures kept { OnOk result (from ≡ 0 → AllReasoned trail.now.entries.items → self.new.kept.items ≡ self.old.kept.items) }
+        ensures occurs { OnOk result ((vars : List ℕ) → NamesWithin vars (named from clauses.now) → WorkWithin vars self.old.seen.items self.old.kept.items → WorkWithin vars self.new.seen.items self.new.kept.items) }
+        ensures derives { OnOk result (Derives (named from clauses.now) trail.now.entries.items index self.new.seen.items self.new.kept.items (reverse self.new.hints.items)) }
     {
         let entry = &trail.entries[index];
         if !is_marked(&self.seen, entry.literal) {
-            return Ok(true);
+            return Ok(());
         }
-        let wanted = (from == 0) | (self.open > 1);
-        let Some(reason) = resolvable(entry, from, wanted) else {
-            return Ok(false);
-        };
-        self.resolve(entry.literal, reason, clauses.clause(reason), trail)?;
-        Ok(true)
+        let wanted = (from == 0) | self.is_wanted(clauses, trail, entry);
+        match resolvable(clauses, entry, from, wanted) {
+            Some(reason) => {
+                self.resolve(entry.literal, reason, clauses.clause(reason), trail)?;
+                Ok(())
+            }
+            None => {
+                self.keep(entry.literal)?;
+                Ok(())
+            }
+        }
     }
 
-    /// Goes down the trail as far as entries are resolved.
-    fn run(&mut self, clauses: &Clauses, trail: &Assigned, from: u32) -> Result<usize, AllocError>
+    /// Goes down the whole trail.
+    fn run(&mut self, clauses: &Clauses, trail: &Assigned, from: u32) -> Result<(), AllocError>
         requires trail { IsTrailOf clauses.now trail.now }
         requires seen { vec_len self.old.seen ≡ vec_len trail.now.levels }
-        requires derives { Derives (named from clauses.now) trail.now.entries.items (length trail.now.entries.items) self.old.seen.items (reverse self.old.hints.items) }
-        ensures within { IfOk result (λ index. index ≤ length trail.now.entries.items) }
-        ensures bottom { IfOk result (λ index. from ≡ 0 → AllReasoned trail.now.entries.items → index ≡ 0) }
-        ensures occurs { OnOk result ((vars : List ℕ) → NamesWithin vars (named from clauses.now) → MarksWithin vars self.old.seen.items → MarksWithin vars self.new.seen.items) }
-        ensures derives { IfOk result (λ index. Derives (named from clauses.now) trail.now.entries.items index self.new.seen.items (reverse self.new.hints.items)) }
+        requires derives { Derives (named from clauses.now) trail.now.entries.items (length trail.now.entries.items) self.old.seen.items self.old.kept.items (reverse self.old.hints.items) }
+        ensures kept { OnOk result (from ≡ 0 → AllReasoned trail.now.entries.items → self.new.kept.items ≡ self.old.kept.items) }
+        ensures occurs { OnOk result ((vars : List ℕ) → NamesWithin vars (named from clauses.now) → WorkWithin vars self.old.seen.items self.old.kept.items → WorkWithin vars self.new.seen.items self.new.kept.items) }
+        ensures derives { OnOk result (Derives (named from clauses.now) trail.now.entries.items 0 self.new.seen.items self.new.kept.items (reverse self.new.hints.items)) }
     {
         let mut index = trail.entries.len();
         'entries: while index > 0 {
-            if !self.descend(clauses, trail, index - 1, from)? {
-                return Ok(index);
-            }
+            self.descend(clauses, trail, index - 1, from)?;
             index -= 1;
         }
-        Ok(index)
+        Ok(())
     }
 }
 
-/// The clause that the conflict teaches: at its level's first unique implication point, or from
-/// level 0 the empty one.
+/// The clause that the conflict teaches, with its literals from the trail's end down: at its level's first unique
+/// implication point, or from level 0 the empty one.
 pub fn analyze(
     alloc: Global,
     clauses: &Clauses,
@@ -195,11 +240,10 @@ pub fn analyze(
     ensures valid { IfOk result (λ lesson. follows (named from clauses.now) (negations lesson.clause.items) lesson.hints.items ≡ true) }
 {
     let mut work = Work::begin(alloc, clauses, trail, conflict, from)?;
-    let index = work.run(clauses, trail, from)?;
+    work.run(clauses, trail, from)?;
     work.hints.reverse();
-    let clause = marked_negations(alloc, &trail.entries[..index], &work.seen)?;
     Ok(Lesson {
-        clause,
+        clause: work.kept,
         hints: work.hints,
     })
 }

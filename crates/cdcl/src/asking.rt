@@ -14,7 +14,9 @@ use crate::answer::Answer;
 use crate::assigned::Assigned;
 use crate::choosing::Choice;
 use crate::clauses::{ClauseId, Clauses};
+use crate::restarts::Restarts;
 use crate::search::{Event, Search};
+use crate::watching::Watches;
 use cnf_core::{Assignment, Formula, Lit};
 use plain_data::Items;
 use proof_check::{Steps, Trail};
@@ -48,6 +50,9 @@ impl Search {
             },
             trail: Assigned::new(alloc),
             choice: Choice::new(alloc),
+            watches: Watches::new(alloc),
+            entered: 0,
+            followed: 0,
         }
     }
 
@@ -67,6 +72,9 @@ impl Search {
         let room = room_for(self.clauses.given.literals(), room_for(assume, 0));
         self.trail = Assigned::with_room(alloc, room)?;
         self.choice = Choice::with_room(alloc, room)?;
+        self.watches = Watches::with_room(alloc, room, self.clauses.given.len())?;
+        self.entered = 0;
+        self.followed = 0;
         Ok(())
     }
 
@@ -130,14 +138,18 @@ impl Search {
         ensures spent { IfOk result (λ a. IfSpent a (λ kept steps. IsTrail self.old.clauses.given kept steps × AreTidy self.old.clauses.given kept × AreTidy self.old.clauses.given steps × (length steps ≡ conflicts))) }
         ensures given { self.new.clauses.given ≡ self.old.clauses.given }
     {
+        let mut restarts = Restarts::new();
         for _met in 0..conflicts {
-            match self.until_event()? {
+            match self.until_event(alloc)? {
                 Event::Satisfied => return Ok(Answer::Sat(self.assignment(alloc)?)),
                 Event::Conflict(id) => {
                     if self.trail.level == 0 {
                         return Ok(Answer::Unsat(self.refute(alloc, id)?));
                     }
                     self.learn(alloc, id)?;
+                    if restarts.note() {
+                        self.go_back(0);
+                    }
                 }
             }
         }

@@ -7,6 +7,7 @@ ghost use Rattle.cdcl.specs.Known.{known, Reads, IsOpen, open_count};
 ghost use Rattle.cdcl.specs.Trails.{IsTrailOf, Implies, KeepsRoot, top_level};
 
 use crate::clauses::ClauseId;
+use crate::order::Order;
 use cnf_core::Lit;
 use std::alloc::{AllocError, Global};
 
@@ -21,14 +22,14 @@ pub struct Entry {
 /// What a clause says where some literals are taken as true.
 #[derive(Clone, Copy, Debug)]
 pub enum Reading {
-    /// A literal is true.
-    Satisfied,
+    /// This literal is true.
+    Satisfied(Lit),
     /// All literals are false.
     Falsified,
     /// All literals but this one are false, and this one has no value.
     Implied(Lit),
-    /// This literal has no value, and some other hasn't either.
-    Undecided(Lit),
+    /// This literal has no value, and the second one hasn't either.
+    Undecided(Lit, Lit),
 }
 
 /// The literals that are taken as true, in order: entries with their reasons and levels, a mark for
@@ -83,6 +84,14 @@ impl Assigned {
         !self.holds(literal) && !self.holds(literal.negated())
     }
 
+    /// The level of a literal's variable.
+    pub fn level_of(&self, literal: Lit) -> u32 {
+        self.levels
+            .get(literal.variable() as usize)
+            .copied()
+            .unwrap_or(0)
+    }
+
     /// What the clause says.
     pub fn read(&self, clause: &[Lit]) -> Reading
         ensures { Reads (known self.now.taken.items) clause.now result }
@@ -90,14 +99,14 @@ impl Assigned {
         let mut candidate = None;
         for literal in clause {
             if self.holds(*literal) {
-                return Reading::Satisfied;
+                return Reading::Satisfied(*literal);
             }
             if !self.holds(literal.negated()) {
                 match candidate {
                     None => candidate = Some(*literal),
                     Some(first) => {
                         if first != *literal {
-                            return Reading::Undecided(first);
+                            return Reading::Undecided(first, *literal);
                         }
                     }
                 }
@@ -141,8 +150,8 @@ impl Assigned {
         Ok(())
     }
 
-    /// Takes the last literal back.
-    fn pop(&mut self)
+    /// Takes the last literal back, and answers it.
+    fn pop(&mut self) -> Option<Lit>
         requires { (clauses : ClausesValue) × IsTrailOf clauses self.old }
         ensures trail { (clauses : ClausesValue) → IsTrailOf clauses self.old → IsTrailOf clauses self.new }
         ensures shorter { (self.old.entries.items ≡ []) ⊎ ((e : _) × (self.old.entries.items ≡ self.new.entries.items ++ e ∷ [])) }
@@ -151,7 +160,9 @@ impl Assigned {
     {
         if let Some(entry) = self.entries.pop() {
             self.taken[entry.literal.code() as usize] = false;
+            return Some(entry.literal);
         }
+        None
     }
 
     /// The level of the last entry, or 0.
@@ -164,15 +175,15 @@ impl Assigned {
         }
     }
 
-    /// Takes back the literals above a level.
-    pub fn backjump(&mut self, level: u32)
+    /// Takes back the literals above a level, and puts their variables back into the order of those to be decided.
+    pub fn backjump(&mut self, level: u32, order: &mut Order)
         requires { (clauses : ClausesValue) × IsTrailOf clauses self.old }
         ensures trail { (clauses : ClausesValue) → IsTrailOf clauses self.old → IsTrailOf clauses self.new }
         ensures root { KeepsRoot self.old.entries.items self.new.entries.items }
         ensures room { vec_len self.new.levels ≡ vec_len self.old.levels }
     {
         while self.last_level() > level {
-            self.pop();
+            order.release(self.pop());
         }
         self.level = level;
     }

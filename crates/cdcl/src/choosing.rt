@@ -1,40 +1,42 @@
-ghost use Rattle.std.specs.Prelude.{◌≡◌, ◌<◌, ◌≤◌, ◌*◌, ◌^◌, true, vec_len, IfSome};
+ghost use Rattle.std.specs.Prelude.{◌≡◌, ◌<◌, ◌≤◌, ◌^◌, vec_len, IfSome};
 ghost use Rattle.cdcl.specs.Known.{known, IsOpen};
 
 use crate::assigned::Assigned;
+use crate::clauses::{ClauseId, Clauses};
+use crate::order::Order;
 use cnf_core::Lit;
 use std::alloc::{AllocError, Global};
 
-/// Which variable is decided next, and how: an open one with the greatest mark, with the sign that
-/// it had last. A mark is the mean of the older mark and the number of the conflict in which the
-/// variable occurred (Biere and Fröhlich, "Evaluating CDCL Variable Scoring Schemes", SAT 2015).
+/// Which variable is decided next, and how: the first open one in the order, with the sign that it had last.
 #[derive(Drop)]
 pub struct Choice {
-    marks: Vec<u64>,
+    pub order: Order,
     signs: Vec<bool>,
+    /// At a variable: the number of the last conflict in which it was marked.
+    marked: Vec<u64>,
     conflict: u64,
 }
 
 impl Choice {
-    /// The distance of two conflicts' numbers.
-    const STEP: u64 = 0x10_0000;
-
     /// No conflicts yet, over no variables. It takes no memory.
     pub fn new(alloc: Global) -> Choice {
         Choice {
-            marks: Vec::new(alloc),
+            order: Order::new(alloc),
             signs: Vec::new(alloc),
+            marked: Vec::new(alloc),
             conflict: 0,
         }
     }
 
     /// No conflicts yet, over variables below `room`.
     pub fn with_room(alloc: Global, room: usize) -> Result<Choice, AllocError> {
-        let marks = vec![in alloc; 0; room]?;
+        let order = Order::with_room(alloc, room)?;
         let signs = vec![in alloc; false; room]?;
+        let marked = vec![in alloc; 0; room]?;
         Ok(Choice {
-            marks,
+            order,
             signs,
+            marked,
             conflict: 0,
         })
     }
@@ -46,52 +48,54 @@ impl Choice {
         }
     }
 
-    /// Begins the next conflict.
-    pub fn begin_conflict(&mut self) {
-        self.conflict = self.conflict.saturating_add(Choice::STEP);
+    /// Marks a variable, once in a conflict.
+    fn mark_once(&mut self, variable: u32) {
+        if let Some(last) = self.marked.get_mut(variable as usize) {
+            if *last < self.conflict {
+                *last = self.conflict;
+                self.order.mark(variable);
+            }
+        }
     }
 
     /// Marks the variables of a clause that had a part in the conflict.
-    pub fn mark(&mut self, clause: &[Lit]) {
+    fn mark(&mut self, clause: &[Lit]) {
         for literal in clause {
-            if let Some(mark) = self.marks.get_mut(literal.variable() as usize) {
-                *mark = (*mark / 2).saturating_add(self.conflict / 2);
+            self.mark_once(literal.variable());
+        }
+    }
+
+    /// Marks the variables of the clauses that had a part in the next conflict.
+    pub fn mark_all(&mut self, clauses: &Clauses, ids: &[ClauseId]) {
+        self.conflict = self.conflict.saturating_add(1);
+        self.order.begin_conflict();
+        for id in ids {
+            if clauses.has(*id) {
+                self.mark(clauses.clause(*id));
             }
         }
     }
 
-    /// The variable's mark.
-    fn mark_of(&self, variable: u32) -> u64 {
-        self.marks.get(variable as usize).copied().unwrap_or(0)
-    }
-
-    /// The open variable with the greatest mark, and of these the one with the least number.
-    fn most_marked(&self, trail: &Assigned) -> Option<u32>
-        requires { vec_len trail.now.levels ≤ 2 ^ 31 }
-        ensures { IfSome result (λ v. (1 ≤ v) × (v < vec_len trail.now.levels) × IsOpen (known trail.now.taken.items) (record { variable = v; positive = true })) }
-    {
-        let mut best = None;
-        let mut greatest = 0;
-        for variable in 1..trail.levels.len() as u32 {
-            let literal = Lit::new(variable, true);
-            if trail.is_open(literal) {
-                let mark = self.mark_of(variable);
-                if best.is_none() || mark > greatest {
-                    best = Some(variable);
-                    greatest = mark;
-                }
-            }
+    /// The literal of the variable that is decided next, or nothing where none is left in the order.
+    fn first(&mut self) -> Option<Lit> {
+        let variable = self.order.pop()?;
+        if variable == 0 || variable > Lit::MAX_VARIABLE {
+            return None;
         }
-        best
-    }
-
-    /// The literal to decide, or nothing where each variable has a value.
-    pub fn pick(&self, trail: &Assigned) -> Option<Lit>
-        requires { vec_len trail.now.levels ≤ 2 ^ 31 }
-        ensures { IfSome result (λ l. (l.variable < vec_len trail.now.levels) × IsOpen (known trail.now.taken.items) l) }
-    {
-        let variable = self.most_marked(trail)?;
         let positive = self.signs.get(variable as usize) == Some(&true);
         Some(Lit::new(variable, positive))
+    }
+
+    /// The literal to decide, or nothing where none is left in the order.
+    pub fn pick(&mut self, trail: &Assigned) -> Option<Lit>
+        ensures { IfSome result (λ l. (l.variable < vec_len trail.now.levels) × IsOpen (known trail.now.taken.items) l) }
+    {
+        for _ in 0..trail.levels.len() {
+            let literal = self.first()?;
+            if (literal.variable() as usize) < trail.levels.len() && trail.is_open(literal) {
+                return Some(literal);
+            }
+        }
+        None
     }
 }

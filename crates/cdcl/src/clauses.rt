@@ -1,4 +1,5 @@
-ghost use Rattle.std.specs.Prelude.{◌≡◌, ◌<◌, ◌+◌, ◌^◌, ◌∷◌, [], length, slice_get, Some, IsSome};
+ghost use Rattle.std.specs.Prelude.{◌≡◌, ◌<◌, ◌+◌, ◌^◌, ◌∷◌, [], length, slice_get, List, Some, IsSome, true};
+ghost use Rattle.cnf_core.specs.Literal.{Literal};
 ghost use Rattle.cdcl.specs.Sources.{named};
 
 use cnf_core::{Formula, Lit};
@@ -39,6 +40,17 @@ impl Clauses {
             ClauseId::Given(index) => self.given.clause(index as usize),
             ClauseId::Assumed(index) => unit_at(self.assumed.as_slice(), index as usize),
             ClauseId::Learnt(index) => self.learnt.step(index as usize).clause,
+        }
+    }
+
+    /// Whether there is a clause of this name that a step may cite.
+    pub fn has(&self, id: ClauseId) -> bool
+        ensures { result ≡ true → (c : List Literal) × (named 1 self.now id ≡ Some c) }
+    {
+        match id {
+            ClauseId::Given(index) => (index as usize) < self.given.len(),
+            ClauseId::Assumed(_) => false,
+            ClauseId::Learnt(index) => (index as usize) < self.learnt.len(),
         }
     }
 

@@ -91,17 +91,29 @@ fn shifted_steps(
     Ok(moved)
 }
 
-/// The highest level below the trail's own at which one of the literals was taken.
-fn second_level(clause: &[Lit], trail: &Assigned) -> u32 {
-    let mut highest = 0;
-    for literal in clause {
-        let variable = literal.variable() as usize;
-        let level = trail.levels.get(variable).copied().unwrap_or(0);
-        if level < trail.level && level > highest {
-            highest = level;
-        }
+/// Where a lesson leads: its literals of the two highest levels, and the lower one of these.
+#[derive(Clone, Copy, Debug)]
+struct Jump {
+    first: Lit,
+    second: Lit,
+    level: u32,
+}
+
+/// Where a lesson leads that has its literals from the trail's end down: to level 0 where it has fewer than two.
+fn jump_of(clause: &[Lit], trail: &Assigned) -> Jump {
+    let first = clause.first().copied().unwrap_or(Lit::new(1, true));
+    match clause.get(1) {
+        None => Jump {
+            first,
+            second: first,
+            level: 0,
+        },
+        Some(second) => Jump {
+            first,
+            second: *second,
+            level: trail.level_of(*second),
+        },
     }
-    highest
 }
 
 impl Clauses {
@@ -128,6 +140,22 @@ impl Clauses {
 }
 
 impl Search {
+    /// Puts a lesson at the end of the clauses learnt.
+    fn keep(&mut self, alloc: Global, lesson: &Lesson) -> Result<(), AllocError>
+        requires ready { IsReady self.old }
+        requires room { length self.old.clauses.given + length self.old.clauses.assumed + length self.old.clauses.learnt + 1 < 2 ^ 32 }
+        requires valid { follows (named 1 self.old.clauses) (negations lesson.now.clause.items) lesson.now.hints.items ≡ true }
+        requires apart { AreApart lesson.now.clause.items }
+        requires occurs { Within (variables_of self.old.clauses.given) lesson.now.clause.items }
+        ensures ready { OnOk result (IsReady self.new) }
+        ensures more { OnOk result (length self.new.clauses.learnt ≡ length self.old.clauses.learnt + 1) }
+        ensures given { self.new.clauses.given ≡ self.old.clauses.given }
+        ensures assumed { self.new.clauses.assumed ≡ self.old.clauses.assumed }
+    {
+        self.clauses.learn(alloc, lesson)?;
+        Ok(())
+    }
+
     /// Learns from a conflict above level 0, and goes back to where the learnt clause is unit.
     pub fn learn(&mut self, alloc: Global, conflict: ClauseId) -> Result<(), AllocError>
         requires ready { IsReady self.old }
@@ -140,12 +168,14 @@ impl Search {
         if self.clauses.count() >= 4294967295 {
             return Err(AllocError);
         }
+        let index = self.clauses.learnt.len() as u32;
         let lesson = analyze(alloc, &self.clauses, &self.trail, conflict, 1)?;
-        self.choice.begin_conflict();
-        self.choice.mark(&lesson.clause);
-        self.clauses.learn(alloc, &lesson)?;
-        let level = second_level(&lesson.clause, &self.trail);
-        self.trail.backjump(level);
+        let jump = jump_of(&lesson.clause, &self.trail);
+        self.choice.mark_all(&self.clauses, &lesson.hints);
+        self.go_back(jump.level);
+        self.keep(alloc, &lesson)?;
+        self.watches.wait_learnt(index, jump.first, jump.second)?;
+        self.heed(ClauseId::Learnt(index))?;
         Ok(())
     }
 

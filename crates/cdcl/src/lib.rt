@@ -9,8 +9,11 @@ mod assigned;
 mod choosing;
 mod clauses;
 mod learning;
+mod order;
+mod restarts;
 mod search;
 mod solver;
+mod watching;
 
 pub use answer::{Answer, SolveFault};
 pub use solver::Solver;

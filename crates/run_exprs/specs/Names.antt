@@ -1,5 +1,5 @@
 -- What a name is by its declaration: where it leads, and whether it leads to an object or function.
-use Rattle.std.specs.Prelude.{ℕ, Bool, true, false, Option, Some, None}
+use Rattle.std.specs.Prelude.{ℕ, ℤ, pos, Bool, true, false, Option, Some, None}
 use Rattle.c_store.specs.Store.{start}
 use Rattle.c_says.specs.declared.scope.Duration.TheVariants as duration
 use Rattle.c_says.specs.declared.scope.Entry.{Entry}
@@ -30,3 +30,15 @@ is_located_by means.Faulty = false
 abbrev pub is_located : Option Entry → Bool
 is_located None = false
 is_located (Some e) = is_located_by e.means
+
+abbrev pub fixed_by : Means → Option ℤ
+fixed_by (means.Object t duration linkage) = None
+fixed_by (means.Function t linkage) = None
+fixed_by (means.Typedef t) = Some (pos 0)
+fixed_by (means.Constant z) = Some z
+fixed_by means.Faulty = Some (pos 0)
+
+-- the value of a name that isn't an object or function: that of a constant, else 0
+abbrev pub fixed_in : Option Entry → Option ℤ
+fixed_in None = Some (pos 0)
+fixed_in (Some e) = fixed_by e.means

@@ -24,7 +24,7 @@ use c_type_scope::Scope;
 use c_type_terms::{Member, Tables};
 use std::alloc::{AllocError, Global};
 
-fn offset_in(member: Option<&Member>) -> u64
+pub(crate) fn offset_in(member: Option<&Member>) -> u64
     ensures { result ≡ form.offset_in (option_copied member.entry) }
 {
     match member {

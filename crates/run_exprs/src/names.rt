@@ -53,7 +53,7 @@ pub(crate) fn name_address<L: Context>(
 }
 
 /// Whether a name in force is an object or function.
-pub(crate) fn leads(entry: Option<&Shared<Entry>>) -> bool
+pub fn leads(entry: Option<&Shared<Entry>>) -> bool
     ensures { result ≡ is_located (option_copied entry.entry) }
 {
     match entry {
@@ -66,6 +66,28 @@ pub(crate) fn leads(entry: Option<&Shared<Entry>>) -> bool
         },
         None => false,
     }
+}
+
+/// What is told of a name. It fails for want of memory alone.
+#[tactic(auto, using(crate::proofs::NameLaws::name_rooted, crate::proofs::NameLaws::name_typed, crate::proofs::NameLaws::name_text, crate::proofs::NameLaws::name_room))]
+pub fn name_facts(
+    alloc: Global,
+    at: u32,
+    name: &Name,
+    scope: &Scope,
+    base: u64,
+) -> Result<Facts, AllocError>
+    ensures { IfOk result (λ x. (l : Level) → Tells l base scope.now x (form.identifier at scope.now (look_up scope.now name.now))) }
+{
+    let entry = scope.look_up(name.get().as_slice());
+    let rooted = leads(entry);
+    let told = identifier(alloc, at, entry)?;
+    Ok(Facts {
+        told,
+        rooted,
+        text: None,
+        next: base,
+    })
 }
 
 /// The address that a name is, and what is told of it: nothing is read. It fails for want of memory alone.

@@ -9,9 +9,9 @@ mark-open-requires c =
     (conflict-read c.args.from c.args.clauses.now c.args.trail.now.entries.items c.args.conflict _ c.requires.conflict c.clause.ensures).1)
 
 pub returns-clause-occurs : goal.returns-clause-occurs
-returns-clause-occurs c = λ vars w. begin-within vars (named c.args.from c.args.clauses.now) c.args.conflict c.clause.result.now c.in_ok-seen.seen.items c.mark-open.new.seen.items
-    (conflict-read c.args.from c.args.clauses.now c.args.trail.now.entries.items c.args.conflict _ c.requires.conflict c.clause.ensures).0 c.in_ok-seen.ensures.marks c.mark-open.ensures.marks w
+returns-clause-occurs c = λ vars w. begin-within vars (named c.args.from c.args.clauses.now) c.args.conflict c.clause.result.now _ c.in_ok-seen.seen.items c.mark-open.new.seen.items
+    (conflict-read c.args.from c.args.clauses.now c.args.trail.now.entries.items c.args.conflict _ c.requires.conflict c.clause.ensures).0 c.new.ensures.items c.in_ok-seen.ensures.marks c.mark-open.ensures.marks w
 
 pub returns-clause-derives : goal.returns-clause-derives
 returns-clause-derives c =
-    begin-derives c.args.from c.args.clauses.now c.args.trail.now.entries.items c.args.conflict _ _ _ _ c.clause.result.now c.requires.conflict c.clause.ensures c.in_ok-push.ensures.items c.new-hints.ensures.items c.in_ok-seen.ensures.marks c.mark-open.ensures.marks
+    begin-derives c.args.from c.args.clauses.now c.args.trail.now.entries.items c.args.conflict _ _ _ _ _ c.clause.result.now c.requires.conflict c.clause.ensures c.in_ok-push.ensures.items c.new-hints.ensures.items c.new.ensures.items c.in_ok-seen.ensures.marks c.mark-open.ensures.marks

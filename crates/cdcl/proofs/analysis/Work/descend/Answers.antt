@@ -1,11 +1,9 @@
-use Rattle.std.proofs.Common.{length, reverse, get_or, sym, ◌∙◌, None, Some, false, ap, refl, vec_len, ◌≡◌}
+use Rattle.std.proofs.Common.{length, reverse, get_or, sym, ◌∙◌, None, Some, false, true, ap, refl, vec_len, ◌≡◌}
 use Rattle.std.specs.List.{slice_get}
-use Rattle.std.proofs.lemmas.Option.{slice_get-get_or}
-use Rattle.cdcl.specs.declared.assigned.Entry.{Entry}
 use Rattle.cdcl.specs.Trails.{seen_at}
 use Rattle.cdcl.specs.Sources.{named}
 use Rattle.cdcl.proofs.Naming.{named-some}
-use Rattle.cdcl.proofs.Derivations.{Derives-skip, implied-fits, reason-read, resolve-derives, resolve-within, entry-read, entry-literal}
+use Rattle.cdcl.proofs.Derivations.{Derives-skip, implied-fits, reason-read, resolve-derives, resolve-within, keep-derives, keep-within, entry-read, entry-literal}
 use Rattle.cdcl.proofs.analysis.Work.descend.Goals as goal
 
 pub is_marked-requires : goal.is_marked-requires
@@ -13,14 +11,10 @@ is_marked-requires c = rw (c.deref.ensures.len, c.requires.seen) (c.requires.tra
 
 pub returns-then-not-is_marked-clause-derives : goal.returns-then-not-is_marked-clause-derives
 returns-then-not-is_marked-clause-derives c =
-    Derives-skip (named c.args.from c.args.clauses.now) c.args.trail.now.entries.items c.args.index c.args.self.now.seen.items (reverse c.args.self.now.hints.items) c.index-entry.result.now.literal
+    Derives-skip (named c.args.from c.args.clauses.now) c.args.trail.now.entries.items c.args.index c.args.self.now.seen.items c.args.self.now.kept.items (reverse c.args.self.now.hints.items) c.index-entry.result.now.literal
     (entry-literal c.args.trail.now.entries.items c.args.index c.index-entry.result.now (entry-read c.args.trail.now.entries.items c.args.index c.index-entry.result.now c.requires.index c.index-entry.ensures))
     (ap (λ s. seen_at s c.index-entry.result.now.literal.variable) (sym c.deref.ensures.value) ∙ sym c.is_marked.ensures ∙ c.if-not-is_marked.true)
     c.requires.derives
-
-pub returns-in_default-clause-stuck : goal.returns-in_default-clause-stuck
-returns-in_default-clause-stuck c = λ _ root.
-    (c.index-entry.result.now, entry-read c.args.trail.now.entries.items c.args.index c.index-entry.result.now c.requires.index c.index-entry.ensures, c.in_default.ensures.nothing refl (rw root refl) root)
 
 pub clause-requires : goal.clause-requires
 clause-requires c =
@@ -34,14 +28,30 @@ resolve-requires-clause-fits c =
     (reason-read c.args.from c.args.clauses.now c.args.trail.now.entries.items c.args.index c.index-entry.result.now c.in-Some.reason c.clause.result.now c.requires.trail.reasons
     (entry-read c.args.trail.now.entries.items c.args.index c.index-entry.result.now c.requires.index c.index-entry.ensures) c.in-Some.ensures.reason.0 c.in-Some.ensures.reason.1 c.clause.ensures).1)
 
-pub returns-clause-occurs : goal.returns-clause-occurs
-returns-clause-occurs c = λ vars w before. resolve-within vars (named c.args.from c.args.clauses.now) c.in-Some.reason c.clause.result.now c.index-entry.result.now.literal.variable c.args.self.now.seen.items c.resolve.new.self.seen.items
+pub returns-in_ok-resolve-in-Some-clause-occurs : goal.returns-in_ok-resolve-in-Some-clause-occurs
+returns-in_ok-resolve-in-Some-clause-occurs c = λ vars w before. resolve-within vars (named c.args.from c.args.clauses.now) c.in-Some.reason c.clause.result.now c.args.self.now.kept.items _ c.index-entry.result.now.literal.variable c.args.self.now.seen.items c.resolve.new.self.seen.items
     (reason-read c.args.from c.args.clauses.now c.args.trail.now.entries.items c.args.index c.index-entry.result.now c.in-Some.reason c.clause.result.now c.requires.trail.reasons
     (entry-read c.args.trail.now.entries.items c.args.index c.index-entry.result.now c.requires.index c.index-entry.ensures) c.in-Some.ensures.reason.0 c.in-Some.ensures.reason.1 c.clause.ensures).0
-    c.in_ok-resolve.ensures.off c.in_ok-resolve.ensures.marks w before
+    (ap (λ k. k.items) c.in_ok-resolve-in-Some.ensures.kept) c.in_ok-resolve-in-Some.ensures.off c.in_ok-resolve-in-Some.ensures.marks w before
 
-pub returns-clause-derives : goal.returns-clause-derives
-returns-clause-derives c =
-    resolve-derives c.args.from c.args.clauses.now c.args.trail.now.entries.items c.args.index c.args.self.now.seen.items c.resolve.new.self.seen.items c.in-Some.reason _ _ c.index-entry.result.now c.clause.result.now c.requires.trail.distinct c.requires.trail.reasons
+pub returns-in_ok-resolve-in-Some-clause-derives : goal.returns-in_ok-resolve-in-Some-clause-derives
+returns-in_ok-resolve-in-Some-clause-derives c =
+    resolve-derives c.args.from c.args.clauses.now c.args.trail.now.entries.items c.args.index c.args.self.now.seen.items c.resolve.new.self.seen.items c.args.self.now.kept.items _ c.in-Some.reason _ _ c.index-entry.result.now c.clause.result.now c.requires.trail.distinct c.requires.trail.reasons
     (entry-read c.args.trail.now.entries.items c.args.index c.index-entry.result.now c.requires.index c.index-entry.ensures) c.in-Some.ensures.reason.0 c.in-Some.ensures.reason.1 c.clause.ensures
-    c.in_ok-resolve.ensures.hints c.in_ok-resolve.ensures.off c.in_ok-resolve.ensures.marks c.requires.derives
+    c.in_ok-resolve-in-Some.ensures.hints (ap (λ k. k.items) c.in_ok-resolve-in-Some.ensures.kept) c.in_ok-resolve-in-Some.ensures.off c.in_ok-resolve-in-Some.ensures.marks c.requires.derives
+
+pub returns-in_ok-keep-in-None-clause-kept : goal.returns-in_ok-keep-in-None-clause-kept
+returns-in_ok-keep-in-None-clause-kept c = λ root all.
+    absurd (all c.args.index c.index-entry.result.now (entry-read c.args.trail.now.entries.items c.args.index c.index-entry.result.now c.requires.index c.index-entry.ensures) (c.in-None.ensures.nothing refl (rw root refl) root))
+
+pub returns-in_ok-keep-in-None-clause-occurs : goal.returns-in_ok-keep-in-None-clause-occurs
+returns-in_ok-keep-in-None-clause-occurs c = λ vars w before.
+    keep-within vars c.args.self.now.kept.items _ c.index-entry.result.now.literal c.args.self.now.seen.items c.keep.new.self.seen.items c.in_ok-keep-in-None.ensures.kept
+    (ap (λ s. seen_at s c.index-entry.result.now.literal.variable) (sym c.deref.ensures.value) ∙ sym c.is_marked.ensures ∙ c.if-not-is_marked.false)
+    c.in_ok-keep-in-None.ensures.off c.in_ok-keep-in-None.ensures.marks before
+
+pub returns-in_ok-keep-in-None-clause-derives : goal.returns-in_ok-keep-in-None-clause-derives
+returns-in_ok-keep-in-None-clause-derives c =
+    keep-derives (named c.args.from c.args.clauses.now) c.args.trail.now.entries.items c.args.index c.args.self.now.seen.items c.keep.new.self.seen.items c.args.self.now.kept.items _ _ c.args.self.now.hints.items c.index-entry.result.now.literal c.requires.trail.distinct
+    (entry-literal c.args.trail.now.entries.items c.args.index c.index-entry.result.now (entry-read c.args.trail.now.entries.items c.args.index c.index-entry.result.now c.requires.index c.index-entry.ensures))
+    (ap (λ k. k.items) c.in_ok-keep-in-None.ensures.hints) c.in_ok-keep-in-None.ensures.kept c.in_ok-keep-in-None.ensures.off c.in_ok-keep-in-None.ensures.marks c.requires.derives

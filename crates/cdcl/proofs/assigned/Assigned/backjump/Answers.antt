@@ -3,24 +3,24 @@ use Rattle.cdcl.proofs.Placements.{levels-jump, root-then, root-shorter}
 use Rattle.cdcl.proofs.assigned.Assigned.backjump.Goals as goal
 
 pub pop-requires : goal.pop-requires
-pop-requires c = (c.requires.0, c.loop-self.invariant.trail c.requires.0 c.requires.1)
+pop-requires c = (c.requires.0, c.loop-order.invariant.trail c.requires.0 c.requires.1)
 
-pub loop-self-preserved : goal.loop-self-preserved
-loop-self-preserved c = record {
-  trail = λ clauses t. c.pop.ensures.trail clauses (c.loop-self.invariant.trail clauses t);
-  root = root-then c.args.self.now.entries.items c.loop-self.self.entries.items c.pop.new.self.entries.items c.loop-self.invariant.root
-      (root-shorter c.loop-self.self.entries.items c.pop.new.self.entries.items c.args.level c.last_level.result c.pop.ensures.shorter c.last_level.ensures c.loop-self-test.true);
-  room = c.pop.ensures.room ∙ c.loop-self.invariant.room;
+pub loop-order-preserved : goal.loop-order-preserved
+loop-order-preserved c = record {
+  trail = λ clauses t. c.pop.ensures.trail clauses (c.loop-order.invariant.trail clauses t);
+  root = root-then c.args.self.now.entries.items c.loop-order.self.entries.items c.pop.new.self.entries.items c.loop-order.invariant.root
+      (root-shorter c.loop-order.self.entries.items c.pop.new.self.entries.items c.args.level c.last_level.result c.pop.ensures.shorter c.last_level.ensures c.loop-order-test.true);
+  room = c.pop.ensures.room ∙ c.loop-order.invariant.room;
 }
 
 pub returns-clause-trail : goal.returns-clause-trail
 returns-clause-trail c = λ clauses u.
-    let t = c.loop-self.invariant.trail clauses u in
+    let t = c.loop-order.invariant.trail clauses u in
     record {
       distinct = t.distinct;
       reasons = t.reasons;
       in_room = t.in_room;
-      have_levels = levels-jump c.loop-self.self.entries.items c.args.level c.loop-self.self.level c.last_level.result t.have_levels c.last_level.ensures c.loop-self-test.false;
+      have_levels = levels-jump c.loop-order.self.entries.items c.args.level c.loop-order.self.level c.last_level.result t.have_levels c.last_level.ensures c.loop-order-test.false;
       are_placed = t.are_placed;
       paired = t.paired;
       small = t.small;

@@ -1,0 +1,7 @@
+use Rattle.c_memory.specs.Memories.{initial_bytes}
+use Rattle.c_machine.specs.States.{state}
+use Rattle.c_machine.proofs.machine.Machine.object.Goals as goal
+
+pub returns : goal.returns
+unfolding state
+returns c = c.object.ensures (initial_bytes c.args.self.now.world)

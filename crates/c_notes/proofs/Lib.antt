@@ -1,0 +1,4 @@
+pub mod Parts
+pub mod Passing
+pub mod EachForm
+pub mod OnCalls

@@ -1,0 +1,3 @@
+pub mod CallsTold
+pub mod Tellings
+pub mod Relations

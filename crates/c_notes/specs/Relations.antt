@@ -1,0 +1,53 @@
+-- What it is that code has found what is noted of an expression.
+use Rattle.std.specs.Prelude.{◌≡◌, List, [], ◌∷◌, Option}
+use Rattle.c_tree.specs.declared.expr.Expr.{Expr}
+use Rattle.c_says.specs.declared.shown.Shown.{Shown}
+use Rattle.c_says.specs.Scopes.{Scope}
+use Rattle.c_says.specs.Typing.{Typed, typed_in, told_of, used}
+use Rattle.c_says.specs.Trees.{typed}
+use Rattle.c_means.specs.Parts.{Level}
+use Rattle.c_runs.specs.declared.profile.Profile.{Profile}
+use Rattle.c_runs.specs.Notes.{Noted, noted}
+use Rattle.c_runs.specs.Rules.{identity_index}
+use Rattle.c_notes.specs.declared.arguments.ArgumentNotes.{ArgumentNotes}
+use Rattle.c_notes.specs.declared.notes.ExprNotes.{ExprNotes}
+use Rattle.c_notes.specs.declared.notes.NotedExpr.{NotedExpr}
+use Rattle.c_notes.specs.Tellings.{notes_of, and_noted}
+
+-- a level that knows what identity functions hand on
+pub record Knows (p : Profile) (l : Level) : Type 0 where
+  pub identity : l.identity ≡ identity_index p
+
+-- What was found of an expression from a scope, with the scope behind it: what it says to the types, and its notes, at
+-- whatever level.
+pub record IsNoted (p : Profile) (e : Expr) (s : Scope) (x : NotedExpr) (after : Scope) : Type 0 where
+  pub typed : typed_in x.told after ≡ typed e s
+  pub notes : (l : Level) → Knows p l → x.notes ≡ notes_of p l (noted e s)
+
+-- What a form makes of its parts.
+pub record IsForm (t : Typed) (f : Option Shown → ExprNotes) (x : NotedExpr) (after : Scope) : Type 0 where
+  pub typed : typed_in x.told after ≡ t
+  pub notes : x.notes ≡ f x.told.shown
+
+-- ---- arguments from left to right, each in the scope that those before it leave
+
+pub record Passed : Type 0 where
+  pub found : ArgumentNotes
+  pub after : Scope
+
+abbrev pub with_argument : Profile → Level → Noted → Passed → Passed
+with_argument p l x z = record {
+  found = and_noted z.found (record { told = told_of (used x.part.typed); notes = notes_of p l x });
+  after = x.part.typed.after;
+}
+
+abbrev pub with_arguments : Profile → Level → List Expr → Passed → Passed
+with_arguments p l [] z = z
+with_arguments p l (e ∷ es) z = with_arguments p l es (with_argument p l (noted e z.after) z)
+
+-- behind arguments so far
+abbrev pub behind : ArgumentNotes → Scope → Passed
+behind xs s = record { found = xs; after = s }
+
+abbrev pub ArePassed : Profile → List Expr → Passed → Passed → Type 0
+ArePassed p es z y = (l : Level) → Knows p l → y ≡ with_arguments p l es z

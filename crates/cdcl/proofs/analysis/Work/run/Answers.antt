@@ -1,0 +1,30 @@
+use Rattle.std.proofs.Common.{◌≡◌, ◌∙◌, ◌+◌, ◌-◌, arith, length, refl}
+use Rattle.cdcl.proofs.analysis.Work.run.Goals as goal
+
+pub entries-init : goal.entries-init
+entries-init c =
+    let e : c.len-index.result ≡ length c.args.trail.now.entries.items = omega (arith, c.len-index.ensures, c.args.trail.now.entries.ok.0) in
+    record {
+      room = c.requires.seen;
+      within = omega (arith, e);
+      kept = λ _ _. refl;
+      occurs = λ vars w before. before;
+      derives = rw e c.requires.derives;
+    }
+
+pub descend-requires-clause-derives : goal.descend-requires-clause-derives
+descend-requires-clause-derives c =
+    let e : c.entries.index - 1 + 1 ≡ c.entries.index = omega (arith, c.entries-test.true) in
+    rw e c.entries.invariant.derives
+
+pub entries-preserved : goal.entries-preserved
+entries-preserved c = record {
+  room = c.in_ok-descend.ensures.seen;
+  within = omega (arith, c.entries.invariant.within);
+  kept = λ root all. c.in_ok-descend.ensures.kept root all ∙ c.entries.invariant.kept root all;
+  occurs = λ vars w before. c.in_ok-descend.ensures.occurs vars w (c.entries.invariant.occurs vars w before);
+  derives = c.in_ok-descend.ensures.derives;
+}
+
+pub returns-clause-derives : goal.returns-clause-derives
+returns-clause-derives c = let e : c.entries.index ≡ 0 = omega (arith, c.entries-test.false) in rw e at c.entries.invariant.derives

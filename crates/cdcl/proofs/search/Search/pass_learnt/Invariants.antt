@@ -1,8 +1,0 @@
-use Rattle.cdcl.specs.Searches.{IsReady, Goes}
-use Rattle.cdcl.proofs.search.Search.pass_learnt.Given as goal
-
-abbrev pub invariant-loop-index : goal.invariant-loop-index
-invariant-loop-index l = record {
-  ready : IsReady l.self;
-  goes : Goes l.fn.self l.self;
-}

@@ -1,0 +1,439 @@
+-- Each form's core, by the cores of its parts.
+use Rattle.std.proofs.Common.{◌≡◌, ℕ, ℤ, pos, Bool, false, true, List, Option, Some, None, refl, sym, ap, ap₂, ◌∙◌, subst}
+use Rattle.std.specs.Prelude.{◌++◌, unwrap_or}
+use Rattle.std.proofs.lemmas.Bool.{false≢true}
+use Rattle.c_lexer.specs.declared.token.IntegerConstant.{IntegerConstant}
+use Rattle.c_tree.specs.declared.expr.BinaryOperator.{BinaryOperator}
+use Rattle.c_tree.specs.declared.expr.BinaryOperator.TheVariants as o
+use Rattle.c_tree.specs.declared.expr.UnaryOperator.TheVariants as u
+use Rattle.c_type_terms.specs.declared.class.Class.{Class}
+use Rattle.c_type_terms.specs.declared.class.Class.TheVariants as class
+use Rattle.c_type_terms.specs.declared.ctype.IntegerKind.{IntegerKind}
+use Rattle.c_type_terms.specs.declared.tables.Tables.{Tables}
+use Rattle.c_type_terms.specs.Integers.{promoted}
+use Rattle.c_says.specs.declared.shown.Told.{Told}
+use Rattle.c_says.specs.declared.scope.Fault.{Fault}
+use Rattle.c_says.specs.Scopes.{Scope, Name}
+use Rattle.c_says.specs.Typing.{Typed, type_of, type_in, value_in, told_of, NamedType}
+use Rattle.c_says.specs.Typing as says
+use Rattle.c_means.specs.Parts.{State, Part}
+use Rattle.c_means.specs.Parts as c
+use Rattle.c_means.specs.Expressions as forms
+use Rattle.c_means.specs.Operators.{kind_in, target_in, value_type}
+use Rattle.c_means.specs.Values.{class_in, bytes_of}
+use Rattle.core_tree.specs.declared.expr.Expr.{Expr}
+use Rattle.core_tree.specs.declared.expr.Expr.TheVariants as expr
+use Rattle.core_tree.specs.declared.types.Arithmetic.{Arithmetic}
+use Rattle.core_tree.specs.declared.types.Operator.{Operator}
+use Rattle.core_tree.specs.declared.types.Turning.{Turning}
+use Rattle.core_tree.specs.declared.types.Turning.TheVariants as turn
+use Rattle.core_tree.specs.declared.types.ValueType.TheVariants as v
+use Rattle.core_tree.specs.Values.{value}
+use Rattle.elaborate.specs.Means.{Numbering, Does, IsValueOf, IsAddressOf, IsEffectOf}
+use Rattle.elaborate.specs.Operators.{Operates}
+use Rattle.elaborate.specs.Types as types
+use Rattle.elaborate.specs.Types.{word_type}
+use Rattle.elaborate.proofs.Values as values
+use Rattle.elaborate.proofs.Pointers as pointers
+use Rattle.core_forms.specs.declared.built.Built.{Built}
+use Rattle.core_forms.specs.declared.built.Node.{Node}
+use Rattle.core_forms.specs.declared.built.Node.TheVariants as node
+use Rattle.core_forms.specs.Nodes.{Makes, a_value, a_place, operand_by, cast_type}
+use Rattle.c_says.specs.declared.scope.Duration.TheVariants as duration
+use Rattle.c_means.specs.Values as worths
+use Rattle.core_forms.specs.declared.built.Used.{Used}
+use Rattle.core_forms.specs.Built.{IsPlaceOf, IsWorthOf, IsBuilt, IsUsed, IsDiscarded}
+use Rattle.core_forms.proofs.Saying.{value_told, said_unary, said_size, said_binary, said_subscript, said_comma}
+use Rattle.core_forms.proofs.Saying.{said_choice, said_cast, said_member, said_arrow}
+use Rattle.core_forms.proofs.KindLaws.{converts_same, operates_on, some_same, none_some}
+
+abbrev the_built : Told → Bool → Node → Built
+the_built a b c = record { told = a; rooted = b; node = c }
+
+-- what is made
+pub made_is : (y : Built) (told : Told) (rooted : Bool) (n : Node) → Makes y told rooted (Some n)
+    → y ≡ record { told = told; rooted = rooted; node = n }
+made_is y told rooted n m =
+    ap₂ (λ a b. the_built a b y.node) m.told m.rooted ∙ ap (the_built told rooted) (some_same y.node n m.node)
+
+module _ (numbering : Numbering) where
+  -- ---- constants
+
+  pub constant_built : (y : Built) (told : Told) (e : Expr) (z : ℤ) (x : Typed) → y ≡ a_value told e
+      → e ≡ expr.Constant z → told ≡ told_of x → IsBuilt numbering y (forms.constant x z)
+  constant_built y told e z x is made said =
+      let h = subst (λ e. IsValueOf numbering e (forms.constant x z)) (sym made) (values.constant_value numbering z x) in
+      subst (λ y. IsBuilt numbering y (forms.constant x z)) (sym is)
+      (record { told = said; rooted = refl; node = record { value = h; effect = h } })
+
+  pub size_built : (at : ℕ) (tables : Tables) (x : Built) (p : Part) (told : Told) (y : Built) (z : ℤ)
+      → tables ≡ p.typed.after.tables → IsBuilt numbering x p
+      → told ≡ says.node_over at x.told.shown (says.size_shown tables) x.told.faults
+      → z ≡ unwrap_or (value_in told.shown) (pos 0) → y ≡ a_value told (expr.Constant z)
+      → IsBuilt numbering y (forms.size_of_expression at p)
+  size_built at tables x p told y z t h s is made =
+      let said = said_size at tables x.told told p.typed t h.told s in
+      constant_built y told (expr.Constant z) (unwrap_or (says.constant_of (says.size_of_expression at p.typed)) (pos 0))
+      (says.size_of_expression at p.typed) made
+      (ap expr.Constant (is ∙ ap (λ (a : Told). unwrap_or (value_in a.shown) (pos 0)) said)) said
+
+  pub type_size_built : (at : ℕ) (tables : Tables) (named : NamedType) (faults : List Fault) (s : Scope) (told : Told)
+      (y : Built) (z : ℤ) → tables ≡ s.tables → told ≡ says.over_named at named (says.size_in tables) faults
+      → z ≡ unwrap_or (value_in told.shown) (pos 0) → y ≡ a_value told (expr.Constant z)
+      → IsBuilt numbering y (forms.size_of_type at named faults s)
+  type_size_built at tables named faults s told y z t h is made =
+      let said = h ∙ ap (λ a. says.over_named at named (says.size_in a) faults) t in
+      constant_built y told (expr.Constant z)
+      (unwrap_or (says.constant_of (says.size_of_type at named faults s)) (pos 0))
+      (says.size_of_type at named faults s) made
+      (ap expr.Constant (is ∙ ap (λ (a : Told). unwrap_or (value_in a.shown) (pos 0)) said)) said
+
+  -- ---- names
+
+  pub local_built : (y : Built) (told : Told) (at : ℕ) (x : Typed) → y ≡ a_place told true (expr.Local at)
+      → told ≡ told_of x
+      → IsBuilt numbering y (forms.object_of x duration.Automatic at)
+  local_built y told at x is said =
+      subst (λ y. IsBuilt numbering y
+      (forms.object_of x duration.Automatic at)) (sym is) (record {
+        told = said;
+        rooted = refl;
+        node = record {
+          is_place = refl;
+          address = values.local_address numbering at x;
+          value = λ l env base d. refl;
+          effect = λ l env base d. refl;
+        };
+      })
+
+  pub fixed_built : (y : Built) (told : Told) (at place : ℕ) (x : Typed) → y ≡ a_place told true (expr.Fixed place)
+      → place ≡ numbering.place at → told ≡ told_of x
+      → IsBuilt numbering y (forms.object_of x duration.Static at)
+  fixed_built y told at place x is there said =
+      subst (λ y. IsBuilt numbering y
+      (forms.object_of x duration.Static at))
+      (sym (is ∙ ap (λ n. a_place told true (expr.Fixed n)) there)) (record {
+        told = said;
+        rooted = refl;
+        node = record {
+          is_place = refl;
+          address = values.fixed_address numbering at x;
+          value = λ l env base d. refl;
+          effect = λ l env base d. refl;
+        };
+      })
+
+  pub literal_built : (y : Built) (told : Told) (at place : ℕ) (pieces : List (List ℕ)) (s : Scope)
+      → y ≡ a_place told false (expr.Fixed place)
+      → place ≡ numbering.place at → told ≡ told_of (says.string_literal at pieces s)
+      → IsBuilt numbering y (forms.string_literal at pieces s)
+  literal_built y told at place pieces s is there said =
+      subst (λ y. IsBuilt numbering y (forms.string_literal at pieces s))
+      (sym (is ∙ ap (λ n. a_place told false (expr.Fixed n)) there)) (record {
+        told = said;
+        rooted = refl;
+        node = record {
+          is_place = refl;
+          address = values.literal_address numbering at (says.string_literal at pieces s);
+          value = λ l env base d. refl;
+          effect = λ l env base d. refl;
+        };
+      })
+
+  pub function_name_built : (y : Built) (told : Told) (at place : ℕ) (name : Option Name) (s : Scope)
+      → y ≡ a_place told false (expr.Fixed place)
+      → place ≡ numbering.place at → told ≡ told_of (says.function_name at name s)
+      → IsBuilt numbering y (forms.function_name at name s)
+  function_name_built y told at place name s is there said =
+      subst (λ y. IsBuilt numbering y (forms.function_name at name s))
+      (sym (is ∙ ap (λ n. a_place told false (expr.Fixed n)) there)) (record {
+        told = said;
+        rooted = refl;
+        node = record {
+          is_place = refl;
+          address = values.literal_address numbering at (says.function_name at name s);
+          value = λ l env base d. refl;
+          effect = λ l env base d. refl;
+        };
+      })
+
+  -- ---- unary operators
+
+  pub not_built : (at : ℕ) (tables : Tables) (x : Used) (p : Part) (told : Told) (y : Built)
+      → tables ≡ p.typed.after.tables → IsUsed numbering x p
+      → told ≡ says.node_over at x.told.shown (says.unary_judged tables u.Not) x.told.faults
+      → y ≡ a_value told (expr.Not x.value) → IsBuilt numbering y (forms.unary at u.Not p)
+  not_built at tables x p told y t h s is =
+      let v = values.not_value numbering x.value at p h.worth.value in
+      subst (λ y. IsBuilt numbering y (forms.unary at u.Not p)) (sym is) (record {
+        told = said_unary u.Not at tables x.told told p.typed t h.told s;
+        rooted = refl;
+        node = record { value = v; effect = v };
+      })
+
+  -- the kind of an operand
+  kind_used : (x : Used) (p : Part) (kind : IntegerKind) → IsUsed numbering x p
+      → kind_in (type_in x.told.shown) ≡ Some kind → kind_in (value_type p.typed) ≡ Some kind
+  kind_used x p kind h e = sym (ap (λ (a : Told). kind_in (type_in a.shown)) h.told) ∙ e
+
+  pub minus_built : (at : ℕ) (tables : Tables) (x : Used) (p : Part) (told : Told) (is_constant : Bool)
+      (kind : IntegerKind) (y : Built)
+      → tables ≡ p.typed.after.tables → IsUsed numbering x p → kind_in (type_in x.told.shown) ≡ Some kind
+      → told ≡ says.node_over at x.told.shown (says.unary_judged tables u.Minus) x.told.faults
+      → y ≡ a_value told (expr.Turn at turn.Minus (word_type (promoted kind)) is_constant x.value)
+      → IsBuilt numbering y (forms.unary at u.Minus p)
+  minus_built at tables x p told is_constant kind y t h k s is =
+      let v = values.minus_value numbering x.value at is_constant kind p h.worth.value (kind_used x p kind h k) in
+      subst (λ y. IsBuilt numbering y (forms.unary at u.Minus p)) (sym is) (record {
+        told = said_unary u.Minus at tables x.told told p.typed t h.told s;
+        rooted = refl;
+        node = record { value = v; effect = v };
+      })
+
+  pub plus_built : (at : ℕ) (tables : Tables) (x : Used) (p : Part) (told : Told) (is_constant : Bool)
+      (kind : IntegerKind) (y : Built)
+      → tables ≡ p.typed.after.tables → IsUsed numbering x p → kind_in (type_in x.told.shown) ≡ Some kind
+      → told ≡ says.node_over at x.told.shown (says.unary_judged tables u.Plus) x.told.faults
+      → y ≡ a_value told (expr.Turn at turn.Plus (word_type (promoted kind)) is_constant x.value)
+      → IsBuilt numbering y (forms.unary at u.Plus p)
+  plus_built at tables x p told is_constant kind y t h k s is =
+      let v = values.plus_value numbering x.value at is_constant kind p h.worth.value (kind_used x p kind h k) in
+      subst (λ y. IsBuilt numbering y (forms.unary at u.Plus p)) (sym is) (record {
+        told = said_unary u.Plus at tables x.told told p.typed t h.told s;
+        rooted = refl;
+        node = record { value = v; effect = v };
+      })
+
+  pub complement_built : (at : ℕ) (tables : Tables) (x : Used) (p : Part) (told : Told) (is_constant : Bool)
+      (kind : IntegerKind) (y : Built)
+      → tables ≡ p.typed.after.tables → IsUsed numbering x p → kind_in (type_in x.told.shown) ≡ Some kind
+      → told ≡ says.node_over at x.told.shown (says.unary_judged tables u.Complement) x.told.faults
+      → y ≡ a_value told (expr.Turn at turn.Complement (word_type (promoted kind)) is_constant x.value)
+      → IsBuilt numbering y (forms.unary at u.Complement p)
+  complement_built at tables x p told is_constant kind y t h k s is =
+      let v = values.complement_value numbering x.value at is_constant kind p h.worth.value (kind_used x p kind h k) in
+      subst (λ y. IsBuilt numbering y (forms.unary at u.Complement p)) (sym is) (record {
+        told = said_unary u.Complement at tables x.told told p.typed t h.told s;
+        rooted = refl;
+        node = record { value = v; effect = v };
+      })
+
+  -- ---- addresses
+
+  pub address_built : (at : ℕ) (tables : Tables) (x : Told) (rooted : Bool) (e : Expr) (p : Part) (told : Told)
+      (y : Built)
+      → tables ≡ p.typed.after.tables → IsBuilt numbering (a_place x rooted e) p
+      → told ≡ says.node_over at x.shown (says.unary_judged tables u.Address) x.faults
+      → y ≡ a_value told (expr.Pointer e) → IsBuilt numbering y (forms.unary at u.Address p)
+  address_built at tables x rooted e p told y t h s is =
+      let v = values.pointer_value numbering e at p h.node.address in
+      subst (λ y. IsBuilt numbering y (forms.unary at u.Address p)) (sym is) (record {
+        told = said_unary u.Address at tables x told p.typed t h.told s;
+        rooted = refl;
+        node = record { value = v; effect = v };
+      })
+
+  pub indirection_built : (at : ℕ) (tables : Tables) (x : Used) (p : Part) (told : Told) (y : Built)
+      → tables ≡ p.typed.after.tables → IsUsed numbering x p
+      → told ≡ says.node_over at x.told.shown (says.unary_judged tables u.Indirection) x.told.faults
+      → y ≡ a_place told false (expr.Target x.value) → IsBuilt numbering y (forms.unary at u.Indirection p)
+  indirection_built at tables x p told y t h s is =
+      subst (λ y. IsBuilt numbering y (forms.unary at u.Indirection p)) (sym is) (record {
+        told = said_unary u.Indirection at tables x.told told p.typed t h.told s;
+        rooted = refl;
+        node = record {
+          is_place = refl;
+          address = values.target_address numbering x.value at p h.worth.value;
+          value = λ l env base d. refl;
+          effect = λ l env base d. refl;
+        };
+      })
+
+  pub subscript_built : (at : ℕ) (tables : Tables) (x y : Used) (p q : Part) (chosen : Operator) (told : Told)
+      (z : Built)
+      → tables ≡ q.typed.after.tables → IsUsed numbering x p → IsUsed numbering y q
+      → Operates o.Add (operand_by tables x.told) (operand_by tables y.told) chosen
+      → told ≡ says.node_over_two at x.told.shown y.told.shown (says.element tables) (x.told.faults ++ y.told.faults)
+      → z ≡ a_place told false (expr.Convert v.Pointer (expr.Operate at chosen false x.value y.value))
+      → IsBuilt numbering z (forms.subscript at p q)
+  subscript_built at tables x y p q chosen told z t h i does s is =
+      subst (λ z. IsBuilt numbering z (forms.subscript at p q)) (sym is) (record {
+        told = said_subscript at tables x.told y.told told p.typed q.typed t h.told i.told s;
+        rooted = refl;
+        node = record {
+          is_place = refl;
+          address = pointers.subscript_address numbering at chosen x.value y.value p q h.worth.value i.worth.value
+              (operates_on o.Add tables x.told y.told p.typed q.typed chosen t h.told i.told does at);
+          value = λ l env base d. refl;
+          effect = λ l env base d. refl;
+        };
+      })
+
+  member_place : (b : Bool) (offset : ℕ) (at : ℕ) (name : Name) (e : Expr) (p : Part) → b ≡ true
+      → IsAddressOf numbering e p
+      → IsPlaceOf numbering (expr.Offset offset e) (forms.member_by b offset (says.member at name p.typed) p)
+  member_place true offset at name e p is h = record {
+    is_place = refl;
+    address = pointers.member_address numbering offset (says.member at name p.typed) e p h;
+    value = λ l env base d. refl;
+    effect = λ l env base d. refl;
+  }
+  member_place false offset at name e p is h = absurd (false≢true is)
+
+  member_rooted : (b : Bool) (offset : ℕ) (x : Typed) (p : Part) → b ≡ true
+      → p.rooted ≡ (forms.member_by b offset x p).rooted
+  member_rooted true offset x p is = refl
+  member_rooted false offset x p is = absurd (false≢true is)
+
+  member_typed : (b : Bool) (offset : ℕ) (x : Typed) (p : Part) → told_of x ≡ told_of (forms.member_by b offset x p).typed
+  member_typed true offset x p = refl
+  member_typed false offset x p = refl
+
+  pub member_built : (at : ℕ) (name : Name) (tables : Tables) (x : Told) (rooted : Bool) (e : Expr) (p : Part)
+      (offset : ℕ) (told : Told) (y : Built)
+      → tables ≡ p.typed.after.tables → IsBuilt numbering (a_place x rooted e) p
+      → offset ≡ forms.offset_of tables (type_in x.shown) name
+      → told ≡ says.node_over at x.shown (says.member_shown_of tables name) x.faults
+      → y ≡ a_place told rooted (expr.Offset offset e) → IsBuilt numbering y (forms.member at name p)
+  member_built at name tables x rooted e p offset told y t h there s is =
+      let n = there ∙ ap₂ (λ a (b : Told). forms.offset_of a (type_in b.shown) name) t h.told in
+      subst (λ y. IsBuilt numbering y (forms.member at name p))
+      (sym (is ∙ ap (λ m. a_place told rooted (expr.Offset m e)) n)) (record {
+        told = said_member at name tables x told p.typed t h.told s
+            ∙ member_typed p.is_place _ (says.member at name p.typed) p;
+        rooted = h.rooted ∙ member_rooted p.is_place _ (says.member at name p.typed) p h.node.is_place;
+        node = member_place p.is_place _ at name e p h.node.is_place h.node.address;
+      })
+
+  pub arrow_built : (at : ℕ) (name : Name) (tables : Tables) (x : Used) (p : Part) (offset : ℕ) (told : Told)
+      (y : Built)
+      → tables ≡ p.typed.after.tables → IsUsed numbering x p
+      → offset ≡ forms.offset_of tables (target_in (type_in x.told.shown)) name
+      → told ≡ says.node_over at x.told.shown (says.pointed_member tables name) x.told.faults
+      → y ≡ a_place told false (expr.Offset offset (expr.Convert v.Pointer x.value))
+      → IsBuilt numbering y (forms.arrow at name p)
+  arrow_built at name tables x p offset told y t h there s is =
+      let n = there ∙ ap₂ (λ a (b : Told). forms.offset_of a (target_in (type_in b.shown)) name) t h.told in
+      subst (λ y. IsBuilt numbering y (forms.arrow at name p))
+      (sym (is ∙ ap (λ m. a_place told false (expr.Offset m (expr.Convert v.Pointer x.value))) n)) (record {
+        told = said_arrow at name tables x.told told p.typed t h.told s;
+        rooted = refl;
+        node = record {
+          is_place = refl;
+          address = pointers.arrow_address numbering at name x.value p h.worth.value;
+          value = λ l env base d. refl;
+          effect = λ l env base d. refl;
+        };
+      })
+
+  -- ---- binary operators
+
+  pub and_built : (at : ℕ) (tables : Tables) (x y : Used) (p q : Part) (told : Told) (z : Built)
+      → tables ≡ q.typed.after.tables → IsUsed numbering x p → IsUsed numbering y q
+      → told ≡ says.node_over_two at x.told.shown y.told.shown (says.operated tables o.LogicalAnd)
+      (x.told.faults ++ y.told.faults)
+      → z ≡ a_value told (expr.And at x.value y.value) → IsBuilt numbering z (forms.binary at o.LogicalAnd p q)
+  and_built at tables x y p q told z t h i s is =
+      let v = values.and_value numbering at x.value y.value p q h.worth.value i.worth.value in
+      subst (λ z. IsBuilt numbering z (forms.binary at o.LogicalAnd p q)) (sym is) (record {
+        told = said_binary o.LogicalAnd at tables x.told y.told told p.typed q.typed t h.told i.told s;
+        rooted = refl;
+        node = record { value = v; effect = v };
+      })
+
+  pub or_built : (at : ℕ) (tables : Tables) (x y : Used) (p q : Part) (told : Told) (z : Built)
+      → tables ≡ q.typed.after.tables → IsUsed numbering x p → IsUsed numbering y q
+      → told ≡ says.node_over_two at x.told.shown y.told.shown (says.operated tables o.LogicalOr)
+      (x.told.faults ++ y.told.faults)
+      → z ≡ a_value told (expr.Or at x.value y.value) → IsBuilt numbering z (forms.binary at o.LogicalOr p q)
+  or_built at tables x y p q told z t h i s is =
+      let v = values.or_value numbering at x.value y.value p q h.worth.value i.worth.value in
+      subst (λ z. IsBuilt numbering z (forms.binary at o.LogicalOr p q)) (sym is) (record {
+        told = said_binary o.LogicalOr at tables x.told y.told told p.typed q.typed t h.told i.told s;
+        rooted = refl;
+        node = record { value = v; effect = v };
+      })
+
+  pub both_built : (op : BinaryOperator) (a : Arithmetic) → types.arithmetic op ≡ Some a → (at : ℕ) (tables : Tables)
+      (x y : Used) (p q : Part)
+      (chosen : Operator) (is_constant : Bool) (told : Told) (z : Built)
+      → tables ≡ q.typed.after.tables → IsUsed numbering x p → IsUsed numbering y q
+      → Operates op (operand_by tables x.told) (operand_by tables y.told) chosen
+      → told ≡ says.node_over_two at x.told.shown y.told.shown (says.operated tables op)
+      (x.told.faults ++ y.told.faults)
+      → z ≡ a_value told (expr.Operate at chosen is_constant x.value y.value)
+      → IsBuilt numbering z (forms.binary at op p q)
+  both_built op a is_one at tables x y p q chosen is_constant told z t h i does s is =
+      let e = values.evaluates_both numbering op a is_one at p q in
+      let v = subst (λ r. IsValueOf numbering (expr.Operate at chosen is_constant x.value y.value) r) e
+      (pointers.operate_value numbering op a is_one at chosen is_constant x.value y.value p q h.worth.value
+      i.worth.value (operates_on op tables x.told y.told p.typed q.typed chosen t h.told i.told does at)) in
+      subst (λ z. IsBuilt numbering z (forms.binary at op p q)) (sym is)
+      (subst (λ r. IsBuilt numbering (a_value told (expr.Operate at chosen is_constant x.value y.value)) r) (sym e)
+      (record {
+        told = said_binary op at tables x.told y.told told p.typed q.typed t h.told i.told s;
+        rooted = refl;
+        node = record { value = v; effect = v };
+      }))
+
+  pub comma_built : (at : ℕ) (x y : Used) (p q : Part) (told : Told) (z : Built)
+      → IsDiscarded numbering x p → IsUsed numbering y q
+      → told ≡ says.node_over_two at x.told.shown y.told.shown (λ a b. says.second_judged b)
+      (x.told.faults ++ y.told.faults)
+      → z ≡ a_value told (expr.Comma x.value y.value) → IsBuilt numbering z (forms.comma at p q)
+  comma_built at x y p q told z h i s is =
+      let v = values.comma_value numbering at x.value y.value p q h.effect i.worth.value in
+      subst (λ z. IsBuilt numbering z (forms.comma at p q)) (sym is) (record {
+        told = said_comma at x.told y.told told p.typed q.typed h.told i.told s;
+        rooted = refl;
+        node = record { value = v; effect = v };
+      })
+
+  -- ---- choices and casts
+
+  pub choice_built : (at : ℕ) (n : ℕ) (w x y : Used) (r p q : Part) (told : Told) (z : Built)
+      → IsUsed numbering w r → IsUsed numbering x p → IsUsed numbering y q
+      → told ≡ says.choice_over at w.told.shown x.told.shown y.told.shown
+      (w.told.faults ++ x.told.faults ++ y.told.faults)
+      → z ≡ a_value told (expr.Choose at w.value
+      (expr.Convert (types.value_type (class_in (type_in told.shown)) n) x.value)
+      (expr.Convert (types.value_type (class_in (type_in told.shown)) n) y.value))
+      → IsBuilt numbering z (forms.choice at r p q)
+  choice_built at n w x y r p q told z g h i s is =
+      let said = said_choice at w.told x.told y.told told r.typed p.typed q.typed g.told h.told i.told s in
+      let t = types.value_type (class_in (type_in told.shown)) n in
+      let v = values.choice_value numbering at t w.value x.value y.value r p q
+      (λ z. converts_same (class_in (type_in told.shown)) n z
+      ∙ ap (λ (a : Told). worths.converted_to (class_in (type_in a.shown)) z) said)
+      g.worth.value h.worth.value i.worth.value in
+      subst (λ z. IsBuilt numbering z (forms.choice at r p q)) (sym is) (record {
+        told = said;
+        rooted = refl;
+        node = record { value = v; effect = v };
+      })
+
+  operand_does : (cl : Class) (e : Expr) (p : Part) → IsWorthOf numbering e p
+      → Does numbering (value e) p.size p.room (forms.cast_operand cl p)
+  operand_does class.Void e p h = h.effect
+  operand_does (class.Integer kind) e p h = h.value
+  operand_does class.Pointer e p h = h.value
+  operand_does (class.Aggregate number) e p h = h.value
+  operand_does class.Array e p h = h.value
+  operand_does class.Function e p h = h.value
+  operand_does class.Floating e p h = h.value
+  operand_does class.Opaque e p h = h.value
+
+  pub cast_built : (at : ℕ) (named : NamedType) (faults : List Fault) (x : Used) (p : Part) (told : Told)
+      (y : Built)
+      → IsUsed numbering x p → told ≡ says.cast_over at named x.told.shown (faults ++ x.told.faults)
+      → y ≡ a_value told (expr.Cast (cast_type named) x.value)
+      → IsBuilt numbering y (forms.cast at named faults p)
+  cast_built at named faults x p told y h s is =
+      let v = values.cast_value numbering (cast_type named) (forms.named_class named) (says.cast at named faults p.typed)
+      x.value p (λ z. converts_same (forms.named_class named) 0 z)
+      (operand_does (forms.named_class named) x.value p h.worth) in
+      subst (λ y. IsBuilt numbering y (forms.cast at named faults p)) (sym is) (record {
+        told = said_cast at named faults x.told told p.typed h.told s;
+        rooted = refl;
+        node = record { value = v; effect = v };
+      })

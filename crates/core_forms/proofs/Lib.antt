@@ -1,0 +1,6 @@
+pub mod Saying
+pub mod KindLaws
+pub mod Loads
+pub mod Forms
+pub mod Assigns
+pub mod Claims

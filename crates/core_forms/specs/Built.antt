@@ -1,0 +1,57 @@
+-- What it is to be the core of a part of an expression, with what the types say of the part.
+use Rattle.std.specs.Prelude.{◌≡◌, ℕ, true}
+use Rattle.c_says.specs.Typing.{told_of, used_told}
+use Rattle.c_means.specs.Parts.{State, Env, Part}
+use Rattle.c_means.specs.Parts as c
+use Rattle.c_tree.specs.declared.expr.BinaryOperator.{BinaryOperator}
+use Rattle.c_tree.specs.declared.expr.UnaryOperator.{UnaryOperator}
+use Rattle.c_means.specs.Expressions.{loading, postfix_by, prefix}
+use Rattle.core_tree.specs.declared.types.Answered.{Answered}
+use Rattle.core_tree.specs.declared.types.Answered.TheVariants as answered
+use Rattle.core_tree.specs.declared.expr.Expr.{Expr}
+use Rattle.elaborate.specs.Means.{Numbering, IsValueOf, IsAddressOf, IsEffectOf}
+use Rattle.core_forms.specs.declared.built.Built.{Built}
+use Rattle.core_forms.specs.declared.built.Node.{Node}
+use Rattle.core_forms.specs.declared.built.Node.TheVariants as node
+use Rattle.core_forms.specs.declared.built.Used.{Used}
+
+-- the core of an lvalue or function, whose value is what stands at its address
+pub record IsPlaceOf (numbering : Numbering) (e : Expr) (p : Part) : Type 0 where
+  pub is_place : p.is_place ≡ true
+  pub address : IsAddressOf numbering e p
+  pub value : (l : c.Level) (env : Env) (base : ℕ) (d : State)
+      → loading p.typed p.rooted p.reach l env base d ≡ p.run l env base d
+  pub effect : (l : c.Level) (env : Env) (base : ℕ) (d : State)
+      → loading p.typed p.rooted p.reach l env base d ≡ p.effect l env base d
+
+-- the core of a value, which does the same where the value isn't used
+pub record IsWorthOf (numbering : Numbering) (e : Expr) (p : Part) : Type 0 where
+  pub value : IsValueOf numbering e p
+  pub effect : IsEffectOf numbering e p
+
+abbrev pub IsNodeOf : Numbering → Node → Part → Type 0
+IsNodeOf numbering (node.Place e) p = IsPlaceOf numbering e p
+IsNodeOf numbering (node.Value e) p = IsWorthOf numbering e p
+
+pub record IsBuilt (numbering : Numbering) (x : Built) (p : Part) : Type 0 where
+  pub told : x.told ≡ told_of p.typed
+  pub rooted : x.rooted ≡ p.rooted
+  pub node : IsNodeOf numbering x.node p
+
+-- a part as an operand
+pub record IsUsed (numbering : Numbering) (x : Used) (p : Part) : Type 0 where
+  pub told : x.told ≡ used_told p.typed.after.tables (told_of p.typed)
+  pub worth : IsWorthOf numbering x.value p
+
+-- a part whose value isn't used
+pub record IsDiscarded (numbering : Numbering) (x : Used) (p : Part) : Type 0 where
+  pub told : x.told ≡ told_of p.typed
+  pub effect : IsEffectOf numbering x.value p
+
+-- ---- `++` and `--`
+
+-- the core of an object that is read, and stored with 1 more or less
+abbrev pub StepsTo : Numbering → Expr → Answered → ℕ → BinaryOperator → Part → Type 0
+StepsTo numbering e answered.Before at operator p = IsValueOf numbering e (postfix_by at operator p)
+StepsTo numbering e answered.Stored at operator p =
+    (written : UnaryOperator) → IsValueOf numbering e (prefix at written operator p)

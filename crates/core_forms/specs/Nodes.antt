@@ -1,0 +1,229 @@
+-- The nodes of the core for forms of C, over the nodes of their parts and what the types say of these.
+use Rattle.std.specs.Prelude.{◌≡◌, ℕ, ℤ, pos, Bool, true, false, not, is_some, Option, Some, None, option_map}
+use Rattle.c_tree.specs.declared.expr.BinaryOperator.{BinaryOperator}
+use Rattle.c_tree.specs.declared.expr.BinaryOperator.TheVariants as o
+use Rattle.c_tree.specs.declared.expr.PostfixOperator.{PostfixOperator}
+use Rattle.c_tree.specs.declared.expr.PostfixOperator.TheVariants as after
+use Rattle.c_type_terms.specs.declared.class.Class.{Class}
+use Rattle.c_type_terms.specs.declared.class.Class.TheVariants as class
+use Rattle.c_type_terms.specs.declared.ctype.IntegerKind.{IntegerKind}
+use Rattle.c_type_terms.specs.declared.ctype.IntegerKind.TheVariants as k
+use Rattle.c_type_terms.specs.declared.tables.Tables.{Tables}
+use Rattle.c_type_terms.specs.Integers.{promoted}
+use Rattle.c_says.specs.declared.scope.Duration.{Duration}
+use Rattle.c_says.specs.declared.scope.Duration.TheVariants as duration
+use Rattle.c_says.specs.declared.scope.Entry.{Entry}
+use Rattle.c_says.specs.declared.scope.Means.{Means}
+use Rattle.c_says.specs.declared.scope.Means.TheVariants as means
+use Rattle.c_says.specs.declared.shown.Told.{Told}
+use Rattle.c_says.specs.Typing.{type_in, value_in, NamedType}
+use Rattle.c_means.specs.Expressions.{named_class}
+use Rattle.c_means.specs.Operators.{kind_in, target_in}
+use Rattle.c_means.specs.Values.{class_in, bytes_of}
+use Rattle.core_tree.specs.declared.expr.Expr.{Expr}
+use Rattle.core_tree.specs.declared.expr.Expr.TheVariants as expr
+use Rattle.core_tree.specs.declared.types.Access.{Access}
+use Rattle.core_tree.specs.declared.types.Answered.{Answered}
+use Rattle.core_tree.specs.declared.types.Operator.{Operator}
+use Rattle.core_tree.specs.declared.types.Turning.{Turning}
+use Rattle.core_tree.specs.declared.types.ValueType.{ValueType}
+use Rattle.core_tree.specs.declared.types.ValueType.TheVariants as v
+use Rattle.elaborate.specs.declared.operators.OperandType.{OperandType}
+use Rattle.elaborate.specs.Operators.{operator_of}
+use Rattle.elaborate.specs.Types.{integer_type, word_type, value_type}
+use Rattle.core_forms.specs.declared.built.Built.{Built}
+use Rattle.core_forms.specs.declared.built.Node.{Node}
+use Rattle.core_forms.specs.declared.built.Node.TheVariants as node
+use Rattle.core_forms.specs.declared.built.Used.{Used}
+
+-- ---- what is built
+
+abbrev pub a_value : Told → Expr → Built
+a_value told e = record { told = told; rooted = false; node = node.Value e }
+
+abbrev pub a_place : Told → Bool → Expr → Built
+a_place told rooted e = record { told = told; rooted = rooted; node = node.Place e }
+
+-- a part of which this is told, with this node, where there is one
+pub record Makes (y : Built) (said : Told) (root : Bool) (n : Option Node) : Type 0 where
+  pub told : y.told ≡ said
+  pub rooted : y.rooted ≡ root
+  pub node : Some y.node ≡ n
+
+-- ---- types
+
+-- an integer constant expression (C99 6.6p6), in which no undefined kind is listed
+abbrev pub is_constant : Told → Bool
+is_constant x = is_some (value_in x.shown)
+
+-- the type of the core of a value
+abbrev pub type_by : Tables → Told → ValueType
+type_by tables x = value_type (class_in (type_in x.shown)) (bytes_of tables (type_in x.shown))
+
+-- the type of the core of a cast to a named type: no structure is cast to, so its bytes are of no account
+abbrev pub cast_type : NamedType → ValueType
+cast_type named = value_type (named_class named) 0
+
+-- what an operator is to know of an operand
+abbrev pub operand_by : Tables → Told → OperandType
+operand_by tables x = record {
+  kind = kind_in (type_in x.shown);
+  element = bytes_of tables (target_in (type_in x.shown));
+}
+
+-- the number 1, as an operand
+abbrev pub one_more : OperandType
+one_more = record { kind = Some k.Int; element = 0 }
+
+-- the type in which an object of a class and so many bytes is stored
+abbrev pub stored_in : Class → ℕ → Option ValueType
+stored_in (class.Integer kind) n = Some (integer_type kind)
+stored_in class.Pointer n = Some v.Pointer
+stored_in (class.Aggregate number) n = Some (v.Block n)
+stored_in class.Array n = None
+stored_in class.Function n = None
+stored_in class.Void n = None
+stored_in class.Floating n = None
+stored_in class.Opaque n = None
+
+abbrev pub stored_by : Tables → Told → Option ValueType
+stored_by tables x = stored_in (class_in (type_in x.shown)) (bytes_of tables (type_in x.shown))
+
+-- of an integer or a pointer
+abbrev pub scalar_in : Class → Option ValueType
+scalar_in (class.Integer kind) = Some (integer_type kind)
+scalar_in class.Pointer = Some v.Pointer
+scalar_in (class.Aggregate number) = None
+scalar_in class.Array = None
+scalar_in class.Function = None
+scalar_in class.Void = None
+scalar_in class.Floating = None
+scalar_in class.Opaque = None
+
+abbrev pub scalar_by : Told → Option ValueType
+scalar_by x = scalar_in (class_in (type_in x.shown))
+
+-- how an lvalue is accessed
+abbrev pub access_by : Told → Bool → ValueType → Access
+access_by x rooted stored = record { at = x.at; stored = stored; is_tested = not rooted }
+
+-- ---- the value of an lvalue or function (C99 6.3.2.1p2 to p4)
+
+abbrev pub loaded : ℕ → ValueType → Bool → Expr → Expr
+loaded at stored rooted e = expr.Load (record { at = at; stored = stored; is_tested = not rooted }) e
+
+abbrev pub read_node : Class → ℕ → ℕ → Bool → Expr → Option Expr
+read_node (class.Integer kind) n at rooted e = Some (loaded at (integer_type kind) rooted e)
+read_node class.Pointer n at rooted e = Some (loaded at v.Pointer rooted e)
+read_node (class.Aggregate number) n at rooted e = Some (loaded at (v.Block n) rooted e)
+read_node class.Array n at rooted e = Some e
+read_node class.Function n at rooted e = Some e
+read_node class.Void n at rooted e = Some (expr.Convert v.Void e)
+read_node class.Floating n at rooted e = None
+read_node class.Opaque n at rooted e = None
+
+abbrev pub value_node : Tables → Told → Bool → Node → Option Expr
+value_node tables x rooted (node.Value e) = Some e
+value_node tables x rooted (node.Place e) =
+    read_node (class_in (type_in x.shown)) (bytes_of tables (type_in x.shown)) x.at rooted e
+
+-- a part with the core of its value
+pub record HasValue (tables : Tables) (x : Built) (said : Told) (y : Used) : Type 0 where
+  pub told : y.told ≡ said
+  pub value : Some y.value ≡ value_node tables x.told x.rooted x.node
+
+-- ---- names
+
+abbrev pub held_at : Duration → ℕ → (ℕ → ℕ) → Expr
+held_at duration.Automatic at place = expr.Local at
+held_at duration.Static at place = expr.Fixed (place at)
+
+abbrev pub meant_node : Means → ℕ → (ℕ → ℕ) → Option Node
+meant_node (means.Object t duration linkage) at place = Some (node.Place (held_at duration at place))
+meant_node (means.Function t linkage) at place = Some (node.Place (expr.Fixed (place at)))
+meant_node (means.Constant z) at place = Some (node.Value (expr.Constant z))
+meant_node (means.Typedef t) at place = None
+meant_node means.Faulty at place = None
+
+abbrev pub named_node : Option Entry → (ℕ → ℕ) → Option Node
+named_node None place = None
+named_node (Some e) place = meant_node e.means e.at place
+
+abbrev pub is_object_by : Means → Bool
+is_object_by (means.Object t duration linkage) = true
+is_object_by (means.Function t linkage) = true
+is_object_by (means.Constant z) = false
+is_object_by (means.Typedef t) = false
+is_object_by means.Faulty = false
+
+-- whether a name in force is an object or a function
+abbrev pub is_object : Option Entry → Bool
+is_object None = false
+is_object (Some e) = is_object_by e.means
+
+-- ---- operators
+
+-- `+`, `-` or `~`, in the promoted type
+abbrev pub turned_node : ℕ → Turning → Option IntegerKind → Bool → Expr → Option Node
+turned_node at turning None constant e = None
+turned_node at turning (Some kind) constant e =
+    Some (node.Value (expr.Turn at turning (word_type (promoted kind)) constant e))
+
+abbrev pub operated_node : ℕ → Option Operator → Bool → Expr → Expr → Option Node
+operated_node at None constant e f = None
+operated_node at (Some operator) constant e f = Some (node.Value (expr.Operate at operator constant e f))
+
+-- by the operands as they are used; `constant` tells of the whole
+abbrev pub binary_node : ℕ → BinaryOperator → Tables → Bool → Used → Used → Option Node
+binary_node at o.LogicalAnd tables constant x y = Some (node.Value (expr.And at x.value y.value))
+binary_node at o.LogicalOr tables constant x y = Some (node.Value (expr.Or at x.value y.value))
+binary_node at op tables constant x y =
+    operated_node at (operator_of op (operand_by tables x.told) (operand_by tables y.told)) constant x.value y.value
+
+-- ---- addresses
+
+abbrev pub pointer_node : Node → Option Node
+pointer_node (node.Place e) = Some (node.Value (expr.Pointer e))
+pointer_node (node.Value e) = None
+
+abbrev pub target_of_sum : ℕ → Option Operator → Expr → Expr → Option Node
+target_of_sum at None e f = None
+target_of_sum at (Some operator) e f =
+    Some (node.Place (expr.Convert v.Pointer (expr.Operate at operator false e f)))
+
+-- of an lvalue: a member of a value that is none has no node yet
+abbrev pub member_node : ℕ → Node → Option Node
+member_node bytes (node.Place e) = Some (node.Place (expr.Offset bytes e))
+member_node bytes (node.Value e) = None
+
+-- ---- assignment
+
+abbrev pub stored_node : ℕ → Told → Bool → Option ValueType → Node → Expr → Option Node
+stored_node at x rooted (Some t) (node.Place e) f = Some (node.Value (expr.Store at (access_by x rooted t) e f))
+stored_node at x rooted (Some t) (node.Value e) f = None
+stored_node at x rooted None n f = None
+
+abbrev pub updated_node : ℕ → Told → Bool → Option ValueType → Option Operator → Node → Expr → Option Node
+updated_node at x rooted (Some t) (Some operator) (node.Place e) f =
+    Some (node.Value (expr.Update at operator (access_by x rooted t) e f))
+updated_node at x rooted (Some t) (Some operator) (node.Value e) f = None
+updated_node at x rooted (Some t) None n f = None
+updated_node at x rooted None q n f = None
+
+abbrev pub step_node : ℕ → Answered → Told → Bool → Option ValueType → Option Operator → Node → Option Expr
+step_node at answer x rooted (Some t) (Some operator) (node.Place e) =
+    Some (expr.Step at operator (access_by x rooted t) answer e)
+step_node at answer x rooted (Some t) (Some operator) (node.Value e) = None
+step_node at answer x rooted (Some t) None n = None
+step_node at answer x rooted None q n = None
+
+-- the operator that `++` or `--` is
+abbrev pub step_behind : PostfixOperator → BinaryOperator
+step_behind after.Increment = o.Add
+step_behind after.Decrement = o.Subtract
+
+-- of an object that is read, and stored with 1 more or less
+abbrev pub stepped_node : ℕ → BinaryOperator → Answered → Tables → Built → Option Node
+stepped_node at op answer tables x =
+    option_map node.Value (step_node at answer x.told x.rooted (scalar_by x.told)
+    (operator_of op (operand_by tables x.told) one_more) x.node)

@@ -1,0 +1,158 @@
+//! Addresses of lvalues that operators give, and the address operator (C99 6.5.2.1, 6.5.2.3, 6.5.3.2).
+ghost use Rattle.std.specs.Prelude.{◌≡◌, ◌++◌, false, Some, IfOk};
+ghost use Rattle.c_tree.specs.declared.expr.UnaryOperator.TheVariants as u;
+ghost use Rattle.c_tree.specs.declared.expr.BinaryOperator.TheVariants as o;
+ghost use Rattle.c_says.specs.Typing as says;
+ghost use Rattle.c_says.specs.Typing.{type_in};
+ghost use Rattle.c_means.specs.Expressions as form;
+ghost use Rattle.c_means.specs.Operators.{target_in};
+ghost use Rattle.core_tree.specs.declared.expr.Expr.TheVariants as expr;
+ghost use Rattle.core_tree.specs.declared.types.ValueType.TheVariants as v;
+ghost use Rattle.elaborate.specs.Operators as operators;
+ghost use Rattle.core_forms.specs.Nodes.{Makes, a_place, member_node, operand_by, pointer_node, target_of_sum};
+
+use crate::built::{Built, Node, Used, placed, valued};
+use crate::failure::NoCore;
+use crate::types::operand_type;
+use c_lexer::Name;
+use c_says::Told;
+use c_tree::{BinaryOperator, UnaryOperator};
+use c_type_forms as forms;
+use c_type_terms::{CType, Tables};
+use core_tree::{Expr, ValueType};
+use elaborate::operator_of;
+use plain_data::Shared;
+use std::alloc::{AllocError, Global};
+
+/// `&operand` (C99 6.5.3.2p3): nothing is read.
+pub fn address_of(alloc: Global, tables: &Tables, at: u32, x: Built) -> Result<Built, NoCore>
+    ensures { IfOk result (λ y. Makes y (says.node_over at x.told.shown (says.unary_judged tables.now u.Address) x.told.faults) false (pointer_node x.node)) }
+{
+    let Built { told, node, .. } = x;
+    match node {
+        Node::Place(operand) => {
+            let told = forms::unary(alloc, tables, at, UnaryOperator::Address, told)?;
+            Ok(valued(alloc, told, Expr::Pointer { operand })?)
+        }
+        Node::Value(_) => Err(NoCore::Outside),
+    }
+}
+
+/// `*operand` (C99 6.5.3.2p4). It fails for want of memory alone.
+pub fn indirection(alloc: Global, tables: &Tables, at: u32, x: Used) -> Result<Built, AllocError>
+    ensures { IfOk result (λ y. y ≡ a_place (says.node_over at x.told.shown (says.unary_judged tables.now u.Indirection) x.told.faults) false (expr.Target x.value)) }
+{
+    let Used { told, value } = x;
+    let told = forms::unary(alloc, tables, at, UnaryOperator::Indirection, told)?;
+    placed(alloc, told, false, Expr::Target { operand: value })
+}
+
+/// `left[right]`: the target of the sum (C99 6.5.2.1p2), in the names in force behind the second.
+pub fn subscript(alloc: Global, tables: &Tables, at: u32, x: Used, y: Used) -> Result<Built, NoCore>
+    ensures { let told = says.node_over_two at x.told.shown y.told.shown (says.element tables.now) (x.told.faults ++ y.told.faults) in
+        IfOk result (λ z. Makes z told false (target_of_sum at (operators.operator_of o.Add (operand_by tables.now x.told) (operand_by tables.now y.told)) x.value y.value)) }
+{
+    let first = operand_type(alloc, tables, &x.told)?;
+    let second = operand_type(alloc, tables, &y.told)?;
+    let Some(operator) = operator_of(BinaryOperator::Add, first, second) else {
+        return Err(NoCore::Outside);
+    };
+    let Used { told, value: left } = x;
+    let Used {
+        told: more,
+        value: right,
+    } = y;
+    let told = forms::subscript(alloc, tables, at, told, more)?;
+    let sum = Expr::Operate {
+        at,
+        operator,
+        is_constant: false,
+        left,
+        right,
+    };
+    let operand = Shared::new(alloc, sum)?;
+    let node = Expr::Convert {
+        to: ValueType::Pointer,
+        operand,
+    };
+    Ok(placed(alloc, told, false, node)?)
+}
+
+/// Where a member lies in a structure or union (C99 6.7.2.1): 0 where there is none of this name.
+fn offset_of(tables: &Tables, ctype: &CType, name: &Name) -> u64
+    ensures { result ≡ form.offset_of tables.now (Some ctype.now) name.now }
+{
+    match tables.member_of(ctype, name) {
+        Some(member) => member.offset,
+        None => 0,
+    }
+}
+
+/// Where a member lies in what an expression is.
+fn member_offset(tables: &Tables, told: &Told, name: &Name) -> u64
+    ensures { result ≡ form.offset_of tables.now (type_in told.now.shown) name.now }
+{
+    match &told.shown {
+        Some(shown) => offset_of(tables, &shown.ctype, name),
+        None => 0,
+    }
+}
+
+/// `object.member` of what has an address (C99 6.5.2.3p3).
+pub fn member(
+    alloc: Global,
+    tables: &Tables,
+    at: u32,
+    name: &Name,
+    x: Built,
+) -> Result<Built, NoCore>
+    ensures { IfOk result (λ y. Makes y (says.node_over at x.told.shown (says.member_shown_of tables.now name.now) x.told.faults) x.rooted
+        (member_node (form.offset_of tables.now (type_in x.told.shown) name.now) x.node)) }
+{
+    let Built { told, rooted, node } = x;
+    match node {
+        Node::Place(operand) => {
+            let bytes = member_offset(tables, &told, name);
+            let told = forms::member(alloc, tables, at, name, told)?;
+            Ok(placed(alloc, told, rooted, Expr::Offset { bytes, operand })?)
+        }
+        Node::Value(_) => Err(NoCore::Outside),
+    }
+}
+
+/// Where a member lies in what a value points to.
+fn arrow_offset(alloc: Global, tables: &Tables, told: &Told, name: &Name) -> Result<u64, AllocError>
+    ensures { IfOk result (λ n. n ≡ form.offset_of tables.now (target_in (type_in told.now.shown)) name.now) }
+{
+    match &told.shown {
+        Some(shown) => match shown.ctype.target(alloc)? {
+            Some(target) => Ok(offset_of(tables, &target, name)),
+            None => Ok(0),
+        },
+        None => Ok(0),
+    }
+}
+
+/// `pointer->member` (C99 6.5.2.3p4). It fails for want of memory alone.
+pub fn arrow(
+    alloc: Global,
+    tables: &Tables,
+    at: u32,
+    name: &Name,
+    x: Used,
+) -> Result<Built, AllocError>
+    ensures { IfOk result (λ y. y ≡ a_place (says.node_over at x.told.shown (says.pointed_member tables.now name.now) x.told.faults) false
+        (expr.Offset (form.offset_of tables.now (target_in (type_in x.told.shown)) name.now) (expr.Convert v.Pointer x.value))) }
+{
+    let Used { told, value } = x;
+    let bytes = arrow_offset(alloc, tables, &told, name)?;
+    let told = forms::arrow(alloc, tables, at, name, told)?;
+    let operand = Shared::new(
+        alloc,
+        Expr::Convert {
+            to: ValueType::Pointer,
+            operand: value,
+        },
+    )?;
+    placed(alloc, told, false, Expr::Offset { bytes, operand })
+}

@@ -1,0 +1,156 @@
+//! What parts of expressions are in the core, and their values (C99 6.3.2.1).
+ghost use Rattle.std.specs.Prelude.{◌≡◌, Some, IfOk};
+ghost use Rattle.c_says.specs.Typing.{used_told};
+ghost use Rattle.core_forms.specs.Nodes.{a_value, a_place, loaded, read_node, value_node, HasValue};
+
+use crate::failure::NoCore;
+use crate::types::{bytes_in, class_of};
+use c_says::Told;
+use c_type_forms as forms;
+use c_type_terms::{Class, Tables};
+use core_tree::{Access, Expr, ValueType};
+use elaborate::value_type;
+use plain_data::Shared;
+use std::alloc::{AllocError, Global};
+
+/// The core of a part: of its address, where it is an lvalue or a function, else of its value.
+#[derive(Drop)]
+pub enum Node {
+    Place(Shared<Expr>),
+    Value(Shared<Expr>),
+}
+
+/// A part of an expression: what the types say of it, whether the root of the lvalue that it is is a name, and its core.
+#[derive(Drop)]
+pub struct Built {
+    pub told: Told,
+    pub rooted: bool,
+    pub node: Node,
+}
+
+/// A part as an operand: what the types say of its value (C99 6.3.2.1), and the core of that value.
+#[derive(Drop)]
+pub struct Used {
+    pub told: Told,
+    pub value: Shared<Expr>,
+}
+
+/// A part that is a value. It fails for want of memory alone.
+pub(crate) fn valued(alloc: Global, told: Told, value: Expr) -> Result<Built, AllocError>
+    ensures { IfOk result (λ y. y ≡ a_value told value) }
+{
+    let value = Shared::new(alloc, value)?;
+    Ok(Built {
+        told,
+        rooted: false,
+        node: Node::Value(value),
+    })
+}
+
+/// A part that is an lvalue or a function, by its address. It fails for want of memory alone.
+pub(crate) fn placed(
+    alloc: Global,
+    told: Told,
+    rooted: bool,
+    address: Expr,
+) -> Result<Built, AllocError>
+    ensures { IfOk result (λ y. y ≡ a_place told rooted address) }
+{
+    let address = Shared::new(alloc, address)?;
+    Ok(Built {
+        told,
+        rooted,
+        node: Node::Place(address),
+    })
+}
+
+/// A value that is read at an address. It fails for want of memory alone.
+fn load(
+    alloc: Global,
+    at: u32,
+    stored: ValueType,
+    rooted: bool,
+    address: Shared<Expr>,
+) -> Result<Shared<Expr>, NoCore>
+    ensures { IfOk result (λ e. e ≡ loaded at stored rooted address) }
+{
+    let access = Access {
+        at,
+        stored,
+        is_tested: !rooted,
+    };
+    Ok(Shared::new(alloc, Expr::Load { access, address })?)
+}
+
+/// The value of what stands at an address: an array or a function is its address, and a void expression has no value.
+fn read(
+    alloc: Global,
+    class: Class,
+    bytes: u64,
+    at: u32,
+    rooted: bool,
+    address: Shared<Expr>,
+) -> Result<Shared<Expr>, NoCore>
+    ensures { IfOk result (λ e. Some e ≡ read_node class bytes at rooted address) }
+{
+    match class {
+        Class::Integer(_) => load(alloc, at, value_type(class, bytes), rooted, address),
+        Class::Pointer => load(alloc, at, ValueType::Pointer, rooted, address),
+        Class::Aggregate(_) => load(alloc, at, ValueType::Block { bytes }, rooted, address),
+        Class::Array => Ok(address),
+        Class::Function => Ok(address),
+        Class::Void => {
+            Ok(Shared::new(
+                alloc,
+                Expr::Convert {
+                    to: ValueType::Void,
+                    operand: address,
+                },
+            )?)
+        }
+        Class::Floating => Err(NoCore::Outside),
+        Class::Opaque => Err(NoCore::Outside),
+    }
+}
+
+/// The core of a part's value.
+fn value_of(
+    alloc: Global,
+    tables: &Tables,
+    told: &Told,
+    rooted: bool,
+    node: Node,
+) -> Result<Shared<Expr>, NoCore>
+    ensures { IfOk result (λ e. Some e ≡ value_node tables.now told.now rooted node) }
+{
+    match node {
+        Node::Value(value) => Ok(value),
+        Node::Place(address) => read(
+            alloc,
+            class_of(told),
+            bytes_in(tables, told),
+            told.at,
+            rooted,
+            address,
+        ),
+    }
+}
+
+/// A part as an operand, in the names in force behind it (C99 6.3.2.1p2 to p4).
+pub fn operand(alloc: Global, tables: &Tables, x: Built) -> Result<Used, NoCore>
+    ensures { IfOk result (λ y. HasValue tables.now x (used_told tables.now x.told) y) }
+{
+    let Built { told, rooted, node } = x;
+    let value = value_of(alloc, tables, &told, rooted, node)?;
+    let told = forms::used(alloc, tables, told)?;
+    Ok(Used { told, value })
+}
+
+/// A part whose value isn't used, in the names in force behind it: what the types say of it as it stands.
+pub fn discarded(alloc: Global, tables: &Tables, x: Built) -> Result<Used, NoCore>
+    ensures { IfOk result (λ y. HasValue tables.now x x.told y) }
+{
+    let Built { told, rooted, node } = x;
+    let value = value_of(alloc, tables, &told, rooted, node)?;
+    Ok(Used { told, value })
+}

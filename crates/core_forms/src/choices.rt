@@ -1,0 +1,80 @@
+//! The conditional operator (C99 6.5.15), and casts (C99 6.5.4).
+ghost use Rattle.std.specs.Prelude.{◌≡◌, ◌++◌, IfOk};
+ghost use Rattle.c_says.specs.Typing as says;
+ghost use Rattle.c_means.specs.Expressions as form;
+ghost use Rattle.core_tree.specs.declared.expr.Expr.TheVariants as expr;
+ghost use Rattle.core_forms.specs.Nodes.{a_value, cast_type, type_by};
+
+use crate::built::{Built, Used, valued};
+use crate::types::type_of;
+use c_says::{Fault, Rule};
+use c_type_forms as forms;
+use c_type_terms::{CType, Class, Tables};
+use core_tree::Expr;
+use elaborate::value_type;
+use plain_data::{Items, Shared};
+use std::alloc::{AllocError, Global};
+
+/// `condition ? positive : negative`: each side is converted to the type of both. It fails for want of memory alone.
+pub fn choice(
+    alloc: Global,
+    tables: &Tables,
+    at: u32,
+    condition: Used,
+    positive: Used,
+    negative: Used,
+) -> Result<Built, AllocError>
+    ensures { let told = says.choice_over at condition.told.shown positive.told.shown negative.told.shown (condition.told.faults ++ positive.told.faults ++ negative.told.faults) in
+        IfOk result (λ y. y ≡ a_value told (expr.Choose at condition.value (expr.Convert (type_by tables.now told) positive.value) (expr.Convert (type_by tables.now told) negative.value))) }
+{
+    let Used {
+        told,
+        value: condition,
+    } = condition;
+    let Used {
+        told: first,
+        value: left,
+    } = positive;
+    let Used {
+        told: second,
+        value: right,
+    } = negative;
+    let told = forms::choice(alloc, at, told, first, second)?;
+    let to = type_of(tables, &told);
+    let positive = Shared::new(alloc, Expr::Convert { to, operand: left })?;
+    let negative = Shared::new(alloc, Expr::Convert { to, operand: right })?;
+    let node = Expr::Choose {
+        at,
+        condition,
+        positive,
+        negative,
+    };
+    valued(alloc, told, node)
+}
+
+/// The class of a named type, as which a cast to it is evaluated.
+fn named_class(named: &Option<Result<CType, Rule>>) -> Class
+    ensures { result ≡ form.named_class named.now }
+{
+    match named {
+        Some(Ok(ctype)) => ctype.class(),
+        Some(Err(_)) => Class::Void,
+        None => Class::Void,
+    }
+}
+
+/// A cast to a named type. It fails for want of memory alone.
+pub fn cast(
+    alloc: Global,
+    at: u32,
+    named: Option<Result<CType, Rule>>,
+    faults: Items<Fault>,
+    x: Used,
+) -> Result<Built, AllocError>
+    ensures { let told = says.cast_over at named x.told.shown (faults ++ x.told.faults) in IfOk result (λ y. y ≡ a_value told (expr.Cast (cast_type named) x.value)) }
+{
+    let Used { told, value } = x;
+    let to = value_type(named_class(&named), 0);
+    let told = forms::cast(alloc, at, named, faults, told)?;
+    valued(alloc, told, Expr::Cast { to, operand: value })
+}

@@ -1,0 +1,23 @@
+//! The core of each form of expression, over what its parts are in the core.
+#![tactic(auto)]
+
+mod addresses;
+mod assigning;
+mod built;
+mod choices;
+mod constants;
+mod failure;
+mod names;
+mod operators;
+mod single;
+mod types;
+
+pub use addresses::{address_of, arrow, indirection, member, subscript};
+pub use assigning::{compound, decrement, increment, postfix, simple};
+pub use built::{Built, Node, Used, discarded, operand};
+pub use choices::{cast, choice};
+pub use constants::{character_constant, integer_constant, size_of_expression, size_of_type};
+pub use failure::NoCore;
+pub use names::{Places, function_name, identifier, string_literal};
+pub use operators::{binary, comma};
+pub use single::{complement, minus, not, plus};

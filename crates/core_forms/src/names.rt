@@ -1,0 +1,96 @@
+//! Names, string literals and `__func__` (C99 6.5.1, 6.4.5, 6.4.2.2).
+ghost use Rattle.std.specs.Prelude.{◌≡◌, ℕ, [], false, IfOk};
+ghost use Rattle.std.specs.Option.{option_copied};
+ghost use Rattle.c_says.specs.Scopes.{Scope};
+ghost use Rattle.c_says.specs.Typing as says;
+ghost use Rattle.core_tree.specs.declared.expr.Expr.TheVariants as expr;
+ghost use Rattle.core_forms.specs.Nodes.{Makes, a_place, is_object, named_node};
+
+use crate::built::{Built, placed, valued};
+use crate::failure::NoCore;
+use bit_words::Bytes;
+use c_lexer::Name;
+use c_says::{Duration, Entry, Means};
+use c_type_forms as forms;
+use c_type_terms::Tables;
+use core_tree::Expr;
+use plain_data::Shared;
+use std::alloc::Global;
+
+/// Where objects and functions are that live throughout the run.
+pub trait Places {
+    ghost place: { Self → ℕ → ℕ };
+
+    /// The place of what is declared at this offset, or of the literal that stands there.
+    fn place(&self, at: u32) -> u64
+        ensures { result ≡ (place self.now) at };
+}
+
+/// The core of a name, by its declaration. A name without one, a typedef name, and one whose declaration breaks a rule
+/// have none.
+pub fn identifier<P: Places>(
+    alloc: Global,
+    places: &P,
+    at: u32,
+    entry: Option<&Shared<Entry>>,
+) -> Result<Built, NoCore>
+    ensures { let e = option_copied entry.entry in IfOk result (λ y. Makes y (says.named_told at e) (is_object e) (named_node e (P.place places.now))) }
+{
+    let told = forms::identifier(alloc, at, entry)?;
+    match entry {
+        Some(entry) => {
+            let entry = entry.get();
+            let at = entry.at;
+            match &entry.means {
+                Means::Object { duration, .. } => match *duration {
+                    Duration::Automatic => Ok(placed(alloc, told, true, Expr::Local { at })?),
+                    Duration::Static => {
+                        let place = places.place(at);
+                        Ok(placed(alloc, told, true, Expr::Fixed { place })?)
+                    }
+                },
+                Means::Function { .. } => {
+                    let place = places.place(at);
+                    Ok(placed(alloc, told, true, Expr::Fixed { place })?)
+                }
+                Means::Constant { value } => {
+                    let value = i128::from(*value);
+                    Ok(valued(alloc, told, Expr::Constant { value })?)
+                }
+                Means::Typedef { .. } => Err(NoCore::Outside),
+                Means::Faulty => Err(NoCore::Outside),
+            }
+        }
+        None => Err(NoCore::Outside),
+    }
+}
+
+/// Adjacent string literals: the array that was made for them. It fails for want of memory alone.
+pub fn string_literal<P: Places>(
+    alloc: Global,
+    places: &P,
+    tables: &Tables,
+    at: u32,
+    pieces: &[Shared<Bytes>],
+) -> Result<Built, NoCore>
+    ensures { IfOk result (λ y. y ≡ a_place (says.node at (says.literal_shown tables.now pieces.now) []) false (expr.Fixed ((P.place places.now) at))) }
+{
+    let told = forms::string_literal(alloc, tables, at, pieces)?;
+    let place = places.place(at);
+    Ok(placed(alloc, told, false, Expr::Fixed { place })?)
+}
+
+/// `__func__`: the array that was made for it. It fails for want of memory alone.
+pub fn function_name<P: Places>(
+    alloc: Global,
+    places: &P,
+    tables: &Tables,
+    at: u32,
+    function: &Option<Name>,
+) -> Result<Built, NoCore>
+    ensures { (s : Scope) → s.tables ≡ tables.now → IfOk result (λ y. y ≡ a_place (says.told_of (says.function_name at function.now s)) false (expr.Fixed ((P.place places.now) at))) }
+{
+    let told = forms::function_name(alloc, tables, at, function)?;
+    let place = places.place(at);
+    Ok(placed(alloc, told, false, Expr::Fixed { place })?)
+}

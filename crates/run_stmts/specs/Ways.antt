@@ -1,0 +1,43 @@
+-- Where a run on its way arrives: whether it is at the label or case that it looks for.
+use Rattle.std.specs.Prelude.{ℕ, ℤ, Bool, true, false, cond, ◌||◌, List, [], ◌∷◌, Option, Some, None}
+use Rattle.std.specs.Str.{bytes_eq}
+use Rattle.c_means.specs.declared.kind.Kind.{Kind}
+use Rattle.c_means.specs.declared.kind.Kind.TheVariants as k
+use Rattle.c_runs.specs.Items.{same, Case}
+
+abbrev pub goes_to : List ℕ → Kind → Bool
+goes_to name (k.Going label) = bytes_eq label name
+goes_to name k.Running = false
+goes_to name k.Breaking = false
+goes_to name k.Continuing = false
+goes_to name k.Returning = false
+goes_to name (k.Choosing value) = false
+goes_to name k.Defaulting = false
+goes_to name (k.Ended finish) = false
+
+abbrev pub chooses : ℤ → Kind → Bool
+chooses value (k.Choosing wanted) = same wanted value
+chooses value k.Running = false
+chooses value k.Breaking = false
+chooses value k.Continuing = false
+chooses value k.Returning = false
+chooses value (k.Going label) = false
+chooses value k.Defaulting = false
+chooses value (k.Ended finish) = false
+
+-- the values of a `switch`'s cases, in order
+abbrev pub and_value : Option ℤ → List ℤ → List ℤ
+and_value None zs = zs
+and_value (Some z) zs = z ∷ zs
+
+abbrev pub values_in : List Case → List ℤ
+values_in [] = []
+values_in (c ∷ cs) = and_value c.value (values_in cs)
+
+abbrev pub has_value : ℤ → List ℤ → Bool
+has_value z [] = false
+has_value z (x ∷ xs) = same z x || has_value z xs
+
+-- to the case of the value, else to `default`
+abbrev pub chosen_in : List ℤ → ℤ → Kind
+chosen_in zs v = cond (has_value v zs) (k.Choosing v) k.Defaulting

@@ -1,0 +1,18 @@
+//! The source and the log on which the program tries itself. (The words of a command line and the
+//! configuration come later.)
+#![tactic(auto)]
+
+mod generating;
+mod given;
+mod job;
+mod numbers;
+mod reading;
+mod step;
+mod table;
+
+pub use generating::{MakeFault, make_log, make_source};
+pub use job::{Command, Job, WordsFault};
+pub use reading::read_words;
+
+#[cfg(test)]
+mod tests;
