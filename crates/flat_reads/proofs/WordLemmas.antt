@@ -1,6 +1,6 @@
 -- Words joined of bytes.
 use Rattle.std.proofs.Common.{◌≡◌, ◌<◌, ◌≤◌, ◌+◌, ◌-◌, ◌*◌, ◌/◌, ◌%◌, ◌^◌, ◌∷◌, [], ℕ, zero, suc, List, Bool, true, false, arith, bit_or, refl, sym, ap, subst, ◌∙◌, cond}
-use Rattle.std.specs.Prelude.{nat_lt, Result, Ok, Err, IfOk, IsErrAnd}
+use Rattle.std.specs.Prelude.{nat_lt, Result, Ok, Err, IfOk}
 use Rattle.std.proofs.Math.Nat.{mod-eq_of_lt}
 use Rattle.std.proofs.lemmas.Nat.{or_shifted}
 use Rattle.bit_words.specs.Words.{bits}
@@ -187,6 +187,5 @@ next_less n left h = omega (arith, h)
 pub joined_both : (w : Width) (x y high byte z : ℕ) → x ≡ high → y ≡ byte → joined_of w high byte ≡ z → of_word (joined_of w x y) ≡ of_word z
 joined_both w x y high byte z h k e = ap (λ n. of_word (joined_of w n y)) h ∙ ap (λ n. of_word (joined_of w high n)) k ∙ ap of_word e
 
-pub gives_failed : {Q : BankFault → Type 0} (old new : List Shape) (ps : List Node) (s : Sort) (x : Values → Worth) (r : Result Node BankFault) → IsErrAnd r Q → Grows old new → IsBank new → Gives old new ps s x r
-gives_failed old new ps s x (Ok n) failed g bank = absurd failed
-gives_failed old new ps s x (Err e) failed g bank = record { node = tt; value = tt; flat = tt; grows = g; bank = bank }
+pub gives_failed : (old new : List Shape) (ps : List Node) (s : Sort) (x : Values → Worth) (r : Result Node BankFault) (e : BankFault) → r ≡ Err e → Grows old new → IsBank new → Gives old new ps s x r
+gives_failed old new ps s x r e is g bank = subst (Gives old new ps s x) (sym is) (record { node = tt; value = tt; flat = tt; grows = g; bank = bank })

@@ -1,5 +1,5 @@
 //! Reads of memory taken away: each byte becomes a choice among words that were written and bytes of the initial
-//! memory, which stand in a table with constraints on equal addresses.
+//! memory.
 #![tactic(auto)]
 
 mod answers;
@@ -7,3 +7,5 @@ mod choices;
 mod flatten;
 mod parts;
 mod words;
+
+pub use flatten::flat_roots;

@@ -1,4 +1,5 @@
-use Rattle.std.proofs.Common.{◌≡◌, ◌-◌, ◌%◌, ◌∷◌, [], suc, arith, ap, ◌∙◌}
+use Rattle.std.proofs.lemmas.Result.{err_from_is_err_and}
+use Rattle.std.proofs.Common.{◌≡◌, ◌-◌, ◌%◌, ◌∷◌, [], ℕ, suc, arith, ap, ◌∙◌}
 use Rattle.bit_words.specs.declared.width.Width.TheVariants.{W8, W64}
 use Rattle.c_store.specs.Store.{spelt}
 use Rattle.term_bank.specs.declared.sort.Sort.TheVariants.{Word}
@@ -42,13 +43,17 @@ pub byte_at-requires-in-octets-clause-address : goal.byte_at-requires-in-octets-
 byte_at-requires-in-octets-clause-address c = node_grown c.args.bank.now c.octets.bank (word W64 c.args.address) c.octets.invariant.grows c.requires.address
 
 pub returns-in_err-byte-clause-word : goal.returns-in_err-byte-clause-word
-returns-in_err-byte-clause-word c = gives_failed _ _ _ _ _ _ c.from_residual-in_err-byte.ensures.1 (grows_on c.octets.invariant.grows c.in_err-byte.ensures.byte.grows) c.in_err-byte.ensures.byte.bank
+returns-in_err-byte-clause-word c =
+    let p = err_from_is_err_and c.from_residual-in_err-byte.result c.from_residual-in_err-byte.ensures.1 in
+    gives_failed _ _ _ _ _ _ p.0 p.1 (grows_on c.octets.invariant.grows c.in_err-byte.ensures.byte.grows) c.in_err-byte.ensures.byte.bank
 
 pub joined-requires-clause-high : goal.joined-requires-clause-high
 joined-requires-clause-high c = term_grown c.octets.bank c.byte_at-in-octets.new.bank (Word c.args.width) c.octets.word c.in_ok-byte.ensures.byte.grows c.octets.invariant.term
 
 pub returns-in_err-word-2-clause-word : goal.returns-in_err-word-2-clause-word
-returns-in_err-word-2-clause-word c = gives_failed _ _ _ _ _ _ c.from_residual-in_err-word-2.ensures.1 (grows_on c.octets.invariant.grows (grows_on c.in_ok-byte.ensures.byte.grows c.in_err-word-2.ensures.grows)) c.in_err-word-2.ensures.bank
+returns-in_err-word-2-clause-word c =
+    let p = err_from_is_err_and c.from_residual-in_err-word-2.result c.from_residual-in_err-word-2.ensures.1 in
+    gives_failed _ _ _ _ _ _ p.0 p.1 (grows_on c.octets.invariant.grows (grows_on c.in_ok-byte.ensures.byte.grows c.in_err-word-2.ensures.grows)) c.in_err-word-2.ensures.bank
 
 pub octets-preserved : goal.octets-preserved
 octets-preserved c =
@@ -72,7 +77,7 @@ octets-preserved c =
       term = e2.node;
       value = record {
         is = λ e v honest k.
-            let f = λ i. (v m).store.bytes (behind (v a).word i) in
+            let f : ℕ → ℕ = λ i. (v m).store.bytes (behind (v a).word i) in
             e2.value.is e v honest k ∙ joined_both w (v l.word.index).word (v byte.index).word (spelt (octets w - l.left) f l.left) (f (l.left - 1) % 256) (spelt (octets w - (l.left - 1)) f (l.left - 1))
             (word_at l.bank s2 (λ v. spelt (octets w - l.left) (λ i. (v m).store.bytes (behind (v a).word i)) l.left) l.word h.value (grows_on e1.byte.grows e2.grows) e v honest k)
             (word_at s1 s2 (λ v. (v m).store.bytes (behind (v a).word (l.left - 1)) % 256) byte e1.byte.value e2.grows e v honest k)
