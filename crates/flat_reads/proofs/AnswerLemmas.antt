@@ -1,24 +1,21 @@
 -- Tasks, and the answers that they make.
-use Rattle.std.proofs.Common.{◌≡◌, ◌<◌, ◌≤◌, ◌+◌, ◌*◌, ◌^◌, ◌++◌, ◌∷◌, [], ◌⊎◌, ℕ, zero, suc, List, Option, Some, None, Bool, true, false, arith, inl, inr, refl, sym, ap, subst, ◌∙◌, cond}
+use Rattle.std.proofs.Common.{◌≡◌, ◌<◌, ◌≤◌, ◌+◌, ◌*◌, ◌^◌, ◌++◌, ◌∷◌, [], ◌⊎◌, ℕ, suc, List, Some, Bool, true, false, arith, inl, inr, refl, sym, ap, subst, ◌∙◌, cond}
 use Rattle.std.specs.Prelude.{Result, Ok, Err, OnOk}
 use Rattle.std.proofs.Math.Nat.{pow-le-pow_right}
 use Rattle.std.proofs.lemmas.List.{append-nil}
 use Rattle.term_bank.specs.contracts.shape.ShapePartialEq.TheImpl.{ghosts}
 use Rattle.term_bank.specs.contracts.shape.ShapeEq.TheImpl.Laws.{laws-law}
 use Rattle.term_bank.proofs.Equality.{shape_true}
-use Rattle.bit_words.specs.declared.width.Width.TheVariants.{W8}
 use Rattle.term_bank.specs.declared.sort.Sort.{Sort}
 use Rattle.term_bank.specs.declared.sort.Sort.TheVariants.{Truth}
 use Rattle.term_bank.specs.declared.sort.Node.{Node}
 use Rattle.term_bank.specs.declared.shape.Shape.{Shape}
-use Rattle.term_bank.specs.declared.shape.Shape.TheVariants.{Choose, Read}
-use Rattle.term_bank.specs.Shapes.{Each, IsNode, IsWell, parts, sort_of}
-use Rattle.term_bank.specs.Values.{Environment, Worth, Values, Models, Grows, IsWorth, worth}
+use Rattle.term_bank.specs.declared.shape.Shape.TheVariants.{Choose}
+use Rattle.term_bank.specs.Shapes.{IsNode, IsWell, parts, sort_of}
+use Rattle.term_bank.specs.Values.{Environment, Worth, Values, Models, Grows, IsWorth}
 use Rattle.term_bank.specs.Under.{IsOver}
 use Rattle.term_bank.specs.Terms.{IsTerm}
-use Rattle.term_bank.specs.Banks.{IsBank}
-use Rattle.term_bank.proofs.Worth.{each}
-use Rattle.term_bank.proofs.BankLemmas.{weaken, grows_on, node_grown}
+use Rattle.term_bank.proofs.BankLemmas.{weaken}
 use Rattle.term_bank.proofs.TermLemmas.{part_of, term_of, term_grown}
 use Rattle.flat_reads.specs.declared.choices.Found.{Found}
 use Rattle.flat_reads.specs.declared.choices.Found.TheVariants.{Known, Asked}
@@ -26,9 +23,9 @@ use Rattle.flat_reads.specs.declared.choices.Choice.{Choice}
 use Rattle.flat_reads.specs.declared.answers.Task.{Task}
 use Rattle.flat_reads.specs.declared.answers.Task.TheVariants.{Ask, Make}
 use Rattle.flat_reads.specs.Flats.{IsHonest, IsFlatOver}
-use Rattle.flat_reads.specs.Choices.{IsByte, IsFound, IsChoice, found_worth, rank}
+use Rattle.flat_reads.specs.Choices.{IsFound, IsChoice, found_worth, rank}
 use Rattle.flat_reads.specs.Answers.{Answers, answer_in, IsAnswer, AreAnswers, IsAnswered, PutsAnswer, IsAskable, question_of, Waits, Settled, IsSettled, IsReadyFor, AreHeld, IsTask, AreTasks, weight, weights, IsReady, Goes, asks, Opens, found_in, Made}
-use Rattle.flat_reads.proofs.FlatLemmas.{flat_grown, flat_through, flat_over, IsPlain}
+use Rattle.flat_reads.proofs.FlatLemmas.{flat_grown, flat_through, flat_over}
 use Rattle.flat_reads.proofs.ChoiceLemmas.{well_grown, found_grown}
 
 pub answer_grown : (a b : List Shape) (q : Shape) (node : Node) → Grows a b → IsAnswer a q node → IsAnswer b q node

@@ -1,5 +1,5 @@
 -- What bytes are asked for.
-use Rattle.std.proofs.Common.{◌≡◌, ◌<◌, ◌≤◌, ◌+◌, ◌*◌, ◌/◌, ◌%◌, ◌^◌, ◌∷◌, [], ℕ, zero, suc, List, Some, Bool, true, false, arith, refl, sym, ap, subst, ◌∙◌, cond}
+use Rattle.std.proofs.Common.{◌≡◌, ◌<◌, ◌+◌, ◌*◌, ◌%◌, ◌^◌, ◌∷◌, [], ℕ, zero, suc, List, Some, Bool, true, false, arith, refl, sym, ap, subst, ◌∙◌, cond}
 use Rattle.std.specs.Prelude.{slice_get, nat_lt}
 use Rattle.std.specs.Option.{option_map}
 use Rattle.std.proofs.lemmas.Bool.Decides.{nat_tests}
@@ -17,22 +17,21 @@ use Rattle.term_bank.specs.declared.shape.Shape.TheVariants.{Flag, Constant, Par
 use Rattle.term_bank.specs.Shapes.{Each, IsNode, IsWell, memory, word, parts, sort_of}
 use Rattle.term_bank.specs.Values.{Environment, Worth, Values, Models, Grows, IsWorth, worth, of_truth, of_word}
 use Rattle.term_bank.specs.Terms.{IsTerm}
-use Rattle.term_bank.specs.Under.{IsUnder, IsOver, IsOnly}
+use Rattle.term_bank.specs.Under.{IsOver, IsOnly}
 use Rattle.term_bank.proofs.OverLemmas.{only_below}
 use Rattle.term_bank.specs.Values.{result_of, converted}
-use Rattle.flat_reads.specs.Parts.{moved, octet_of}
+use Rattle.flat_reads.specs.Parts.{octet_of}
 use Rattle.term_bank.specs.Banks.{IsBank}
 use Rattle.term_bank.proofs.Worth.{each}
-use Rattle.term_bank.proofs.BankLemmas.{weaken, grows_on, node_grown}
+use Rattle.term_bank.proofs.BankLemmas.{weaken, node_grown}
 use Rattle.term_bank.proofs.BindingLemmas.{node_sorted}
-use Rattle.term_bank.proofs.TermLemmas.{term_of, node_of, term_grown}
-use Rattle.mem_terms.specs.Reads.{ReadsAlike}
+use Rattle.term_bank.proofs.TermLemmas.{term_of, term_grown}
 use Rattle.flat_reads.specs.declared.choices.Found.{Found}
 use Rattle.flat_reads.specs.declared.choices.Found.TheVariants.{Known, Asked}
 use Rattle.flat_reads.specs.declared.choices.Choice.{Choice}
 use Rattle.flat_reads.specs.Flats.{IsHonest, IsFlatOver, HasWorth, is_flat}
-use Rattle.flat_reads.specs.Choices.{rank, found_worth, IsAsked, IsKnown, IsFound, IsChoice, Leads, Asks, IsLaid}
-use Rattle.flat_reads.proofs.FlatLemmas.{flat_grown, flat_through, flat_over, flat_first, flat_second, IsPlain}
+use Rattle.flat_reads.specs.Choices.{rank, found_worth, IsFound, IsChoice, Leads, Asks, IsLaid}
+use Rattle.flat_reads.proofs.FlatLemmas.{flat_grown, flat_through, flat_over, flat_second}
 
 pub well_grown : (a b : List Shape) (s : Shape) → Grows a b → IsWell a s → IsWell b s
 well_grown a b s g h = record { parts_stand = each (IsNode a) (IsNode b) (parts s) (λ p k. node_grown a b p g k) h.parts_stand; in_width = h.in_width }

@@ -1,18 +1,18 @@
 -- Flat shapes under nodes, and what an added shape gives.
-use Rattle.std.proofs.Common.{◌≡◌, ◌∷◌, [], ℕ, List, Some, Bool, true, refl, ap, subst, ◌∙◌}
+use Rattle.std.proofs.Common.{◌≡◌, ◌∷◌, ℕ, List, Bool, true, refl, ap, ◌∙◌}
 use Rattle.std.specs.Prelude.{Result, Ok, Err, IfOk}
 use Rattle.term_bank.specs.declared.sort.Sort.{Sort}
 use Rattle.term_bank.specs.declared.sort.Node.{Node}
 use Rattle.term_bank.specs.declared.bank.BankFault.{BankFault}
 use Rattle.term_bank.specs.declared.shape.Shape.{Shape}
-use Rattle.term_bank.specs.Shapes.{Each, IsNode, IsWell, parts, sort_of}
+use Rattle.term_bank.specs.Shapes.{Each, IsNode, parts, sort_of}
 use Rattle.term_bank.specs.Values.{Environment, Worth, Values, Models, Grows, IsWorth, worth, of_truth, of_word}
 use Rattle.term_bank.specs.Under.{IsOnly, IsOver}
 use Rattle.term_bank.specs.Terms.{IsTerm}
 use Rattle.term_bank.specs.Banks.{IsBank}
 use Rattle.term_bank.proofs.Worth.{each}
-use Rattle.term_bank.proofs.BankLemmas.{weaken, grows_on, node_grown}
-use Rattle.term_bank.proofs.TermLemmas.{term_of, node_of, term_grown}
+use Rattle.term_bank.proofs.BankLemmas.{weaken, grows_on}
+use Rattle.term_bank.proofs.TermLemmas.{term_of}
 use Rattle.flat_reads.specs.Flats.{IsHonest, IsFlatOver, HasWorth, Gives, is_flat}
 
 pub flat_grown : (a b : List Shape) (ps : List Node) (n : ℕ) → Grows a b → IsFlatOver a ps n → IsFlatOver b ps n

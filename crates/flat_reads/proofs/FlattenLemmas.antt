@@ -1,5 +1,5 @@
 -- Nodes without reads that stand for nodes.
-use Rattle.std.proofs.Common.{◌≡◌, ◌<◌, ◌%◌, ◌^◌, ◌++◌, ◌∷◌, [], ◌⊎◌, ℕ, List, Some, None, Bool, true, false, refl, sym, ap, subst, ◌∙◌}
+use Rattle.std.proofs.Common.{◌≡◌, ◌%◌, ◌^◌, ◌∷◌, [], ℕ, List, Some, None, Bool, true, refl, sym, ap, subst, ◌∙◌}
 use Rattle.std.specs.Prelude.{slice_get, Result, Ok, Err, IfOk, OnOk}
 use Rattle.std.specs.Option.{option_map}
 use Rattle.std.specs.Map.{lookup}
@@ -15,7 +15,7 @@ use Rattle.term_bank.specs.declared.shape.Shape.{Shape}
 use Rattle.term_bank.specs.declared.shape.Shape.TheVariants.{Flag, Constant, Parameter, Base, Entry, Initial, WorldWord, InitialByte, Binary, Test, Convert, Not, Connect, Choose, Write, ZeroRange, CopyRange, Made, Ended, Read, ObjectSize, IsLive, HasKind}
 use Rattle.term_bank.specs.Memories.{octets, read}
 use Rattle.term_bank.specs.Shapes.{Each, IsNode, IsWell, memory, parts, sort_at, sort_of, word}
-use Rattle.term_bank.specs.Values.{Environment, Values, Models, Grows, IsWorth, worth, of_word}
+use Rattle.term_bank.specs.Values.{Environment, Values, Grows, IsWorth, worth, of_word}
 use Rattle.term_bank.specs.Under.{IsOnly, IsOver}
 use Rattle.term_bank.specs.Banks.{IsPart, IsBank}
 use Rattle.term_bank.specs.Terms.{IsTerm}
@@ -25,7 +25,7 @@ use Rattle.term_bank.proofs.BankLemmas.{weaken, grows_on, node_grown}
 use Rattle.term_bank.proofs.TermLemmas.{node_of}
 use Rattle.term_bank.proofs.ImageLemmas.{image_found, sort_over, well_over}
 use Rattle.term_bank.proofs.OverLemmas.{only_below}
-use Rattle.flat_reads.specs.Flats.{IsHonest, IsFlatOver, Gives, is_flat}
+use Rattle.flat_reads.specs.Flats.{IsFlatOver, Gives, is_flat}
 use Rattle.flat_reads.specs.Answers.{Answers, AreAnswers, answer_in}
 use Rattle.flat_reads.specs.Flattened.{IsKept, IsFlattened, HasFlat}
 

@@ -1,5 +1,5 @@
 -- What the nodes are worth of which a byte is made.
-use Rattle.std.proofs.Common.{◌≡◌, ◌<◌, ◌+◌, ◌*◌, ◌/◌, ◌%◌, ◌^◌, ℕ, zero, suc, Bool, true, false, arith, refl, sym, ap, ◌∙◌, cond}
+use Rattle.std.proofs.Common.{◌≡◌, ℕ, refl, sym, ap, ◌∙◌}
 use Rattle.std.proofs.Common.{◌∷◌, [], List, Some}
 use Rattle.std.specs.Prelude.{nat_lt, Ok}
 use Rattle.term_bank.specs.declared.sort.Sort.TheVariants.{Word}
@@ -10,7 +10,6 @@ use Rattle.term_bank.proofs.BankLemmas.{stays}
 use Rattle.term_bank.proofs.BindingLemmas.{node_sorted}
 use Rattle.flat_reads.specs.Flats.{Gives}
 use Rattle.flat_reads.proofs.FlatLemmas.{flat_first}
-use Rattle.bit_words.specs.Words.{bits}
 use Rattle.bit_words.specs.declared.width.Width.{Width}
 use Rattle.bit_words.specs.declared.width.Width.TheVariants.{W8, W16, W32, W64}
 use Rattle.term_bank.specs.declared.shape.WordOperator.TheVariants as operator

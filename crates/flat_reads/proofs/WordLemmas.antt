@@ -1,5 +1,5 @@
 -- Words joined of bytes.
-use Rattle.std.proofs.Common.{◌≡◌, ◌<◌, ◌≤◌, ◌+◌, ◌-◌, ◌*◌, ◌/◌, ◌%◌, ◌^◌, ◌∷◌, [], ℕ, zero, suc, List, Bool, true, false, arith, bit_or, refl, sym, ap, subst, ◌∙◌, cond}
+use Rattle.std.proofs.Common.{◌≡◌, ◌<◌, ◌+◌, ◌-◌, ◌*◌, ◌%◌, ◌^◌, ◌∷◌, [], ℕ, zero, suc, List, true, arith, bit_or, refl, sym, ap, subst, ◌∙◌, cond}
 use Rattle.std.specs.Prelude.{nat_lt, Result, Ok, Err, IfOk}
 use Rattle.std.proofs.Math.Nat.{mod-eq_of_lt}
 use Rattle.std.proofs.lemmas.Nat.{or_shifted}
@@ -17,7 +17,7 @@ use Rattle.term_bank.specs.declared.shape.Shape.TheVariants.{Read}
 use Rattle.term_bank.specs.declared.shape.WordOperator.TheVariants as operator
 use Rattle.term_bank.specs.declared.shape.Extension.TheVariants as extension
 use Rattle.term_bank.specs.Memories.{behind, octets, read}
-use Rattle.term_bank.specs.Shapes.{Each, IsNode, memory, parts, sort_of, word}
+use Rattle.term_bank.specs.Shapes.{IsNode, memory, parts, sort_of, word}
 use Rattle.term_bank.specs.Values.{Environment, Worth, Values, Models, Grows, of_word, result_of, converted}
 use Rattle.term_bank.specs.Terms.{IsTerm}
 use Rattle.term_bank.specs.Banks.{IsBank}

@@ -225,7 +225,14 @@ fn undecided(bank: &mut Bank, memory: u32, address: u32) -> Result<Choice, BankF
                 length,
             },
         ) => copied(bank, memory, old, to, source, from, length, address),
-        Some(Shape::Choose { condition, yes, no, .. }) => Ok(Choice {
+        Some(
+            Shape::Choose {
+                condition,
+                yes,
+                no,
+                ..
+            },
+        ) => Ok(Choice {
             condition: Node {
                 index: condition,
                 sort: Sort::Truth,

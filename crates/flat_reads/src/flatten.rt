@@ -41,11 +41,7 @@ fn flat_shape(
 
 /// Nodes that have the values of the roots, without reads but of the entry memory. The time is that of the nodes under
 /// the roots and of the bytes that are asked of their memories.
-pub fn flat_roots(
-    alloc: Global,
-    bank: &mut Bank,
-    roots: &[Node],
-) -> Result<Items<Node>, BankFault>
+pub fn flat_roots(alloc: Global, bank: &mut Bank, roots: &[Node]) -> Result<Items<Node>, BankFault>
     requires bank { IsBank bank.old }
     requires roots { Each (IsNode bank.old) roots.now }
     ensures nodes { IfOk result (AreImages (HasFlat bank.new) roots.now) }

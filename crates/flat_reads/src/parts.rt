@@ -14,8 +14,6 @@ ghost use Rattle.flat_reads.specs.Parts.{moved, octet_of};
 use bit_words::Width;
 use term_bank::{Bank, BankFault, Extension, Node, Shape, Sort, WordOperator, WordTest};
 
-
-
 /// A constant word.
 pub(crate) fn constant(bank: &mut Bank, value: u64, width: Width) -> Result<Node, BankFault>
     requires { value < 2 ^ bits width }
@@ -110,12 +108,7 @@ pub(crate) fn binary(
 }
 
 /// The octet of a word of more than one that is so many behind its first.
-fn shifted_octet(
-    bank: &mut Bank,
-    value: u32,
-    width: Width,
-    far: Node,
-) -> Result<Node, BankFault>
+fn shifted_octet(bank: &mut Bank, value: u32, width: Width, far: Node) -> Result<Node, BankFault>
     requires value { IsNode bank.old (word width value) }
     requires far { IsTerm bank.old (Word W64) far }
     ensures { Gives bank.old bank.new (word width value ∷ (word W64 far.index ∷ [])) (Word W8)
@@ -129,12 +122,7 @@ fn shifted_octet(
 }
 
 /// The octet of a word that is so many behind its first.
-pub(crate) fn octet(
-    bank: &mut Bank,
-    value: u32,
-    width: Width,
-    far: Node,
-) -> Result<Node, BankFault>
+pub(crate) fn octet(bank: &mut Bank, value: u32, width: Width, far: Node) -> Result<Node, BankFault>
     requires bank { IsBank bank.old }
     requires value { IsNode bank.old (word width value) }
     requires far { IsTerm bank.old (Word W64) far }

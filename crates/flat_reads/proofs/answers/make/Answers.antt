@@ -1,4 +1,4 @@
-use Rattle.std.proofs.Common.{◌≡◌, ◌∙◌, sym, subst}
+use Rattle.std.proofs.Common.{◌∙◌, sym, subst}
 use Rattle.term_bank.specs.declared.shape.Shape.TheVariants.{Choose}
 use Rattle.term_bank.specs.Shapes.{IsWell, sort_of, parts}
 use Rattle.term_bank.specs.Values.{IsWorth}

@@ -1,4 +1,4 @@
-use Rattle.std.proofs.Common.{◌≡◌, ◌++◌, ◌∷◌, [], sym, subst}
+use Rattle.std.proofs.Common.{◌++◌, ◌∷◌, [], sym, subst}
 use Rattle.std.specs.Prelude.{OnOk}
 use Rattle.flat_reads.specs.declared.answers.Task.TheVariants.{Ask, Make}
 use Rattle.flat_reads.specs.Answers.{IsTask, IsReady, IsReadyFor, Goes}

@@ -1,18 +1,15 @@
-use Rattle.std.proofs.Common.{◌≡◌, ◌∷◌, [], refl, ap, ◌∙◌}
-use Rattle.bit_words.specs.declared.width.Width.TheVariants.{W8, W64}
-use Rattle.c_store.specs.Store.{byte_of}
+use Rattle.std.proofs.Common.{◌∷◌, [], refl, ap, ◌∙◌}
+use Rattle.bit_words.specs.declared.width.Width.TheVariants.{W64}
 use Rattle.term_bank.specs.declared.sort.Sort.TheVariants.{Truth, Word}
-use Rattle.term_bank.specs.declared.shape.Shape.TheVariants.{Write, ZeroRange, CopyRange, Read}
-use Rattle.term_bank.specs.Memories.{octets, behind, distance}
+use Rattle.term_bank.specs.declared.shape.Shape.TheVariants.{CopyRange}
+use Rattle.term_bank.specs.Memories.{behind, distance}
 use Rattle.term_bank.specs.Shapes.{memory, word}
-use Rattle.term_bank.specs.Values.{Worth, of_word, of_truth}
+use Rattle.term_bank.specs.Values.{Worth}
 use Rattle.term_bank.proofs.BankLemmas.{weaken, grows_on, node_grown}
 use Rattle.term_bank.proofs.BindingLemmas.{node_sorted}
 use Rattle.term_bank.proofs.TermLemmas.{part_of, term_grown}
-use Rattle.flat_reads.specs.declared.choices.Found.TheVariants.{Known, Asked}
-use Rattle.flat_reads.specs.Parts.{octet_of}
-use Rattle.flat_reads.proofs.FlatLemmas.{flat_first, flat_second, flat_grown, flat_through, word_at}
-use Rattle.flat_reads.proofs.ChoiceLemmas.{choice_laid, laid_write, laid_zero, laid_copy, asks_found, asks_worth, parts_flat, inside_is, octet_worth, copied_worth}
+use Rattle.flat_reads.proofs.FlatLemmas.{flat_second, flat_grown, flat_through, word_at}
+use Rattle.flat_reads.proofs.ChoiceLemmas.{choice_laid, laid_copy, asks_found, asks_worth, parts_flat, inside_is, copied_worth}
 use Rattle.flat_reads.proofs.choices.copied.Goals as goal
 
 pub distance-requires-clause-from : goal.distance-requires-clause-from

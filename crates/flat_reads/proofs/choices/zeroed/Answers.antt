@@ -1,18 +1,14 @@
-use Rattle.std.proofs.Common.{◌≡◌, ◌∷◌, [], refl, ap, ◌∙◌}
-use Rattle.bit_words.specs.declared.width.Width.TheVariants.{W8, W64}
-use Rattle.c_store.specs.Store.{byte_of}
-use Rattle.term_bank.specs.declared.sort.Sort.TheVariants.{Truth, Word}
-use Rattle.term_bank.specs.declared.shape.Shape.TheVariants.{Write, ZeroRange, CopyRange, Read}
-use Rattle.term_bank.specs.Memories.{octets, behind, distance}
+use Rattle.std.proofs.Common.{◌∷◌, [], refl}
+use Rattle.bit_words.specs.declared.width.Width.TheVariants.{W64}
+use Rattle.term_bank.specs.declared.sort.Sort.TheVariants.{Truth}
+use Rattle.term_bank.specs.declared.shape.Shape.TheVariants.{ZeroRange}
+use Rattle.term_bank.specs.Memories.{distance}
 use Rattle.term_bank.specs.Shapes.{memory, word}
-use Rattle.term_bank.specs.Values.{of_word, of_truth}
 use Rattle.term_bank.proofs.BankLemmas.{weaken, grows_on, node_grown}
-use Rattle.term_bank.proofs.BindingLemmas.{node_sorted}
-use Rattle.term_bank.proofs.TermLemmas.{part_of, term_grown}
-use Rattle.flat_reads.specs.declared.choices.Found.TheVariants.{Known, Asked}
-use Rattle.flat_reads.specs.Parts.{octet_of}
-use Rattle.flat_reads.proofs.FlatLemmas.{flat_first, flat_second, flat_grown, flat_through, word_at}
-use Rattle.flat_reads.proofs.ChoiceLemmas.{choice_laid, laid_write, laid_zero, laid_copy, asks_found, asks_worth, parts_flat, inside_is, octet_worth, copied_worth}
+use Rattle.term_bank.proofs.TermLemmas.{term_grown}
+use Rattle.flat_reads.specs.declared.choices.Found.TheVariants.{Known}
+use Rattle.flat_reads.proofs.FlatLemmas.{flat_second, flat_grown, flat_through, word_at}
+use Rattle.flat_reads.proofs.ChoiceLemmas.{choice_laid, laid_zero, asks_found, asks_worth, parts_flat, inside_is}
 use Rattle.flat_reads.proofs.choices.zeroed.Goals as goal
 
 pub distance-requires-clause-from : goal.distance-requires-clause-from

@@ -1,6 +1,6 @@
 use Rattle.std.proofs.Common.{◌∙◌, ◌⊎◌, ℕ, sym, subst, inl, inr}
 use Rattle.term_bank.specs.Under.{Among, IsHeld}
-use Rattle.term_bank.specs.Images.{Imaged, image_in, over_images}
+use Rattle.term_bank.specs.Images.{Imaged}
 use Rattle.term_bank.specs.Shapes.{IsWell}
 use Rattle.term_bank.proofs.Worth.{each}
 use Rattle.term_bank.proofs.BankLemmas.{stays, grows_on}

@@ -1,13 +1,8 @@
-use Rattle.std.proofs.Common.{◌∷◌, [], refl}
-use Rattle.bit_words.specs.declared.width.Width.TheVariants.{W64}
-use Rattle.term_bank.specs.declared.shape.Shape.TheVariants.{Constant, Binary, Test, Convert}
-use Rattle.term_bank.specs.declared.shape.WordOperator.TheVariants as operator
-use Rattle.term_bank.specs.declared.shape.WordTest.TheVariants as test
-use Rattle.term_bank.specs.declared.shape.Extension.TheVariants as extension
-use Rattle.term_bank.specs.Shapes.{word, parts}
-use Rattle.term_bank.specs.Values.{of_word, of_truth}
+use Rattle.std.proofs.Common.{[], refl}
+use Rattle.term_bank.specs.declared.shape.Shape.TheVariants.{Constant}
+use Rattle.term_bank.specs.Values.{of_word}
 use Rattle.term_bank.proofs.BankLemmas.{stays}
-use Rattle.flat_reads.proofs.FlatLemmas.{gives_added, flat_first, flat_second}
+use Rattle.flat_reads.proofs.FlatLemmas.{gives_added}
 use Rattle.flat_reads.proofs.parts.constant.Goals as goal
 
 pub returns : goal.returns

@@ -1,15 +1,15 @@
-use Rattle.std.proofs.Common.{◌∷◌, [], refl, sym, ap, ◌∙◌}
+use Rattle.std.proofs.Common.{◌∷◌, []}
 use Rattle.bit_words.specs.declared.width.Width.TheVariants.{W8, W64}
 use Rattle.term_bank.specs.declared.shape.WordOperator.TheVariants as operator
 use Rattle.term_bank.specs.declared.shape.Extension.TheVariants as extension
 use Rattle.term_bank.specs.declared.sort.Sort.TheVariants.{Word}
 use Rattle.term_bank.specs.Shapes.{word}
 use Rattle.term_bank.specs.Values.{of_word, result_of, converted}
-use Rattle.term_bank.proofs.BankLemmas.{stays, grows_on, node_grown}
-use Rattle.term_bank.proofs.TermLemmas.{part_of, term_grown}
-use Rattle.flat_reads.specs.Parts.{moved, octet_of}
+use Rattle.term_bank.proofs.BankLemmas.{grows_on, node_grown}
+use Rattle.term_bank.proofs.TermLemmas.{part_of}
+use Rattle.flat_reads.specs.Parts.{moved}
 use Rattle.flat_reads.proofs.FlatLemmas.{gives_through, flat_first, flat_second, flat_grown, flat_through, word_at}
-use Rattle.flat_reads.proofs.PartLemmas.{moved_steps, octet_more}
+use Rattle.flat_reads.proofs.PartLemmas.{moved_steps}
 use Rattle.flat_reads.proofs.parts.shifted_octet.Goals as goal
 
 pub returns : goal.returns

@@ -3,7 +3,7 @@ use Rattle.std.proofs.Common.{◌≡◌, ◌-◌, ◌%◌, ◌∷◌, [], ℕ, s
 use Rattle.bit_words.specs.declared.width.Width.TheVariants.{W8, W64}
 use Rattle.c_store.specs.Store.{spelt}
 use Rattle.term_bank.specs.declared.sort.Sort.TheVariants.{Word}
-use Rattle.term_bank.specs.Memories.{behind, octets, read}
+use Rattle.term_bank.specs.Memories.{behind, octets}
 use Rattle.term_bank.specs.Shapes.{memory, word}
 use Rattle.term_bank.specs.Values.{of_word}
 use Rattle.term_bank.proofs.BankLemmas.{grows_on, node_grown}
@@ -34,7 +34,7 @@ octets-init c =
       term = e2.node;
       value = record {
         is = λ e v honest k. e2.value.is e v honest k ∙ ap of_word (word_at s1 s2 (λ v. (v m).store.bytes (behind (v a).word left) % 256) top e1.byte.value e2.grows e v honest k
-        ∙ first_spelt (octets w) left (λ i. (v m).store.bytes (behind (v a).word i)) (some_octets w) is);
+            ∙ first_spelt (octets w) left (λ i. (v m).store.bytes (behind (v a).word i)) (some_octets w) is);
       };
       flat = flat_through s2 ps (word W8 top.index ∷ []) c.in_ok-word.word.index e2.flat (flat_grown s1 s2 ps top.index e2.grows e1.byte.flat, tt);
     }
