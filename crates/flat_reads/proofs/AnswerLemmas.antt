@@ -197,6 +197,17 @@ made_answer a b q c yes_node no_node node g h one other is sort value over = rec
   both : (t : Bool) (x y z w : Worth) → x ≡ y → z ≡ w → cond t x z ≡ cond t y w
   both t x y z w h k = rw (h, k) refl
 
+-- two arms that are one node
+pub same_answer : (shapes : List Shape) (q : Shape) (c : Choice) (yes_node no_node : Node) → IsChoice shapes q c → Stands shapes (sort_of q) (parts q) c.yes yes_node → Stands shapes (sort_of q) (parts q) c.no no_node → yes_node.index ≡ no_node.index → IsAnswer shapes q yes_node
+same_answer shapes q c yes_node no_node h one other same = record {
+  term = one.term;
+  value = λ e v honest m. either (v c.condition.index).truth (v yes_node.index) (found_worth e v c.yes) (found_worth e v c.no) (one.value e v honest m) (ap v same ∙ other.value e v honest m) ∙ sym (h.value e v honest m);
+  flat = one.flat;
+} where
+  either : (t : Bool) (x y z : Worth) → x ≡ y → x ≡ z → x ≡ cond t y z
+  either true x y z h k = h
+  either false x y z h k = k
+
 same_self : (q : Shape) → ghosts.eq q q ≡ true
 same_self q = laws-law.refl q
 

@@ -106,6 +106,10 @@ fn make(
     let Some(no) = found_node(answers, choice.no) else {
         return Ok(());
     };
+    if yes.index == no.index {
+        set_answer(answers, question, yes)?;
+        return Ok(());
+    }
     let node = bank.add(Shape::Choose {
         sort: question.sort(),
         condition: choice.condition.index,

@@ -9,3 +9,6 @@ mod parts;
 mod words;
 
 pub use flatten::flat_roots;
+
+#[cfg(test)]
+mod tests;
