@@ -72,7 +72,7 @@ def checked(kind, value):
     bits, signed, _ = INTEGERS[kind]
     if signed and not -(1 << (bits - 1)) <= value < 1 << (bits - 1):
         raise NoValue(False)
-    return kind, converted(kind, value)
+    return converted(kind, value)
 
 
 def quotient(left, right):
@@ -82,22 +82,36 @@ def quotient(left, right):
     return sign * (abs(left) // abs(right))
 
 
-def arithmetic(operator, left, right):
-    (lk, lv), (rk, rv) = left, right
+COMPARISONS = ("<", ">", "<=", ">=", "==", "!=")
+
+
+def kind_of(operator, left, right):
+    """The type of a binary operator's result by those of its operands."""
     if operator in ("<<", ">>"):
-        kind = promoted(lk)
-        bits, signed, _ = INTEGERS[kind]
-        if not 0 <= rv < bits:
-            raise NoValue(False)
-        if operator == ">>":
-            return kind, lv >> rv
-        if signed and lv < 0:
-            raise NoValue(False)
-        return checked(kind, lv << rv)
-    kind = usual(lk, rk)
-    x, y = converted(kind, lv), converted(kind, rv)
-    if operator in ("<", ">", "<=", ">=", "==", "!="):
-        return "int", int({"<": x < y, ">": x > y, "<=": x <= y, ">=": x >= y, "==": x == y, "!=": x != y}[operator])
+        return promoted(left)
+    return "int" if operator in COMPARISONS else usual(left, right)
+
+
+def shifted(operator, kind, x, y):
+    bits, signed, _ = INTEGERS[kind]
+    if not 0 <= y < bits:
+        raise NoValue(False)
+    if operator == ">>":
+        return x >> y
+    if signed and x < 0:
+        raise NoValue(False)
+    return checked(kind, x << y)
+
+
+def arithmetic(operator, left, x, right, y):
+    """The value of a binary operator on values of two types."""
+    kind = kind_of(operator, left, right)
+    if operator in ("<<", ">>"):
+        return shifted(operator, kind, x, y)
+    common = usual(left, right)
+    x, y = converted(common, x), converted(common, y)
+    if operator in COMPARISONS:
+        return int({"<": x < y, ">": x > y, "<=": x <= y, ">=": x >= y, "==": x == y, "!=": x != y}[operator])
     if operator in ("/", "%"):
         q = quotient(x, y)
         checked(kind, q)
@@ -126,7 +140,7 @@ class Source:
         self.count += 1
         return f"{letter}{self.count}"
 
-    # ---- constant expressions: the text and a function that gives its type and value
+    # ---- constant expressions: the text, the type, and a function that gives the value
 
     def constant(self):
         base = self.pick(["", "0x", "0"])
@@ -143,7 +157,7 @@ class Source:
         else:
             kinds = kinds[least:]
         kind = next(k for k in kinds if value < 1 << (INTEGERS[k][0] - INTEGERS[k][1]))
-        return digits + suffix, (lambda: (kind, value))
+        return digits + suffix, kind, (lambda: value)
 
     def leaf(self):
         roll = self.random.random()
@@ -152,12 +166,12 @@ class Source:
         if roll < 0.75:
             text, value = self.pick([("'a'", 97), ("'\\n'", 10), ("'\\0'", 0), ("'\\377'", -1),
                                      ("'\\x7f'", 127)])
-            return text, (lambda: ("int", value))
+            return text, "int", (lambda: value)
         if roll < 0.85 and self.constants:
             name, value = self.pick(self.constants)
-            return name, (lambda: ("int", value))
+            return name, "int", (lambda: value)
         kind = self.pick(list(SIZES))
-        return f"sizeof({self.pick(SPELLINGS.get(kind, [kind]))})", (lambda: ("unsigned long", SIZES[kind]))
+        return f"sizeof({self.pick(SPELLINGS.get(kind, [kind]))})", "unsigned long", (lambda: SIZES[kind])
 
     def expression(self, depth):
         if depth <= 0:
@@ -165,53 +179,50 @@ class Source:
         form = self.pick(["binary"] * 6 + ["unary"] * 2 + ["cast"] * 2 + ["choice", "logic", "sizeof", "leaf"])
         if form == "leaf":
             return self.leaf()
-        text, value = self.expression(depth - 1)
+        text, left, x = self.expression(depth - 1)
         if form == "unary":
-            return self.unary(text, value)
+            return self.unary(text, left, x)
         if form == "cast":
             kind = self.pick(list(INTEGERS))
-            return f"({self.pick(SPELLINGS.get(kind, [kind]))})({text})", (lambda: (kind, converted(kind, value()[1])))
+            spelled = self.pick(SPELLINGS.get(kind, [kind]))
+            return f"({spelled})({text})", kind, (lambda: converted(kind, x()))
         if form == "sizeof":
-            return f"sizeof({text})", (lambda: ("unsigned long", SIZES[value()[0]]))
-        other, second = self.expression(depth - 1)
+            # the operand isn't evaluated, so it needs no value
+            return f"sizeof({text})", "unsigned long", (lambda: SIZES[left])
+        other, right, y = self.expression(depth - 1)
         if form == "binary":
             operator = self.pick("+ - * / % << >> & | ^ < > <= >= == !=".split())
-            return f"({text}) {operator} ({other})", (lambda: arithmetic(operator, value(), second()))
+            kind = kind_of(operator, left, right)
+            return f"({text}) {operator} ({other})", kind, (lambda: arithmetic(operator, left, x(), right, y()))
         if form == "logic":
             operator = self.pick(["&&", "||"])
-            return f"({text}) {operator} ({other})", (lambda: self.logic(operator, value(), second()))
-        third, last = self.expression(depth - 1)
-        return f"({text}) ? ({other}) : ({third})", (lambda: self.chosen(value(), second(), last()))
+            return f"({text}) {operator} ({other})", "int", (lambda: self.logic(operator, x(), y()))
+        third, last, z = self.expression(depth - 1)
+        kind = usual(right, last)
+        return f"({text}) ? ({other}) : ({third})", kind, (lambda: self.chosen(kind, x(), y(), z()))
 
-    def unary(self, text, value):
+    def unary(self, text, left, x):
         operator = self.pick(["-", "~", "!", "+"])
-
-        def result():
-            kind, x = value()
-            if operator == "!":
-                return "int", int(x == 0)
-            kind = promoted(kind)
-            return checked(kind, {"-": -x, "~": -x - 1, "+": x}[operator]) if operator != "~" or INTEGERS[kind][1] \
-                else (kind, converted(kind, ~x))
-        return f"{operator}({text})", result
+        if operator == "!":
+            return f"!({text})", "int", (lambda: int(x() == 0))
+        kind = promoted(left)
+        results = {"-": lambda: checked(kind, -x()), "~": lambda: converted(kind, ~x()), "+": x}
+        return f"{operator}({text})", kind, results[operator]
 
     @staticmethod
-    def logic(operator, left, right):
-        x, y = bool(left[1]), bool(right[1])
-        return "int", int(x and y if operator == "&&" else x or y)
+    def logic(operator, x, y):
+        return int(bool(x) and bool(y) if operator == "&&" else bool(x) or bool(y))
 
     @staticmethod
-    def chosen(condition, positive, negative):
-        kind = usual(positive[0], negative[0])
-        return kind, converted(kind, positive[1] if condition[1] else negative[1])
+    def chosen(kind, condition, positive, negative):
+        return converted(kind, positive if condition else negative)
 
     def good(self, depth):
-        """An expression all of whose parts have values, with its type and value."""
+        """An expression of which each part has a value, operands of `sizeof` apart; with its type and value."""
         while True:
-            text, value = self.expression(depth)
+            text, kind, value = self.expression(depth)
             try:
-                kind, result = value()
-                return text, kind, result
+                return text, kind, value()
             except NoValue:
                 continue
 
@@ -357,7 +368,7 @@ class Source:
 def unvalued(source):
     """A line of an expression of which a part has no value."""
     while True:
-        text, value = source.expression(3)
+        text, _, value = source.expression(3)
         try:
             value()
         except NoValue as fault:

@@ -10,11 +10,7 @@ for tool in cc python3; do
         exit 0
     fi
 done
-program=$(tools/program.sh rows) || exit 1
-if ! "$program" layouts </dev/null >/dev/null 2>&1; then
-    echo "layouts: skipped, the program has no such word yet"
-    exit 0
-fi
+program=$(tools/program.sh type_rows) || exit 1
 folder=$(mktemp -d)
 trap 'rm -rf "$folder"' EXIT
 sources=15

@@ -1,17 +1,27 @@
 #!/usr/bin/env bash
 # Runs `rt` and prints a table in Markdown of the processor time that it took for each crate: its own proof, that of its
-# tests, its must-fail edits (with the check that they begin with) and the slowest edit. What `rt` says goes to
-# standard error, the table to standard output, and the status is rt's.
+# tests, its must-fail edits (with the check that they begin with or end with), the first edit, which may be tried from
+# nothing, and the slowest of the others. What `rt` says goes to standard error, the table to standard output, and the
+# status is rt's.
 #
-#     tools/gate_times.sh                        the whole gate from nothing (rt ci --anew)
-#     tools/gate_times.sh ci --anew NAME..       some crates and those below them
-#     tools/gate_times.sh must-fail --anew NAME  the edits of a crate alone
+#     tools/gate_times.sh                 the whole gate from nothing
+#     tools/gate_times.sh ci NAME..       some crates and those below them, where the kit's rt takes names
+#     tools/gate_times.sh must-fail NAME  the edits of a crate alone
+#
+# The `rt ci` of some kits takes what earlier runs proved, unless it is given `--anew`; that of others always proves all
+# from nothing, and takes no such word. `rt help` tells which: the word is given where it stands there.
 #
 # The prover's processes are read from /proc four times a second, so a process's last quarter of a second may be missed.
 # The sum is exact: it is what the system counted for rt and all that it ran.
 set -u
 cd "$(dirname "$0")/.." || exit 2
-[ $# -gt 0 ] || set -- ci --anew
+word=${1:-ci}
+shift
+anew=()
+if rt help 2>&1 | grep -q -e '--anew'; then
+    anew=(--anew)
+fi
+set -- "$word" ${anew[@]+"${anew[@]}"} "$@"
 exec python3 - "$@" <<'PYTHON'
 import glob
 import os
@@ -99,24 +109,34 @@ def sample(rt, runs):
             runs[key][3] = max(runs[key][3], seconds)
 
 
+def named(edit, seconds):
+    return f"`{edit}` {seconds:.0f} s"
+
+
 def table(runs, total):
-    crates, edits = {}, {}
+    """Prints the table; the runs come in the order in which they were first seen, which is that of their starts."""
+    crates, edits, first = {}, {}, {}
     for crate, kind, edit, seconds in runs.values():
         row = crates.setdefault(crate, dict.fromkeys(KINDS, 0))
         row[kind] += seconds
-        if edit:
+        if kind != "edits":
+            continue
+        if crate not in first:
+            first[crate] = edit, seconds
+        elif edit != "(unchanged)":
             edits[crate, edit] = edits.get((crate, edit), 0) + seconds
-    print("| Crate | Proof | Tests | Edits | Slowest edit |\n|---|---|---|---|---|")
+    print("| Crate | Proof | Tests | Edits | First edit | Slowest other |\n|---|---|---|---|---|---|")
     minutes = lambda seconds: f"{seconds / 60:.1f}"
     for crate, row in sorted(crates.items(), key=lambda it: -sum(it[1].values())):
-        slowest = max(((s, e) for (c, e), s in edits.items() if c == crate and e != "(unchanged)"), default=None)
-        slow = f"`{slowest[1]}` {slowest[0]:.0f} s" if slowest else ""
-        print(f"| `{crate}` | {' | '.join(minutes(row[it]) for it in KINDS)} | {slow} |")
+        begun = named(*first[crate]) if crate in first else ""
+        slowest = max(((s, e) for (c, e), s in edits.items() if c == crate), default=None)
+        slow = named(slowest[1], slowest[0]) if slowest else ""
+        print(f"| `{crate}` | {' | '.join(minutes(row[it]) for it in KINDS)} | {begun} | {slow} |")
     sums = [sum(row[it] for row in crates.values()) for it in KINDS]
-    print(f"| All, in minutes of processor | {' | '.join(map(minutes, sums))} | |")
+    print(f"| All, in minutes of processor | {' | '.join(map(minutes, sums))} | | |")
     rest = minutes(total - sum(sums))
     print(f"\nSum: {minutes(total)} minutes, {rest} of them for the rest (`rt` itself, linking, running).")
-    slow = sorted(((s, c, e) for (c, e), s in edits.items() if s > 30 and e != "(unchanged)"), reverse=True)
+    slow = sorted(((s, c, e) for (c, e), s in edits.items() if s > 30), reverse=True)
     print("\nEdits past 30 s:", ", ".join(f"{c}/{e} {s:.0f} s" for s, c, e in slow) or "none")
 
 

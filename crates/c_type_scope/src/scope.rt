@@ -4,6 +4,7 @@ ghost use Rattle.std.specs.Prelude.{◌≡◌, reverse, IfOk, OnOk};
 ghost use Rattle.std.specs.Option.{option_copied};
 ghost use Rattle.c_says.specs.Scopes as spec;
 
+use crate::copies::copied_tables;
 use crate::names::Named;
 use c_lexer::Name;
 use c_says::{Entry, Linked, Tag};
@@ -120,6 +121,25 @@ fn innermost_of<'a>(file: &'a Block, blocks: &'a [Block]) -> &'a Block
     }
 }
 
+fn copied_blocks(alloc: Global, blocks: &[Block]) -> Result<Vec<Block>, AllocError>
+    ensures { IfOk result (λ copy. copy.items ≡ blocks.now) }
+{
+    let mut copy = Vec::new(alloc);
+    for block in blocks {
+        copy.push(block.duplicate(alloc)?)?;
+    }
+    Ok(copy)
+}
+
+fn copied_name(name: &Option<Name>) -> Result<Option<Name>, AllocError>
+    ensures { IfOk result (λ copy. copy ≡ name.now) }
+{
+    match name {
+        Some(name) => Ok(Some(name.clone()?)),
+        None => Ok(None),
+    }
+}
+
 /// The names in force, and the tables of types, which stay when a block is left.
 #[derive(Drop)]
 pub struct Scope {
@@ -157,6 +177,21 @@ impl Scope {
                 signatures: Items::new(alloc),
             },
         }
+    }
+
+    /// The same names and tables, whose entries are shared. It fails for want of memory alone.
+    pub fn duplicate(&self) -> Result<Scope, AllocError>
+        ensures { IfOk result (λ copy. copy ≡ self.now) }
+    {
+        let alloc = self.alloc;
+        Ok(Scope {
+            alloc,
+            file: self.file.duplicate(alloc)?,
+            blocks: copied_blocks(alloc, &self.blocks)?,
+            linked: self.linked.duplicate(alloc)?,
+            function: copied_name(&self.function)?,
+            tables: copied_tables(alloc, &self.tables)?,
+        })
     }
 
     /// The structures and unions, enumerated types and signatures so far.

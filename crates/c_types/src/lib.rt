@@ -4,17 +4,16 @@
 mod constants;
 mod conversions;
 mod faults;
+mod scope;
 mod sizes;
 
-pub use c_declarations::{
-    DeclarationSaid, FunctionSaid, declaration_says as declare, function_says, tentative_type,
-};
+pub use c_declarations::{DeclarationSaid, FunctionSaid, tentative_type};
 pub use c_initials::{Filling, Frame, Frames, Part, filling_of};
 pub use c_says::{
     Argument, Called, Duration, Entry, Fault, LayoutRule, Linkage, Linked, Means, Rule, Shown, Tag,
     TagMeans, Told,
 };
-pub use c_type_scope::{Block, Scope};
+pub use c_type_scope::{Block, Scope as Names};
 pub use c_type_terms::{
     Aggregate, AggregateForm, Base, CType, Class, Content, Derivation, Domain, Enumeration,
     FloatingKind, IntegerKind, Layout, Member, OBJECT_LIMIT, OpaqueCause, Prototype, Qualifiers,
@@ -24,4 +23,5 @@ pub use c_typing::typed;
 pub use constants::{const_value, layout};
 pub use conversions::{promote, usual};
 pub use faults::TypeFault;
+pub use scope::Scope;
 pub use sizes::{align_of, offset_of, size_of};

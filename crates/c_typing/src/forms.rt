@@ -22,12 +22,7 @@ pub fn character_constant(alloc: Global, at: u32, value: &i32) -> Result<Told, A
 }
 
 /// A name, by its declaration in force. It fails for want of memory alone.
-pub fn identifier(
-    alloc: Global,
-    scope: &Scope,
-    at: u32,
-    name: &Name,
-) -> Result<Told, AllocError>
+pub fn identifier(alloc: Global, scope: &Scope, at: u32, name: &Name) -> Result<Told, AllocError>
     ensures { IfOk result (λ x. x ≡ spec.named_told at (scopes.look_up scope.now name.now)) }
 {
     forms::identifier(alloc, at, scope.look_up(name.get().as_slice()))
@@ -204,13 +199,7 @@ pub fn assignment(
 }
 
 /// The comma operator over operands as they stand. It fails for want of memory alone.
-pub fn comma(
-    alloc: Global,
-    scope: &Scope,
-    at: u32,
-    x: Told,
-    y: Told,
-) -> Result<Told, AllocError>
+pub fn comma(alloc: Global, scope: &Scope, at: u32, x: Told, y: Told) -> Result<Told, AllocError>
     ensures { IfOk result (λ z. spec.typed_in z scope.now ≡ spec.comma at (spec.typed_in x scope.now) (spec.typed_in y scope.now)) }
 {
     let y = forms::used(alloc, scope.tables(), y)?;

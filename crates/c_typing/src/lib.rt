@@ -10,7 +10,7 @@ mod trees;
 pub use arguments::{Arguments, and_argument, no_arguments};
 pub use forms::{
     arrow, assignment, binary, call, cast, character_constant, choice, comma, function_name,
-    identifier, member, postfix, size_of_expression, size_of_type, string_literal, subscript, unary,
-    value,
+    identifier, member, postfix, size_of_expression, size_of_type, string_literal, subscript,
+    unary, value,
 };
 pub use trees::{declarator, specifiers, type_name, typed};

@@ -197,7 +197,7 @@ module _ (at : ℕ) (f : Part) (ps : List Part) (s : Scope) (fs : Shown) (e : En
       let g = site f.typed.at e said_ passed_ l in
       let next = base + all_rooms passed_ l in
       let k : List ℤ × State → Outcome ℤ =
-          λ vs. made g vs.0 l env next vs.1 >>= (λ v. answer_as used g.at g.ctype v.0 v.1) in
+      λ vs. made g vs.0 l env next vs.1 >>= (λ v. answer_as used g.at g.ctype v.0 v.1) in
       ap (λ o. o >>= (λ vs. made g (all_converted g.types vs.0) l env next vs.1
       >>= (λ v. answer_as used g.at g.ctype v.0 v.1))) (behind_raw [] ps l env base d)
       ∙ in_order g used next l env (raw ps l env base d)

@@ -24,9 +24,9 @@ pub compound_is : (at : ℕ) (op : BinaryOperator) (p : Part) (f : Scope → Par
     ≡ put_operated t.tables at op x.told (type_in before.shown) (type_in y.told.shown) x.rooted a v w d3
 compound_is at op p f l env base s t x before y a v w d d1 d2 d3 tells is used reach loads runs =
     let loaded : load p.typed p.rooted a d1 ≡ Ok (v, d2) =
-        rw (sym (ap (λ t. t.shown) tells.told), sym (ap (λ t. t.at) tells.told), sym tells.rooted, sym tells.after) loads in
+    rw (sym (ap (λ t. t.shown) tells.told), sym (ap (λ t. t.at) tells.told), sym tells.rooted, sym tells.after) loads in
     let run : (f p.typed.after).run l env (base + p.room l) d2 ≡ Ok (w, d3) =
-        rw (sym tells.after, sym tells.next) runs in
+    rw (sym tells.after, sym tells.next) runs in
     rw (reach, loaded, run, is, used.told, used.after, tells.rooted, tells.told, tells.after) refl
 
 pub compound_tells : (at : ℕ) (op : BinaryOperator) (p : Part) (f : Scope → Part) (l : Level) (base : ℕ)

@@ -150,7 +150,10 @@ impl<
             Some((first, rest)) => {
                 let Found { facts, value } = self.value(first.get(), true, scope, given.next, m)?;
                 let Facts {
-                    told, text, next, ..
+                    told,
+                    text,
+                    next,
+                    ..
                 } = facts;
                 let told = forms::used(self.alloc, scope.tables(), told)?;
                 let given = given.and(self.alloc, told, text, next)?;
@@ -196,12 +199,7 @@ pub fn callee_of(alloc: Global, e: &Expr, scope: &mut Scope) -> Result<Option<Ca
 }
 
 /// The value of a call, where it is used or not (C99 6.9.1p12).
-fn answered(
-    site: &Site,
-    is_used: bool,
-    answer: Option<i128>,
-    m: &mut Machine,
-) -> Result<i128, Halt>
+fn answered(site: &Site, is_used: bool, answer: Option<i128>, m: &mut Machine) -> Result<i128, Halt>
     ensures world { m.new.world ≡ m.old.world }
     ensures runs { Runs result (state m.new) (args.answer_as is_used site.now.at site.now.ctype answer (state m.old)) }
 {
@@ -307,10 +305,17 @@ impl<
             faults,
         } = callee;
         let none = Given::new(self.alloc, faults, base);
-        let Passed { given, values } =
-            self.arguments(arguments, none, Items::new(self.alloc), scope, m)?;
+        let Passed { given, values } = self.arguments(
+            arguments,
+            none,
+            Items::new(self.alloc),
+            scope,
+            m,
+        )?;
         let next = given.next;
-        let Called { told, site } = call_behind(self.alloc, scope, at, name, function, entry, given)?;
+        let Called { told, site } = call_behind(
+            self.alloc, scope, at, name, function, entry, given,
+        )?;
         let answer = self.made(make, &site, scope, values.as_slice(), next, m)?;
         let number = answered(&site, is_used, answer, m)?;
         let facts = call_facts(self.alloc, self.context, told, &site, scope, next)?;

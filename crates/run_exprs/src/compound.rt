@@ -49,8 +49,11 @@ fn operated(
         (type_in target.used.shown) (type_in right.told.shown) target.rooted target.address
         (worth before) (worth right.value) (state m.old)) }
     ensures facts { IfOk result (λ x. x.facts ≡ record {
-        told = node_over_two at target.told.shown right.told.shown (assignment_judged scope.now.tables (Some operator)) (target.told.faults ++ right.told.faults);
-        rooted = false; text = None; next = right.next }) }
+      told = node_over_two at target.told.shown right.told.shown (assignment_judged scope.now.tables (Some operator)) (target.told.faults ++ right.told.faults);
+      rooted = false;
+      text = None;
+      next = right.next;
+    }) }
 {
     let Used {
         told: right,

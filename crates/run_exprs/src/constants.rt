@@ -14,12 +14,7 @@ use c_type_forms::{character_constant, floating_constant, integer_constant};
 use std::alloc::Global;
 
 /// An integer constant (C99 6.4.4.1).
-pub fn integer(
-    alloc: Global,
-    at: u32,
-    constant: &IntegerConstant,
-    base: u64,
-) -> Result<Found, Halt>
+pub fn integer(alloc: Global, at: u32, constant: &IntegerConstant, base: u64) -> Result<Found, Halt>
     ensures runs { (s : Scope) (l : Level) (env : Env) (d : State) → RunsTo (λ x. worth x.value) result d ((form.integer_constant at constant.now s).run l env base d) }
     ensures facts { (s : Scope) (l : Level) → IfOk result (λ x. Tells l base s x.facts (form.integer_constant at constant.now s)) }
 {

@@ -1,0 +1,2 @@
+pub mod SameAsDefined
+pub mod Stacks

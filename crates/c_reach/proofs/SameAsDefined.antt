@@ -1,0 +1,150 @@
+-- The functions that are found over summaries are those that `c_runs` reaches.
+use Rattle.std.proofs.Common.{◌≡◌, ℕ, zero, suc, ◌+◌, Bool, true, false, cond, ◌||◌, nat_eq, List, [], ◌∷◌, ◌++◌, length}
+use Rattle.std.proofs.Common.{reverse, map, Option, Some, None, refl, sym, ap, ◌∙◌, arith}
+use Rattle.std.specs.Prelude.{option_map, is_some}
+use Rattle.std.specs.Str.{bytes_eq}
+use Rattle.std.proofs.lemmas.List.{append-nil, reverse-append}
+use Rattle.c_says.specs.Scopes.{Name, last_where}
+use Rattle.c_means.specs.Parts.{Level}
+use Rattle.c_runs.specs.declared.profile.Profile.{Profile}
+use Rattle.c_runs.specs.Programs.{Function, Program, functions_of, function_named, main'}
+use Rattle.c_runs.specs.Programs as programs
+use Rattle.c_runs.specs.Rules.{log_of, identity_index}
+use Rattle.c_reach.specs.declared.search.Reaching.{Reaching}
+use Rattle.c_reach.specs.declared.summaries.FunctionNotes.{FunctionNotes}
+use Rattle.c_reach.specs.Summaries.{function_notes}
+use Rattle.c_reach.specs.Reaching as spec
+
+-- ---- order
+
+pub reverse_cons : {A : Type 0} (xs : List A) (x : A) → reverse (x ∷ xs) ≡ reverse xs ++ x ∷ []
+reverse_cons xs x = reverse-append (x ∷ []) xs
+
+exchanged : (a b c : Bool) → (a || (b || c)) ≡ (b || (a || c))
+exchanged true true c = refl
+exchanged true false c = refl
+exchanged false true c = refl
+exchanged false false c = refl
+
+or_last : (n : ℕ) (xs : List FunctionNotes) (f : FunctionNotes) → spec.has_at n (xs ++ f ∷ [])
+    ≡ (nat_eq n f.at || spec.has_at n xs)
+or_last n [] f = refl
+or_last n (x ∷ xs) f =
+    ap (λ b. nat_eq n x.at || b) (or_last n xs f) ∙ exchanged (nat_eq n x.at) (nat_eq n f.at) (spec.has_at n xs)
+
+turned : (n : ℕ) (xs : List FunctionNotes) → spec.has_at n (reverse xs) ≡ spec.has_at n xs
+turned n [] = refl
+turned n (x ∷ xs) =
+    ap (spec.has_at n) (reverse_cons xs x) ∙ or_last n (reverse xs) x ∙ ap (λ b. nat_eq n x.at || b) (turned n xs)
+
+pub has_reversed : (n : ℕ) (xs ys : List FunctionNotes) → ys ≡ reverse xs → spec.has_at n xs ≡ spec.has_at n ys
+has_reversed n xs ys is = sym (turned n xs) ∙ ap (spec.has_at n) (sym is)
+
+-- ---- the first function of a name
+
+last_is : {A : Type 0} (f : A → Bool) (best : Option A) (xs : List A) (x : A) →
+    last_where f best (xs ++ x ∷ []) ≡ cond (f x) (Some x) (last_where f best xs)
+last_is f best [] x = refl
+last_is f best (y ∷ ys) x = last_is f (cond (f y) (Some y) best) ys x
+
+abbrev notes : Profile → Level → Function → FunctionNotes
+notes = function_notes
+
+chosen : (p : Profile) (l : Level) (b : Bool) (f : Function) (x : Option Function) →
+    cond b (Some (notes p l f)) (option_map (notes p l) x) ≡ option_map (notes p l) (cond b (Some f) x)
+chosen p l true f x = refl
+chosen p l false f x = refl
+
+pub named_is : (p : Profile) (l : Level) (fs : List Function) (name : Name) →
+    spec.named_in (reverse (map (notes p l) fs)) name ≡ option_map (notes p l) (function_named fs name)
+named_is p l [] name = refl
+named_is p l (f ∷ fs) name =
+    ap (λ (gs : List FunctionNotes). spec.named_in gs name) (reverse_cons (map (notes p l) fs) (notes p l f))
+    ∙ last_is (λ g. bytes_eq g.name name) None (reverse (map (notes p l) fs)) (notes p l f)
+    ∙ ap (cond (bytes_eq f.name name) (Some (notes p l f))) (named_is p l fs name)
+    ∙ chosen p l (bytes_eq f.name name) f (function_named fs name)
+
+runs_by : (p : Profile) (l : Level) (b : Bool) (x : Option Function) →
+    cond b None (option_map (notes p l) x) ≡ option_map (notes p l) (cond b None x)
+runs_by p l true x = refl
+runs_by p l false x = refl
+
+runs_is : (p : Profile) (l : Level) (fs : List Function) (name : Name) →
+    spec.run_body p (reverse (map (notes p l) fs)) name ≡ option_map (notes p l) (programs.run_body p fs name)
+runs_is p l fs name =
+    let b = is_some (log_of p name) || is_some (identity_index p name) in
+    ap (cond b None) (named_is p l fs name) ∙ runs_by p l b (function_named fs name)
+
+has_is : (p : Profile) (l : Level) (f : Function) (found : List Function) →
+    spec.has_at f.at (map (notes p l) found) ≡ programs.has_function f found
+has_is p l f [] = refl
+has_is p l f (g ∷ gs) = ap (λ b. nat_eq f.at g.at || b) (has_is p l f gs)
+
+-- ---- the search
+
+stays : (p : Profile) (fs : List FunctionNotes) (n : ℕ) (found : List FunctionNotes) →
+    (spec.steps p fs n (record { todo = []; found = found })).found ≡ found
+stays p fs zero found = refl
+stays p fs (suc n) found = stays p fs n found
+
+abbrev at_names : Profile → Level → List Name → List Function → Reaching
+at_names p l todo found = record { todo = todo; found = map (notes p l) found }
+
+gone : (p : Profile) (l : Level) (todo : List Name) (found : List Function) (f : Function) (b : Bool) →
+    programs.has_function f found ≡ b →
+    cond b (at_names p l todo found)
+    (record { todo = f.body.called ++ todo; found = notes p l f ∷ map (notes p l) found })
+    ≡ at_names p l (programs.called_by (cond b [] (f ∷ [])) ++ todo) (cond b [] (f ∷ []) ++ found)
+gone p l todo found f true is = refl
+gone p l todo found f false is =
+    ap (λ (names : List Name). record { todo = names ++ todo; found = notes p l f ∷ map (notes p l) found })
+    (sym (append-nil f.body.called))
+
+went : (p : Profile) (l : Level) (todo : List Name) (found : List Function) (x : Option Function) →
+    spec.gone_on (option_map (notes p l) x) (at_names p l todo found)
+    ≡ at_names p l (programs.called_by (programs.newly found x) ++ todo) (programs.newly found x ++ found)
+went p l todo found None = refl
+went p l todo found (Some f) =
+    ap (λ b. cond b (at_names p l todo found)
+    (record { todo = f.body.called ++ todo; found = notes p l f ∷ map (notes p l) found })) (has_is p l f found)
+    ∙ gone p l todo found f (programs.has_function f found) refl
+
+pub reach_is : (p : Profile) (l : Level) (fs : List Function) (n : ℕ) (todo : List Name) (found : List Function) →
+    (spec.steps p (reverse (map (notes p l) fs)) n (at_names p l todo found)).found
+    ≡ map (notes p l) (programs.reach n p fs todo found)
+reach_is p l fs zero todo found = refl
+reach_is p l fs (suc n) [] found = stays p (reverse (map (notes p l) fs)) n (map (notes p l) found)
+reach_is p l fs (suc n) (name ∷ todo) found =
+    let new = programs.newly found (programs.run_body p fs name) in
+    ap (λ (z : Reaching). (spec.steps p (reverse (map (notes p l) fs)) n z).found)
+    (ap (λ (x : Option FunctionNotes). spec.gone_on x (at_names p l todo found)) (runs_is p l fs name)
+    ∙ went p l todo found (programs.run_body p fs name))
+    ∙ reach_is p l fs n (programs.called_by new ++ todo) (new ++ found)
+
+all_called_is : (p : Profile) (l : Level) (fs : List Function) →
+    spec.all_called (map (notes p l) fs) ≡ programs.all_called fs
+all_called_is p l [] = refl
+all_called_is p l (f ∷ fs) = ap (λ n. length f.body.called + n) (all_called_is p l fs)
+
+-- the functions that are found are those that are reached
+pub reached_is : (p : Profile) (l : Level) (program : Program) →
+    spec.reached p (reverse (map (notes p l) (functions_of program))) (map (notes p l) (functions_of program))
+    ≡ map (notes p l) (programs.reached p program)
+reached_is p l program =
+    let fs = functions_of program in
+    ap (λ n. (spec.steps p (reverse (map (notes p l) fs)) (suc (suc n)) spec.begun).found) (all_called_is p l fs)
+    ∙ reach_is p l fs (suc (suc (programs.all_called fs))) (main' ∷ []) []
+
+-- ---- steps one behind another
+
+zero_plus : (b : ℕ) → 0 + b ≡ b
+zero_plus b = omega arith
+
+suc_plus : (a b : ℕ) → suc a + b ≡ suc (a + b)
+suc_plus a b = omega arith
+
+pub steps_add : (p : Profile) (fs : List FunctionNotes) (a b : ℕ) (z : Reaching) →
+    spec.steps p fs (a + b) z ≡ spec.steps p fs b (spec.steps p fs a z)
+steps_add p fs zero b z = ap (λ n. spec.steps p fs n z) (zero_plus b)
+steps_add p fs (suc a) b z =
+    ap (λ n. spec.steps p fs n z) (suc_plus a b) ∙ steps_add p fs a b (spec.step p fs z)

@@ -1,0 +1,74 @@
+//! Answers what the declarations of a preprocessed source in standard input say of types, for comparison with tables
+//! and with a C compiler.
+//!
+//! - `types`: the names that are declared with their types, and the values of their initializers (`naming`).
+//! - `layouts`: the sizes and alignments of objects, the offsets and sizes of members, and values (`sizing`).
+//!
+//! In both, `fault AT RULE` stands for a broken rule at an offset in bytes.
+#![tactic(auto)]
+
+mod declaring;
+mod faults;
+mod naming;
+mod sizing;
+mod spelling;
+mod text;
+
+use anyhow::{Result, anyhow};
+use bit_words::Bytes;
+use c_lexer::{Tokens, lex};
+use c_parser::parse;
+use c_tree::Unit;
+use declaring::{Answer, put_unit};
+use std::alloc::Global;
+use std::env;
+use std::io::{self, Read, Write};
+
+/// The most bytes that a source may have.
+const LONGEST: usize = 8_388_608;
+
+/// What a word asks of each declaration.
+fn answer_named(word: &str) -> Option<Answer> {
+    match word {
+        "types" => Some(Answer::Types),
+        "layouts" => Some(Answer::Layouts),
+        _ => None,
+    }
+}
+
+/// The tokens of a source.
+fn tokens_of(alloc: Global, source: &[u8]) -> Result<Tokens> {
+    if LONGEST < source.len() {
+        return Err(anyhow!("the source is too long"));
+    }
+    Ok(lex(alloc, "source", source)?)
+}
+
+/// The unit of a source.
+fn unit_of(alloc: Global, source: &[u8]) -> Result<Unit> {
+    let tokens = tokens_of(alloc, source)?;
+    Ok(parse(alloc, &tokens)?)
+}
+
+/// Prints what is answered of a unit.
+fn print_answer(rt: &(impl Print + AllocGlobal), answer: Answer, unit: &Unit) -> Result<()> {
+    let mut text = Bytes::new(rt.alloc());
+    put_unit(rt.alloc(), answer, unit.externals.as_slice(), &mut text)?;
+    io::writer(rt).write_all(text.as_slice())?;
+    Ok(())
+}
+
+/// Answers the source in standard input.
+fn run(rt: &HostRuntime, word: &str) -> Result<()> {
+    let answer = answer_named(word).ok_or(anyhow!("no such word"))?;
+    let mut source = Vec::new(rt.alloc());
+    rt.reader().read_to_end(&mut source)?;
+    let unit = unit_of(rt.alloc(), source.as_slice())?;
+    print_answer(rt, answer, &unit)
+}
+
+fn main(rt: HostRuntime) -> Result<()> {
+    let mut words = env::args(&rt)?.skip(1);
+    let word = words.next().ok_or(anyhow!("no word"))?;
+    run(&rt, &word)
+}
