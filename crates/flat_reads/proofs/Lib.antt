@@ -1,0 +1,6 @@
+pub mod FlatLemmas
+pub mod PartLemmas
+pub mod ChoiceLemmas
+pub mod AnswerLemmas
+pub mod WordLemmas
+pub mod FlattenLemmas

@@ -1,0 +1,14 @@
+//! Reads of memory taken away: each byte becomes a choice among words that were written and bytes of the initial
+//! memory.
+#![tactic(auto)]
+
+mod answers;
+mod choices;
+mod flatten;
+mod parts;
+mod words;
+
+pub use flatten::flat_roots;
+
+#[cfg(test)]
+mod tests;
