@@ -6,9 +6,9 @@ mod answers;
 mod choices;
 mod flatten;
 mod parts;
+mod table;
 mod words;
 
 pub use flatten::flat_roots;
+pub use table::{Flat, Row};
 
-#[cfg(test)]
-mod tests;
