@@ -7,11 +7,12 @@ use Rattle.term_bank.specs.declared.shape.Shape.{Shape}
 use Rattle.term_bank.specs.declared.shape.Shape.TheVariants.{Flag, Constant, Parameter, Base, Entry, Initial, WorldWord, InitialByte, Binary, Test, Convert, Not, Connect, Choose, Write, ZeroRange, CopyRange, Made, Ended, Read, ObjectSize, IsLive, HasKind}
 use Rattle.term_bank.specs.Shapes.{Each, parts}
 use Rattle.term_bank.specs.Values.{Grows}
-use Rattle.term_bank.specs.Under.{Among, IsHeld, StandsOver, OnlyAt, Only, IsOnly}
+use Rattle.term_bank.specs.Under.{Among, IsHeld, StandsOver, OnlyAt, Only, IsOnly, IsBelow}
 use Rattle.term_bank.proofs.Worth.{each}
 use Rattle.term_bank.proofs.BankLemmas.{grows_on}
 use Rattle.term_bank.proofs.OverLemmas.{only_at, only_grown}
 use Rattle.flat_reads.specs.declared.table.Row.{Row}
+use Rattle.flat_reads.specs.Flats.{IsFlatOver, is_flat}
 use Rattle.flat_reads.specs.Tables.{Lists, has_row, is_listed}
 
 -- what stands under a node has a property that follows from one that it has
@@ -83,6 +84,12 @@ listed_here a b old new k s g lists is below = only_at (is_listed new) b k s (g.
 pub held_grown : (a b : List Shape) (P : ℕ → Type 0) (ns : List ℕ) → Grows a b → IsHeld a P ns → IsHeld b P ns
 held_grown a b P [] g h = tt
 held_grown a b P (n ∷ ns) g h = (record { shape = h.0.shape; is = g.kept n h.0.shape h.0.is; parts_in = h.0.parts_in }, held_grown a b P ns g h.1)
+
+pub below_grown : (a b : List Shape) (roots : List Node) (n : ℕ) → Grows a b → IsBelow a roots n → IsBelow b roots n
+below_grown a b roots n g h = record { below = λ l k q x. h.below l (grows_on g k) q x }
+
+pub below_flat : (shapes : List Shape) (roots : List Node) (n : ℕ) → IsBelow shapes roots n → IsFlatOver shapes roots n
+below_flat shapes roots n h = record { flat = λ b g q x. h.below b g (is_flat q) x }
 
 or_first : (a b : Bool) → a ≡ true → (a || b) ≡ true
 or_first true b h = refl

@@ -15,6 +15,7 @@ use Rattle.term_bank.specs.Shapes.{Each, IsNode, IsWell, sort_of, word}
 use Rattle.term_bank.specs.Values.{Environment, Worth, Values, Models, Grows, IsWorth, of_truth, outcome_of}
 use Rattle.term_bank.specs.Under.{IsOver}
 use Rattle.term_bank.specs.Terms.{IsTerm}
+use Rattle.term_bank.specs.Images.{AreImages}
 use Rattle.term_bank.specs.Banks.{IsBank}
 use Rattle.term_bank.proofs.Worth.{each}
 use Rattle.term_bank.proofs.BankLemmas.{weaken, grows_on, node_at}
@@ -22,6 +23,7 @@ use Rattle.term_bank.proofs.OverLemmas.{only_below}
 use Rattle.term_bank.proofs.TermLemmas.{part_of, term_of, term_grown}
 use Rattle.flat_reads.specs.declared.table.Row.{Row}
 use Rattle.flat_reads.specs.Flats.{IsHonest, IsFlatOver, is_flat}
+use Rattle.flat_reads.specs.Flattened.{HasFlat}
 use Rattle.flat_reads.specs.Tables.{Stands, IsRow, IsAgreement, AreTrue, IsConstraint, IsAgreed, IsTable}
 use Rattle.flat_reads.proofs.FlatLemmas.{flat_first, flat_second, flat_grown, flat_over, flat_through}
 
@@ -213,3 +215,26 @@ agreed_next l b table row other i now c g at is all j x less here = split (nat_e
       let index : j ≡ i = same_number j i same in
       subst (λ y. IsAgreed b (now ++ c ∷ []) y row) (one other x (sym at ∙ ap (slice_get table) (sym index) ∙ here)) (agreed_here b now c other row is)
   split false other_place = agreed_more l b now c x row g (all j x (before j i less other_place) here)
+
+-- ---- the loop over the nodes
+
+pub no_rows : (shapes : List Shape) (ps : List Node) (table : List Row) (cs : List Node) → table ≡ [] → cs ≡ [] → IsTable shapes ps table cs
+no_rows shapes ps table cs none_yet no_constraints = record {
+  rows = λ i x at. absurd (nothing i x (subst (λ (xs : List Row). slice_get xs i ≡ Some x) none_yet at));
+  constraints_are = subst (Each (IsConstraint shapes ps)) (sym no_constraints) tt;
+  agreed = λ i j x y less at here. absurd (nothing i x (subst (λ (xs : List Row). slice_get xs i ≡ Some x) none_yet at));
+} where
+  nothing : (i : ℕ) (x : Row) → slice_get [] i ≡ Some x → ⊥
+  nothing i x at = let less = place_below [] i x at in absurd (omega (arith, less))
+
+pub images_less : (P Q : ℕ → Node → Type 0) → ((n : ℕ) (x : Node) → P n x → Q n x) → (rs ns : List Node) → AreImages P rs ns → AreImages Q rs ns
+images_less P Q f [] [] h = tt
+images_less P Q f [] (n ∷ ns) h = absurd h
+images_less P Q f (r ∷ rs) [] h = absurd h
+images_less P Q f (r ∷ rs) (n ∷ ns) h = (f r.index n h.0, images_less P Q f rs ns h.1)
+
+pub images_stand : (shapes : List Shape) (rs ns : List Node) → AreImages (HasFlat shapes) rs ns → Each (IsNode shapes) ns
+images_stand shapes [] [] h = tt
+images_stand shapes [] (n ∷ ns) h = absurd h
+images_stand shapes (r ∷ rs) [] h = absurd h
+images_stand shapes (r ∷ rs) (n ∷ ns) h = (h.0.stands, images_stand shapes rs ns h.1)

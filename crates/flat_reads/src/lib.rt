@@ -1,5 +1,5 @@
 //! Reads of memory taken away: each byte becomes a choice among words that were written and bytes of the initial
-//! memory.
+//! memory, which stand in a table with constraints on equal addresses.
 #![tactic(auto)]
 
 mod answers;
@@ -10,5 +10,4 @@ mod table;
 mod words;
 
 pub use flatten::flat_roots;
-pub use table::{Flat, Row};
-
+pub use table::{Flat, Row, flatten_reads};

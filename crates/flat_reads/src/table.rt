@@ -3,7 +3,8 @@ ghost use Rattle.term_bank.specs.Banks.{IsBank};
 ghost use Rattle.term_bank.specs.Shapes.{Each, IsNode};
 ghost use Rattle.term_bank.specs.Values.{Grows};
 ghost use Rattle.flat_reads.specs.Flats.{IsFlatOver};
-ghost use Rattle.flat_reads.specs.Tables.{IsAgreement, IsFlat, IsRow, Lists, IsTable, Stands};
+ghost use Rattle.flat_reads.specs.Tables.{IsAgreement, IsFlat, IsRow, Lists, IsTable, Stands, is_listed};
+ghost use Rattle.term_bank.specs.Under.{IsOnly};
 
 use crate::flatten::flat_roots;
 use bit_words::Width;
@@ -110,4 +111,48 @@ fn add_row(
         table.push(row)?;
     }
     Ok(())
+}
+
+/// Puts all bytes of the initial memory that stand under nodes into the table.
+fn add_rows(
+    alloc: Global,
+    bank: &mut Bank,
+    nodes: &[Node],
+    table: &mut Items<Row>,
+    constraints: &mut Items<Node>,
+) -> Result<(), BankFault>
+    requires bank { IsBank bank.old }
+    requires nodes { Each (IsNode bank.old) nodes.now }
+    requires table { IsTable bank.old nodes.now table.old constraints.old }
+    ensures table { OnOk result (IsTable bank.new nodes.now table.new constraints.new) }
+    ensures listed { OnOk result (Each (λ n. IsOnly (is_listed table.new) bank.new n.index) nodes.now) }
+    ensures grows { Grows bank.old bank.new }
+    ensures bank { IsBank bank.new }
+{
+    let mut numbers = nodes_under(alloc, bank, nodes)?;
+    'rows: while let Some(number) = numbers.pop() {
+        add_row(bank, number, table, constraints)?;
+    }
+    Ok(())
+}
+
+/// Terms without reads but of the entry memory: each byte that is read is a choice among those that were written and
+/// bytes of the initial memory, which stand in a table. The time is that of the nodes under the roots and of the bytes
+/// that are asked of their memories; each two rows take a constraint.
+pub fn flatten_reads(alloc: Global, bank: &mut Bank, roots: &[Node]) -> Result<Flat, BankFault>
+    requires bank { IsBank bank.old }
+    requires roots { Each (IsNode bank.old) roots.now }
+    ensures flat { IfOk result (IsFlat bank.new roots.now) }
+    ensures grows { Grows bank.old bank.new }
+    ensures bank { IsBank bank.new }
+{
+    let flat = flat_roots(alloc, bank, roots)?;
+    let mut table = Items::new(alloc);
+    let mut constraints = Items::new(alloc);
+    add_rows(alloc, bank, flat.as_slice(), &mut table, &mut constraints)?;
+    Ok(Flat {
+        roots: flat,
+        table,
+        constraints,
+    })
 }
