@@ -1,5 +1,5 @@
 -- The bytes of the initial memory that stand under nodes are the table's.
-use Rattle.std.proofs.Common.{◌≡◌, ◌++◌, ◌∷◌, [], ◌⊎◌, ℕ, zero, suc, List, Some, Bool, true, false, arith, inl, inr, refl, sym, ap, subst, ◌∙◌, cond, nat_eq}
+use Rattle.std.proofs.Common.{◌≡◌, ◌++◌, ◌∷◌, [], ℕ, zero, suc, List, Some, Bool, true, false, arith, refl, sym, ap, subst, ◌∙◌, nat_eq}
 use Rattle.std.specs.Prelude.{slice_get, ◌&&◌, ◌||◌}
 use Rattle.std.proofs.lemmas.Bool.Decides.{nat_tests}
 use Rattle.term_bank.specs.declared.sort.Node.{Node}
@@ -7,7 +7,7 @@ use Rattle.term_bank.specs.declared.shape.Shape.{Shape}
 use Rattle.term_bank.specs.declared.shape.Shape.TheVariants.{Flag, Constant, Parameter, Base, Entry, Initial, WorldWord, InitialByte, Binary, Test, Convert, Not, Connect, Choose, Write, ZeroRange, CopyRange, Made, Ended, Read, ObjectSize, IsLive, HasKind}
 use Rattle.term_bank.specs.Shapes.{Each, parts}
 use Rattle.term_bank.specs.Values.{Grows}
-use Rattle.term_bank.specs.Under.{Among, IsHeld, StandsOver, OnlyAt, Only, IsOnly, IsBelow}
+use Rattle.term_bank.specs.Under.{IsHeld, Only, IsOnly, IsBelow}
 use Rattle.term_bank.proofs.Worth.{each}
 use Rattle.term_bank.proofs.BankLemmas.{grows_on}
 use Rattle.term_bank.proofs.OverLemmas.{only_at, only_grown}

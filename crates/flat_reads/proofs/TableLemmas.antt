@@ -1,5 +1,5 @@
 -- Rows of initial bytes, and the constraints on them.
-use Rattle.std.proofs.Common.{◌≡◌, ◌<◌, ◌%◌, ◌^◌, ◌++◌, ◌∷◌, [], ◌⊎◌, ℕ, zero, suc, List, Some, None, Bool, true, false, length, arith, inl, inr, refl, sym, ap, subst, ◌∙◌, cond, nat_eq}
+use Rattle.std.proofs.Common.{◌≡◌, ◌<◌, ◌%◌, ◌^◌, ◌++◌, ◌∷◌, [], ◌⊎◌, ℕ, zero, suc, List, Some, Bool, true, false, length, arith, inl, inr, refl, sym, ap, subst, ◌∙◌, cond, nat_eq}
 use Rattle.std.specs.Prelude.{slice_get, Result, Ok, Err, IfOk}
 use Rattle.std.proofs.lemmas.Bool.Decides.{nat_tests}
 use Rattle.bit_words.specs.Words.{bits}
@@ -83,10 +83,10 @@ agreement_of a b c shapes one other same bytes last_node node g k l one_stands o
           (j.value.is e v (weaken l m)));
       flat = flat_over shapes ps (choice_of same bytes last_node) node last.over (record { plain = λ q. refl }) (
         flat_grown a shapes ps same.index all (flat_over a ps (Test test.Equal W64 one.address other.address) same h.over (record { plain = λ q. refl })
-        (address_flat a ps one one_stands first_flat, (address_flat a ps other other_stands second_flat, tt))),
+            (address_flat a ps one one_stands first_flat, (address_flat a ps other other_stands second_flat, tt))),
         (
           flat_grown b shapes ps bytes.index (grows_on k l) (flat_over b ps (Test test.Equal W8 one.byte other.byte) bytes i.over (record { plain = λ q. refl })
-          (flat_first b (word W8 one.byte) (word W8 other.byte ∷ []), (flat_second b (word W8 one.byte) (word W8 other.byte) [], tt))),
+              (flat_first b (word W8 one.byte) (word W8 other.byte ∷ []), (flat_second b (word W8 one.byte) (word W8 other.byte) [], tt))),
           (flat_grown c shapes ps last_node.index l (flat_over c ps (Flag true) last_node j.over (record { plain = λ q. refl }) tt), tt),
         ),
       );

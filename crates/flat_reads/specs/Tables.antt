@@ -6,7 +6,7 @@ use Rattle.term_bank.specs.declared.sort.Node.{Node}
 use Rattle.term_bank.specs.declared.shape.Shape.{Shape}
 use Rattle.term_bank.specs.declared.shape.Shape.TheVariants.{InitialByte}
 use Rattle.term_bank.specs.Shapes.{Each, word}
-use Rattle.term_bank.specs.Values.{Environment, Values, Models, Grows}
+use Rattle.term_bank.specs.Values.{Environment, Values, Models}
 use Rattle.term_bank.specs.Under.{IsOnly}
 use Rattle.term_bank.specs.Terms.{IsTerm}
 use Rattle.term_bank.specs.Images.{AreImages}

@@ -1,4 +1,4 @@
-use Rattle.std.proofs.Common.{◌∙◌, ◌⊎◌, ◌∷◌, [], ℕ, List, sym, subst, inl, inr}
+use Rattle.std.proofs.Common.{◌⊎◌, ◌∷◌, [], ℕ, List, subst, inl, inr}
 use Rattle.term_bank.specs.Under.{Among, IsHeld, IsOnly, IsBelow}
 use Rattle.term_bank.proofs.Worth.{each}
 use Rattle.term_bank.proofs.BankLemmas.{stays, grows_on}

@@ -1,5 +1,3 @@
-use Rattle.std.proofs.Common.{◌∷◌, []}
-use Rattle.bit_words.specs.declared.width.Width.TheVariants.{W8, W64}
 use Rattle.term_bank.specs.declared.shape.Shape.TheVariants.{InitialByte}
 use Rattle.term_bank.proofs.BankLemmas.{grows_on}
 use Rattle.flat_reads.proofs.TableLemmas.{byte_node, address_node, choice_well, agreement_made}

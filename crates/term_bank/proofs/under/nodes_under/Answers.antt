@@ -1,6 +1,6 @@
 use Rattle.std.proofs.Common.{◌≡◌, ◌<◌, ℕ, zero, suc, true, false, ◌⊎◌, inl, inr, arith, length}
 use Rattle.term_bank.specs.Shapes.{parts}
-use Rattle.term_bank.specs.Under.{Among, In, IsBelow, numbers_of}
+use Rattle.term_bank.specs.Under.{Among, In, numbers_of}
 use Rattle.term_bank.proofs.Worth.{each}
 use Rattle.term_bank.proofs.BankLemmas.{node_below, shape_at}
 use Rattle.term_bank.proofs.UnderLemmas.{none_in, each_among, among_has, more_inside, more_below, more_held, passed, are_more, held_for, limit_falls, below_root, below_pending, below_numbers}
