@@ -4,3 +4,5 @@ pub mod ChoiceLemmas
 pub mod AnswerLemmas
 pub mod WordLemmas
 pub mod FlattenLemmas
+pub mod TableLemmas
+pub mod ListLemmas

@@ -3,3 +3,4 @@ pub mod Parts
 pub mod Choices
 pub mod Answers
 pub mod Flattened
+pub mod Tables

@@ -1,13 +1,12 @@
 -- Nodes under which each has a property.
 use Rattle.std.proofs.Common.{◌≡◌, ◌+◌, ◌∷◌, [], ℕ, zero, suc, List, Some, Bool, true, refl, sym, ap, subst, ◌∙◌, arith}
 use Rattle.std.specs.Prelude.{slice_get}
-use Rattle.bit_words.specs.declared.width.Width.{Width}
 use Rattle.term_bank.specs.declared.sort.Node.{Node}
 use Rattle.term_bank.specs.declared.shape.Shape.{Shape}
 use Rattle.term_bank.specs.declared.shape.Shape.TheVariants.{Flag, Constant}
 use Rattle.term_bank.specs.Shapes.{Each, parts}
 use Rattle.term_bank.specs.Values.{Grows}
-use Rattle.term_bank.specs.Under.{OnlyAt, Only, IsOnly, IsOver}
+use Rattle.term_bank.specs.Under.{Only, IsOnly, IsOver}
 use Rattle.term_bank.specs.Folds.{IsFixed}
 use Rattle.term_bank.proofs.Worth.{each}
 

@@ -37,11 +37,6 @@ abbrev pub IsHeld : List Shape → (ℕ → Type 0) → List ℕ → Type 0
 IsHeld shapes P [] = Unit {0}
 IsHeld shapes P (n ∷ ns) = StandsOver shapes P n ns × IsHeld shapes P ns
 
--- the list has the roots, and behind each node its parts
-pub record IsCut (shapes : List Shape) (roots : List Node) (numbers : List ℕ) : Type 0 where
-  pub rooted : Each (λ r. Among r.index numbers) roots
-  pub held : IsHeld shapes (λ n. ⊥) numbers
-
 -- the node of this number has a shape with the property, and P holds of its parts
 pub record OnlyAt (q : Shape → Bool) (shapes : List Shape) (P : ℕ → Type 0) (n : ℕ) : Type 0 where
   pub shape : Shape
@@ -65,3 +60,13 @@ pub record IsOver (shapes : List Shape) (shape : Shape) (node : Node) : Type 0 w
 -- what stands under one node stands under another
 pub record IsUnder (shapes : List Shape) (other n : ℕ) : Type 0 where
   pub under : (b : List Shape) → Grows shapes b → (q : Shape → Bool) → IsOnly q b other → IsOnly q b n
+
+-- what holds of all that stands under some nodes holds of all that stands under the node of this number
+pub record IsBelow (shapes : List Shape) (roots : List Node) (n : ℕ) : Type 0 where
+  pub below : (b : List Shape) → Grows shapes b → (q : Shape → Bool) → Each (λ r. IsOnly q b r.index) roots → IsOnly q b n
+
+-- the list has the roots, behind each node its parts, and no node that isn't a root and doesn't stand under one
+pub record IsCut (shapes : List Shape) (roots : List Node) (numbers : List ℕ) : Type 0 where
+  pub rooted : Each (λ r. Among r.index numbers) roots
+  pub held : IsHeld shapes (λ n. ⊥) numbers
+  pub only : (n : ℕ) → Among n numbers → IsBelow shapes roots n
