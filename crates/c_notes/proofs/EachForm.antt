@@ -152,7 +152,7 @@ on-Parenthesized {p} {e} at inner s s1 z is h = record {
 member_core : (p : Profile) (l : Level) (at : ℕ) (name : Name) (x : Noted) →
     spec.member (m.member at name x.part).typed.shown (notes_of p l x)
     ≡ notes_of p l (n.placed_over x.notes.is_place (m.member at name x.part) (n.over x.notes))
-member_core p l at name x = by_kind (m.is_lvalue x.part.typed.shown)
+member_core p l at name x = by_kind x.part.is_place
   where
     by_kind : (b : Bool) →
         spec.member (m.member_by b (m.offset_of x.part.typed.after.tables (t.type_of x.part.typed) name)

@@ -18,6 +18,8 @@ use Rattle.term_bank.specs.Banks.{IsBank}
 use Rattle.term_bank.specs.Folds.{IsConstant}
 use Rattle.term_bank.proofs.BankLemmas.{weaken, stays}
 use Rattle.term_bank.proofs.BindingLemmas.{node_sorted}
+use Rattle.term_bank.specs.Under.{IsUnder}
+use Rattle.term_bank.proofs.OverLemmas.{only_below}
 use Rattle.bit_words.specs.Words.{bits}
 use Rattle.mem_terms.specs.Reads.{IsApart, AreApart, ReadsAlike, IsBefore}
 use Rattle.mem_terms.proofs.Space.{read_apart, read_written}
@@ -38,6 +40,7 @@ pub before_write : (shapes : List Shape) (n : ℕ) (address : Node) (now : ℕ) 
 before_write shapes n address now w old to x bank is apart =
     let parts = (bank.well now (Write w old to x) is).each_part in
     record {
+      under = record { under = λ b g q h. (only_below q b now (Write w old to x) (g.kept now (Write w old to x) is) h).1.0 };
       smaller = parts.0.before;
       stands = parts.0.stands;
       alike = record {
@@ -54,6 +57,7 @@ pub before_made : (shapes : List Shape) (n : ℕ) (address : Node) (now : ℕ) (
 before_made shapes n address now k old p z bank is =
     let parts = (bank.well now (Made k old p z) is).each_part in
     record {
+      under = record { under = λ b g q h. (only_below q b now (Made k old p z) (g.kept now (Made k old p z) is) h).1.0 };
       smaller = parts.0.before;
       stands = parts.0.stands;
       alike = record { alike = λ e v m. ap (λ (y : Worth). read n y.store (v address.index).word) (m.has now (Made k old p z) is) ∙ same_bytes n _ (v old).store (v address.index).word refl };
@@ -63,6 +67,7 @@ pub before_ended : (shapes : List Shape) (n : ℕ) (address : Node) (now old p :
 before_ended shapes n address now old p bank is =
     let parts = (bank.well now (Ended old p) is).each_part in
     record {
+      under = record { under = λ b g q h. (only_below q b now (Ended old p) (g.kept now (Ended old p) is) h).1.0 };
       smaller = parts.0.before;
       stands = parts.0.stands;
       alike = record { alike = λ e v m. ap (λ (y : Worth). read n y.store (v address.index).word) (m.has now (Ended old p) is) ∙ same_bytes n _ (v old).store (v address.index).word refl };
@@ -70,6 +75,12 @@ before_ended shapes n address now old p bank is =
 
 pub alike_on : (shapes : List Shape) (n : ℕ) (address : Node) (a b c : ℕ) → ReadsAlike shapes n address a b → ReadsAlike shapes n address b c → ReadsAlike shapes n address a c
 alike_on shapes n address a b c h k = record { alike = λ e v m. h.alike e v m ∙ k.alike e v m }
+
+pub under_itself : (shapes : List Shape) (n : ℕ) → IsUnder shapes n n
+under_itself shapes n = record { under = λ b g q h. h }
+
+pub under_on : (shapes : List Shape) (a b c : ℕ) → IsUnder shapes a b → IsUnder shapes b c → IsUnder shapes a c
+under_on shapes a b c h k = record { under = λ l g q x. k.under l g q (h.under l g q x) }
 
 -- ---- the word that was written last
 

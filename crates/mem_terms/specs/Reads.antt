@@ -5,6 +5,7 @@ use Rattle.term_bank.specs.declared.shape.Shape.{Shape}
 use Rattle.term_bank.specs.Memories.{read}
 use Rattle.term_bank.specs.Shapes.{IsNode, memory}
 use Rattle.term_bank.specs.Values.{Environment, Values, Models}
+use Rattle.term_bank.specs.Under.{IsUnder}
 
 -- n addresses from a on and m from b on share none, and neither go round behind the last address
 pub record IsApart (a n b m : ℕ) : Type 0 where
@@ -25,3 +26,4 @@ pub record IsBefore (shapes : List Shape) (n : ℕ) (address : Node) (now before
   pub smaller : before < now
   pub stands : IsNode shapes (memory before)
   pub alike : ReadsAlike shapes n address now before
+  pub under : IsUnder shapes now before

@@ -4,7 +4,7 @@ ghost use Rattle.term_bank.specs.declared.sort.Sort.TheVariants.{Truth, Word, Me
 ghost use Rattle.term_bank.specs.declared.shape.Shape.TheVariants.{Initial, Write, ZeroRange, CopyRange, Made, Ended};
 ghost use Rattle.term_bank.specs.declared.shape.Shape.TheVariants.{Read, ObjectSize, IsLive, HasKind, Choose};
 
-use crate::seen::seen;
+use crate::passing::seen;
 use bit_words::Width;
 use c_store::ObjectKind;
 use term_bank::{Bank, BankFault, Node, Shape, Sort};

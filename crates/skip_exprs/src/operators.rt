@@ -4,13 +4,30 @@ ghost use Rattle.c_means.specs.Expressions as form;
 ghost use Rattle.c_means.specs.Trees.{part};
 ghost use Rattle.run_exprs.specs.Below.{ReachesSkip};
 ghost use Rattle.run_exprs.specs.Tells.{Tells};
+ghost use Rattle.skip_exprs.specs.Skipped.{told_over};
 
 use crate::skips::{Skips, plain};
-use c_tree::{BinaryOperator, Expr, PostfixOperator};
-use c_type_forms::{assignment, binary, choice, comma, postfix, subscript};
+use c_says::Told;
+use c_tree::{BinaryOperator, Expr, PostfixOperator, UnaryOperator};
+use c_type_forms::{assignment, binary, choice, comma, operand, postfix, subscript, unary};
 use c_type_scope::Scope;
+use c_type_terms::Tables;
 use run_exprs::{Context, Facts};
 use std::alloc::{AllocError, Global};
+
+/// What is told of a unary operator, by what is told of its operand. It fails for want of memory alone.
+fn unary_told(
+    alloc: Global,
+    tables: &Tables,
+    at: u32,
+    operator: UnaryOperator,
+    x: Told,
+) -> Result<Told, AllocError>
+    ensures { IfOk result (λ y. y ≡ told_over tables.now at operator x) }
+{
+    let inner = operand(alloc, tables, operator, x)?;
+    unary(alloc, tables, at, operator, inner)
+}
 
 impl<'a, L: Context, K: Fn(Global, &L, &Expr, &mut Scope, u64) -> Result<Facts, AllocError>> Skips<
     'a,
@@ -51,6 +68,24 @@ impl<'a, L: Context, K: Fn(Global, &L, &Expr, &mut Scope, u64) -> Result<Facts, 
     {
         let x = self.skip(operand, scope, base)?;
         let told = postfix(self.alloc, scope.tables(), at, x.told)?;
+        Ok(plain(told, x.next))
+    }
+
+    /// A unary operator.
+    pub fn unary(
+        &self,
+        at: u32,
+        operator: UnaryOperator,
+        inner: &Expr,
+        scope: &mut Scope,
+        base: u64,
+    ) -> Result<Facts, AllocError>
+        requires skips { ReachesSkip L.level K.Fn self.now.context self.now.skip }
+        requires low { let p = part inner.now scope.old in base + (form.unary at operator p).room (L.level self.now.context.now) < 2 ^ 63 }
+        ensures { let p = part inner.now scope.old in IfOk result (λ x. Tells (L.level self.now.context.now) base scope.new x (form.unary at operator p)) }
+    {
+        let x = self.skip(inner, scope, base)?;
+        let told = unary_told(self.alloc, scope.tables(), at, operator, x.told)?;
         Ok(plain(told, x.next))
     }
 

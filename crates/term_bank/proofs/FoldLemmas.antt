@@ -20,6 +20,8 @@ use Rattle.term_bank.specs.Folds.{IsConstant, IsSame, IsSamePart}
 use Rattle.term_bank.proofs.Worth.{result_below, converted_below}
 use Rattle.term_bank.proofs.BankLemmas.{weaken}
 use Rattle.term_bank.proofs.BindingLemmas.{node_sorted}
+use Rattle.term_bank.specs.Under.{IsOver}
+use Rattle.term_bank.proofs.OverLemmas.{only_below, over_itself, over_fixed}
 
 pub constant_found : (shapes : List Shape) (n : ℕ) (w u : Width) (x : ℕ) → IsBank shapes → IsNode shapes (word w n) → slice_get shapes n ≡ Some (Constant x u) → IsConstant shapes n w x
 constant_found shapes n w u x bank node is =
@@ -35,6 +37,7 @@ truth_is shapes e v n b m h = ap (λ (y : Worth). y.truth) (m.has n (Flag b) h)
 
 pub same_binary : (shapes : List Shape) (op : WordOperator) (w : Width) (l r a b x : ℕ) → IsConstant shapes l w a → IsConstant shapes r w b → x ≡ result_of op w a b → IsSame shapes (Binary op w l r) (Constant x w)
 same_binary shapes op w l r a b x h k is = record {
+  fixed = tt;
   well = record { parts_stand = tt; in_width = subst (λ y. y < 2 ^ bits w) (sym is) (result_below op w a b h.below k.below) };
   sort = refl;
   value = λ e v m. ap of_word is ∙ rw (word_is shapes e v l w a m h, word_is shapes e v r w b m k) refl;
@@ -42,6 +45,7 @@ same_binary shapes op w l r a b x h k is = record {
 
 pub same_test : (shapes : List Shape) (t : WordTest) (w : Width) (l r a b : ℕ) (x : Bool) → IsConstant shapes l w a → IsConstant shapes r w b → x ≡ outcome_of t w a b → IsSame shapes (Test t w l r) (Flag x)
 same_test shapes t w l r a b x h k is = record {
+  fixed = tt;
   well = record { parts_stand = tt; in_width = tt };
   sort = refl;
   value = λ e v m. ap of_truth is ∙ rw (word_is shapes e v l w a m h, word_is shapes e v r w b m k) refl;
@@ -49,6 +53,7 @@ same_test shapes t w l r a b x h k is = record {
 
 pub same_conversion : (shapes : List Shape) (x : Extension) (from to : Width) (n a y : ℕ) → IsConstant shapes n from a → y ≡ converted x from to a → IsSame shapes (Convert x from to n) (Constant y to)
 same_conversion shapes x from to n a y h is = record {
+  fixed = tt;
   well = record { parts_stand = tt; in_width = subst (λ z. z < 2 ^ bits to) (sym is) (converted_below x from to a) };
   sort = refl;
   value = λ e v m. ap of_word is ∙ rw (word_is shapes e v n from a m h) refl;
@@ -56,6 +61,7 @@ same_conversion shapes x from to n a y h is = record {
 
 pub same_not : (shapes : List Shape) (n : ℕ) (b x : Bool) → slice_get shapes n ≡ Some (Flag b) → x ≡ not b → IsSame shapes (Not n) (Flag x)
 same_not shapes n b x h is = record {
+  fixed = tt;
   well = record { parts_stand = tt; in_width = tt };
   sort = refl;
   value = λ e v m. ap of_truth is ∙ rw (truth_is shapes e v n b m h) refl;
@@ -63,6 +69,7 @@ same_not shapes n b x h is = record {
 
 pub same_connect : (shapes : List Shape) (c : Connective) (l r : ℕ) (a b x : Bool) → slice_get shapes l ≡ Some (Flag a) → slice_get shapes r ≡ Some (Flag b) → x ≡ connected c a b → IsSame shapes (Connect c l r) (Flag x)
 same_connect shapes c l r a b x h k is = record {
+  fixed = tt;
   well = record { parts_stand = tt; in_width = tt };
   sort = refl;
   value = λ e v m. ap of_truth is ∙ rw (truth_is shapes e v l a m h, truth_is shapes e v r b m k) refl;
@@ -76,6 +83,7 @@ pub part_not : (shapes : List Shape) (n k : ℕ) → IsBank shapes → slice_get
 part_not shapes n k bank is =
     let part = (bank.well n (Not k) is).each_part.0 in
     record {
+      over = record { under = λ b g q flag constant has below. (only_below q b n (Not k) (g.kept n (Not k) is) below.0).1.0 };
       stands = part.stands;
       sort = refl;
       value = λ e v m.
@@ -89,6 +97,7 @@ either_arm false x = refl
 
 pub part_choose : (shapes : List Shape) (s : Sort) (c n k : ℕ) → IsWell shapes (Choose s c n k) → n ≡ k → IsSamePart shapes (Choose s c n k) (record { index = n; sort = s })
 part_choose shapes s c n k well same = record {
+  over = record { under = λ b g q flag constant has below. below.1.0 };
   stands = well.parts_stand.1.0;
   sort = refl;
   value = λ e v m. either_arm (v c).truth (v n) ∙ ap (λ i. cond (v c).truth (v n) (v i)) same;
@@ -98,3 +107,12 @@ part_choose shapes s c n k well same = record {
 pub worth_known : {E : Type 0} (old new : List Shape) (shape known : Shape) (r : Result Node E) → IsSame old shape known → Grows old new → IfOk r (IsWorth new known) → IfOk r (IsWorth new shape)
 worth_known old new shape known (Ok n) same g h = record { is = λ e v m. h.is e v m ∙ same.value e v (weaken g m) }
 worth_known old new shape known (Err e) same g h = tt
+
+-- what stands under the answer of `insert`
+pub over_inserted : {E : Type 0} (shapes : List Shape) (shape : Shape) (r : Result Node E) → IfOk r (λ n. slice_get shapes n.index ≡ Some shape) → IfOk r (IsOver shapes shape)
+over_inserted shapes shape (Ok n) h = over_itself shapes shape n h
+over_inserted shapes shape (Err e) h = tt
+
+pub over_known : {E : Type 0} (old shapes : List Shape) (shape known : Shape) (r : Result Node E) → IsSame old shape known → IfOk r (λ n. slice_get shapes n.index ≡ Some known) → IfOk r (IsOver shapes shape)
+over_known old shapes shape known (Ok n) same h = over_fixed shapes shape known n same.fixed h
+over_known old shapes shape known (Err e) same h = tt

@@ -2,6 +2,7 @@ pub mod Worth
 pub mod BankLemmas
 pub mod Equality
 pub mod UnderLemmas
+pub mod OverLemmas
 pub mod ImageLemmas
 pub mod BindingLemmas
 pub mod FoldLemmas

@@ -9,10 +9,11 @@ use Rattle.std.proofs.lemmas.Bool.Decides.{nat_tests}
 use Rattle.term_bank.specs.declared.sort.Node.{Node}
 use Rattle.term_bank.specs.declared.shape.Shape.{Shape}
 use Rattle.term_bank.specs.Shapes.{Each, parts}
-use Rattle.term_bank.specs.Under.{Among, numbers_of, In, Adds, StandsOver, IsHeld}
+use Rattle.term_bank.specs.Under.{Among, numbers_of, In, Adds, StandsOver, IsHeld, IsOnly, IsBelow}
 use Rattle.term_bank.specs.Banks.{IsBank}
 use Rattle.term_bank.proofs.Worth.{each}
 use Rattle.term_bank.proofs.BankLemmas.{node_below}
+use Rattle.term_bank.proofs.OverLemmas.{only_below}
 
 pub among_front : (x : ℕ) (xs ys : List ℕ) → Among x xs → Among x (xs ++ ys)
 among_front x [] ys h = absurd h
@@ -224,3 +225,18 @@ passed old mid new k xs u adds q x = elim (still_in old mid k q u x) [ inl y ↦
 pub more_held : (shapes : List Shape) (old mid new : BTreeSet ℕ) (k : ℕ) (s : Shape) (ns : List ℕ) → slice_get shapes k ≡ Some s → Updates nat_cmp old mid k false → Adds mid new (numbers_of (parts s)) → IsHeld shapes (In old) ns → IsHeld shapes (In new) (ns ++ k ∷ [])
 more_held shapes old mid new k s ns is u adds h = held_more shapes (In old) (In new) ns k (passed old mid new k (numbers_of (parts s)) u adds)
     (record { shape = s; is = is; parts_in = each (λ p. Among p.index (numbers_of (parts s))) (λ p. ⊥ ⊎ In new p.index) (parts s) (λ p x. inr (adds.added p.index x)) (each_among (parts s)) }) h
+
+pub below_root : (shapes : List Shape) (roots : List Node) (q : ℕ) → Among q (numbers_of roots) → IsBelow shapes roots q
+below_root shapes roots q a = record { below = λ b g p h. among_has (λ n. IsOnly p b n) roots q h a }
+
+pub below_pending : (shapes : List Shape) (roots : List Node) (old mid new : BTreeSet ℕ) (k : ℕ) (s : Shape) → slice_get shapes k ≡ Some s → Updates nat_cmp old mid k false → Adds mid new (numbers_of (parts s)) → In old k → ((q : ℕ) → In old q → IsBelow shapes roots q) → (q : ℕ) → In new q → IsBelow shapes roots q
+below_pending shapes roots old mid new k s is u adds here all q h = elim (adds.only q h) [
+  | inl x ↦ all q (was_in old mid k q u x)
+  | inr x ↦ record { below = λ b g p only. among_has (λ n. IsOnly p b n) (parts s) q (only_below p b k s (g.kept k s is) ((all k here).below b g p only)).1 x }
+]
+
+pub below_numbers : (shapes : List Shape) (roots : List Node) (ns : List ℕ) (k : ℕ) → IsBelow shapes roots k → ((q : ℕ) → Among q ns → IsBelow shapes roots q) → (q : ℕ) → Among q (ns ++ k ∷ []) → IsBelow shapes roots q
+below_numbers shapes roots ns k here all q a = elim (among_split q ns k a) [
+  | inl x ↦ all q x
+  | inr same ↦ subst (IsBelow shapes roots) (sym same) here
+]

@@ -2,6 +2,7 @@ ghost use Rattle.std.specs.Prelude.{◌≡◌, ◌<◌, [], length, slice_get, S
 ghost use Rattle.term_bank.specs.Shapes.{IsNode, IsWell, sort_of};
 ghost use Rattle.term_bank.specs.Values.{Grows, IsWorth};
 ghost use Rattle.term_bank.specs.Banks.{IsBank};
+ghost use Rattle.term_bank.specs.Under.{IsOver};
 
 use crate::shape::Shape;
 use crate::sort::Node;
@@ -66,6 +67,7 @@ impl Bank {
         ensures sort { IfOk result (λ node. node.sort ≡ sort_of shape) }
         ensures value { IfOk result (IsWorth self.new shape) }
         ensures again { (k : _) → slice_get self.old k ≡ Some shape → IfOk result (λ node. node.index ≡ k) }
+        ensures shape { IfOk result (λ node. slice_get self.new node.index ≡ Some shape) }
         ensures grows { Grows self.old self.new }
         ensures err { OnErr result (self.new ≡ self.old) }
         ensures bank { IsBank self.new }
@@ -90,6 +92,7 @@ impl Bank {
         ensures node { IfOk result (IsNode self.new) }
         ensures sort { IfOk result (λ node. node.sort ≡ sort_of shape) }
         ensures value { IfOk result (IsWorth self.new shape) }
+        ensures over { IfOk result (IsOver self.new shape) }
         ensures grows { Grows self.old self.new }
         ensures err { OnErr result (self.new ≡ self.old) }
         ensures bank { IsBank self.new }

@@ -35,7 +35,7 @@ fn image(images: &HashMap<u32, Node>, number: u32) -> u32
 }
 
 /// A shape over the nodes that stand for its parts.
-fn over(images: &HashMap<u32, Node>, shape: Shape) -> Shape
+pub fn over(images: &HashMap<u32, Node>, shape: Shape) -> Shape
     ensures { result ≡ over_images (image_in images.now) shape }
 {
     match shape {
@@ -190,7 +190,7 @@ fn over(images: &HashMap<u32, Node>, shape: Shape) -> Shape
 }
 
 /// Lets a node stand for a node.
-fn set_image(images: &mut HashMap<u32, Node>, number: u32, node: Node) -> Result<(), AllocError>
+pub fn set_image(images: &mut HashMap<u32, Node>, number: u32, node: Node) -> Result<(), AllocError>
     ensures { OnOk result (Puts images.old images.new number node) }
 {
     images.insert(number, node)?;
@@ -198,7 +198,7 @@ fn set_image(images: &mut HashMap<u32, Node>, number: u32, node: Node) -> Result
 }
 
 /// The nodes that stand for the roots, in order.
-fn images_of(
+pub fn images_of(
     alloc: Global,
     roots: &[Node],
     images: &HashMap<u32, Node>,

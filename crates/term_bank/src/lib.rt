@@ -11,7 +11,7 @@ mod sort;
 mod under;
 
 pub use bank::{Bank, BankFault};
-pub use binding::Binding;
+pub use binding::{Binding, images_of, over, set_image};
 pub use shape::{Connective, Extension, Shape, WordOperator, WordTest};
 pub use sort::{Node, Sort};
 pub use under::nodes_under;

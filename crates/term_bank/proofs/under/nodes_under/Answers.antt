@@ -3,7 +3,7 @@ use Rattle.term_bank.specs.Shapes.{parts}
 use Rattle.term_bank.specs.Under.{Among, In, numbers_of}
 use Rattle.term_bank.proofs.Worth.{each}
 use Rattle.term_bank.proofs.BankLemmas.{node_below, shape_at}
-use Rattle.term_bank.proofs.UnderLemmas.{none_in, each_among, among_has, more_inside, more_below, more_held, passed, are_more, held_for, limit_falls}
+use Rattle.term_bank.proofs.UnderLemmas.{none_in, each_among, among_has, more_inside, more_below, more_held, passed, are_more, held_for, limit_falls, below_root, below_pending, below_numbers}
 use Rattle.term_bank.proofs.under.nodes_under.Goals as goal
 
 none_left : (n : ℕ) → (0 < n → false ≡ true) → n ≡ 0
@@ -22,6 +22,11 @@ nodes-init c =
       inside = inside;
       held = tt;
       rooted = each (λ r. Among r.index (numbers_of c.args.roots.now)) (λ r. ⊥ ⊎ In set r.index) c.args.roots.now (λ r x. inr (adds.added r.index x)) (each_among c.args.roots.now);
+      below_pending = λ q h. elim (adds.only q h) [
+        | inl x ↦ absurd (none_in c.new-pending.result q c.new-pending.ensures.len x)
+        | inr x ↦ below_root c.args.bank.now c.args.roots.now q x
+      ];
+      below_numbers = λ q h. absurd h;
     })
 
 pub nodes-smaller : goal.nodes-smaller
@@ -42,6 +47,8 @@ nodes-preserved c =
       inside = more_inside shapes c.nodes.pending c.pop_last.new.self c.add_parts_of.new.set k found.0 c.add_parts_of.ensures.bank found.1 u adds c.nodes.invariant.inside;
       held = more_held shapes c.nodes.pending c.pop_last.new.self c.add_parts_of.new.set k found.0 c.nodes.numbers found.1 u adds c.nodes.invariant.held;
       rooted = are_more (In c.nodes.pending) (In c.add_parts_of.new.set) c.nodes.numbers k c.args.roots.now (passed c.nodes.pending c.pop_last.new.self c.add_parts_of.new.set k (numbers_of (parts found.0)) u adds) c.nodes.invariant.rooted;
+      below_pending = below_pending shapes c.args.roots.now c.nodes.pending c.pop_last.new.self c.add_parts_of.new.set k found.0 found.1 u adds c.in-Some.ensures.member c.nodes.invariant.below_pending;
+      below_numbers = below_numbers shapes c.args.roots.now c.nodes.numbers k (c.nodes.invariant.below_pending k c.in-Some.ensures.member) c.nodes.invariant.below_numbers;
     })
 
 pub returns : goal.returns
@@ -50,4 +57,5 @@ returns c =
     record {
       rooted = each (λ r. Among r.index c.nodes.numbers ⊎ In c.nodes.pending r.index) (λ r. Among r.index c.nodes.numbers) c.args.roots.now (λ r x. elim x [ inl y ↦ y | inr y ↦ absurd (none_in c.nodes.pending r.index empty y) ]) c.nodes.invariant.rooted;
       held = held_for c.args.bank.now (In c.nodes.pending) (λ n. ⊥) c.nodes.numbers (λ q y. none_in c.nodes.pending q empty y) c.nodes.invariant.held;
+      only = c.nodes.invariant.below_numbers;
     }

@@ -50,3 +50,9 @@ returns-clause-again c = λ k is. elim c.match-insert_full.branch [
       bank.shared w.in-Ok.index k c.args.shape (stands c.insert_full.new.self.keys st.0 c.args.shape w.in-Ok.index st.1 st.2) (grows.kept k c.args.shape is))
   | in-Err w ↦ rw w.result-is tt
 ]
+
+pub returns-clause-shape : goal.returns-clause-shape
+returns-clause-shape c = elim c.match-insert_full.branch [
+  | in-Ok w ↦ rw w.result-is (let st = w.in-Ok.ensures.stored in stands c.insert_full.new.self.keys st.0 c.args.shape w.in-Ok.index st.1 st.2)
+  | in-Err w ↦ rw w.result-is tt
+]

@@ -1,8 +1,9 @@
-ghost use Rattle.std.specs.Prelude.{◌≡◌, IsTrue, IfSome};
+ghost use Rattle.std.specs.Prelude.{◌≡◌, ◌≤◌, IsTrue, IfSome};
 ghost use Rattle.bit_words.specs.declared.width.Width.TheVariants.{W64};
 ghost use Rattle.term_bank.specs.Memories.{octets as octets_of};
 ghost use Rattle.term_bank.specs.Shapes.{IsNode, memory as memory_node, word};
 ghost use Rattle.term_bank.specs.Terms.{IsTerm};
+ghost use Rattle.term_bank.specs.Under.{IsUnder};
 ghost use Rattle.term_bank.specs.declared.sort.Sort.TheVariants.{Word, Memory};
 ghost use Rattle.mem_terms.specs.Reads.{IsApart, AreApart, IsBefore, ReadsAlike};
 
@@ -74,6 +75,8 @@ pub fn seen(bank: &Bank, memory: Node, address: Node, width: Width) -> Node
     requires address { IsTerm bank.now (Word W64) address }
     ensures node { IsTerm bank.now Memory result }
     ensures alike { ReadsAlike bank.now (octets_of width) address memory.index result.index }
+    ensures most { result.index ≤ memory.index }
+    ensures under { IsUnder bank.now memory.index result.index }
 {
     let mut index = memory.index;
     'changes: while let Some(old) = before(bank, index, address, width) {

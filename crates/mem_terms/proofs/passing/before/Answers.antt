@@ -2,7 +2,7 @@ use Rattle.std.proofs.Common.{◌∙◌, Some, ap, sym, subst}
 use Rattle.term_bank.specs.Memories.{octets}
 use Rattle.mem_terms.specs.Reads.{AreApart}
 use Rattle.mem_terms.proofs.SeenLemmas.{before_write, before_made, before_ended, written_at}
-use Rattle.mem_terms.proofs.seen.before.Goals as goal
+use Rattle.mem_terms.proofs.passing.before.Goals as goal
 
 pub are_apart-requires-clause-from : goal.are_apart-requires-clause-from
 are_apart-requires-clause-from c =

@@ -1,0 +1,2 @@
+pub mod OnForms
+pub mod UnaryTold
