@@ -99,15 +99,31 @@ impl<
         let alloc = self.below.alloc;
         match e {
             Expr::StringLiteral { at, pieces } => {
-                string_literal(alloc, self.below.context, *at, pieces.as_slice(), scope, base)
+                string_literal(
+                    alloc,
+                    self.below.context,
+                    *at,
+                    pieces.as_slice(),
+                    scope,
+                    base,
+                )
             }
             Expr::FunctionName { at } => function_name(alloc, self.below.context, *at, scope, base),
             Expr::Identifier { at, name } => {
-                name_place(alloc, self.below.context, self.below.frame, *at, name, scope, base)
+                name_place(
+                    alloc,
+                    self.below.context,
+                    self.below.frame,
+                    *at,
+                    name,
+                    scope,
+                    base,
+                )
             }
             Expr::Parenthesized { inner, .. } => self.inner_place(inner.get(), scope, base, m),
             Expr::Subscript { at, array, index } => {
-                self.below.subscript(*at, array.get(), index.get(), scope, base, m)
+                self.below
+                    .subscript(*at, array.get(), index.get(), scope, base, m)
             }
             Expr::Member { at, object, member } => {
                 self.dot_place(e, *at, member, object.get(), scope, base, m)

@@ -1,4 +1,4 @@
-use Rattle.std.proofs.Common.{◌+◌, ◌<◌, IfOk, refl, sym, subst}
+use Rattle.std.proofs.Common.{◌+◌, ◌<◌, IfOk, sym, subst}
 use Rattle.c_machine.specs.States.{state, RunsTo}
 use Rattle.run_exprs.specs.Frames.{env_of}
 use Rattle.run_exprs.specs.Tells.{Tells}
