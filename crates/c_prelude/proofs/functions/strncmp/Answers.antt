@@ -1,0 +1,8 @@
+use Rattle.std.proofs.Common.{refl}
+use Rattle.c_runs.specs.Prelude as texts
+use Rattle.c_prelude.proofs.Made.{made_is}
+use Rattle.c_prelude.proofs.functions.strncmp.Goals as goal
+
+-- the steps make the tree of the text, by computing
+pub returns : goal.returns
+returns c = made_is _ texts.strncmp c.made.result c.made.ensures refl

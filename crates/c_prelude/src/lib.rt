@@ -1,0 +1,14 @@
+//! The functions of the C library that have a body here (C99 7.20.1.2, 7.21), as trees: each is made by steps that
+//! stand in a table, a node behind its parts.
+#![tactic(auto)]
+
+mod bench;
+mod functions;
+mod stack;
+mod step;
+mod tables;
+
+pub use functions::prelude;
+
+#[cfg(test)]
+mod tests;
