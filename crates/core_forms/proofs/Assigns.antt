@@ -49,13 +49,13 @@ module _ (numbering : Numbering) where
       let of = ap₂ (λ (a : Told) b. stored_in (class_in (type_in a.shown)) (bytes_of b (type_in a.shown)))
       (sym h.told) (sym t) ∙ typed in
       let v = values.simple_value numbering at stored e y.value p q (of_stored q.typed.after.tables p.typed stored of)
-      h.node.address i.worth.value in
+      h.node.address i.value in
       subst (λ z. IsBuilt numbering z (forms.assignment at None p q))
       (sym (is ∙ ap (λ a. a_value told (expr.Store at a e y.value)) (access_same x rooted stored p h.told h.rooted)))
       (record {
         told = said_assignment None at tables x y.told told p.typed q.typed t h.told i.told s;
         rooted = refl;
-        node = record { value = v; effect = v };
+        node = record { is_value = refl; value = v; effect = v };
       })
 
   scalar_told : (x : Told) (p : Part) (stored : ValueType) → x ≡ told_of p.typed
@@ -75,7 +75,7 @@ module _ (numbering : Numbering) where
       let of = scalar_told x p stored h.told typed in
       let v = values.compound_value numbering at op chosen stored e y.value p q
       (of_scalar p.typed.after.tables p.typed stored of) (of_scalar q.typed.after.tables p.typed stored of)
-      h.node.address i.worth.value
+      h.node.address i.value
       (operates_at op tables x y.told p.typed q.typed chosen stored typed t h.told i.told does at) in
       subst (λ z. IsBuilt numbering z (forms.assignment at (Some op) p q))
       (sym (is ∙ ap (λ a. a_value told (expr.Update at chosen a e y.value))
@@ -83,7 +83,7 @@ module _ (numbering : Numbering) where
       (record {
         told = said_assignment (Some op) at tables x y.told told p.typed q.typed t h.told i.told s;
         rooted = refl;
-        node = record { value = v; effect = v };
+        node = record { is_value = refl; value = v; effect = v };
       })
 
   -- ---- `++` and `--`

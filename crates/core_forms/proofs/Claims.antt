@@ -40,12 +40,13 @@ use Rattle.core_forms.specs.declared.built.Used.{Used}
 use Rattle.core_forms.specs.Nodes.{Makes, a_value, a_place, is_constant, operand_by, one_more, scalar_by, stored_by, turned_node}
 use Rattle.core_forms.specs.Nodes.{operated_node, binary_node, pointer_node, target_of_sum, member_node, stored_node}
 use Rattle.core_forms.specs.Nodes.{updated_node, step_node, stepped_node, step_behind, named_node, meant_node, is_object}
-use Rattle.core_forms.specs.Nodes.{is_object_by, access_by}
+use Rattle.core_forms.specs.Nodes.{is_object_by, access_by, extracted_node, member_rooted, call_node}
 use Rattle.core_forms.specs.Built.{IsBuilt, IsUsed, StepsTo}
 use Rattle.core_forms.proofs.Saying.{said_postfix, said_unary}
 use Rattle.core_forms.proofs.KindLaws.{none_some}
 use Rattle.core_forms.proofs.Forms.{made_is, constant_built, local_built, fixed_built, minus_built, plus_built}
-use Rattle.core_forms.proofs.Forms.{complement_built, address_built, subscript_built, member_built, and_built, or_built}
+use Rattle.core_forms.proofs.Forms.{complement_built, address_built, subscript_built, member_built, extract_built}
+use Rattle.core_forms.proofs.Forms.{and_built, or_built}
 use Rattle.core_forms.proofs.Forms.{both_built}
 use Rattle.core_forms.proofs.Assigns.{simple_built, compound_built, step_built}
 
@@ -139,6 +140,7 @@ module _ (numbering : Numbering) where
   address_by at tables x rooted (node.Place e) p told y t h s m =
       address_built numbering at tables x rooted e p told y t h s (made_is y told false (node.Value (expr.Pointer e)) m)
   address_by at tables x rooted (node.Value e) p told y t h s m = nothing_made y told false m
+  address_by at tables x rooted (node.Call c) p told y t h s m = nothing_made y told false m
 
   pub address_claim : (at : ℕ) (tables : Tables) (x : Built) (p : Part) (y : Built) → tables ≡ p.typed.after.tables
       → IsBuilt numbering x p
@@ -164,21 +166,38 @@ module _ (numbering : Numbering) where
       → IsBuilt numbering z (forms.subscript at p q)
   subscript_claim at tables x y p q z t h i m = subscript_by at tables x y p q _ _ z t h i refl refl m
 
+  extract_by : (at : ℕ) (name : Name) (tables : Tables) (x : Told) (e : Expr) (p : Part) (st : Option ValueType)
+      (told : Told) (y : Built) → tables ≡ p.typed.after.tables → x ≡ told_of p.typed → p.is_place ≡ false
+      → IsValueOf numbering e p → stored_by tables told ≡ st
+      → told ≡ says.node_over at x.shown (says.member_shown_of tables name) x.faults
+      → Makes y told false (extracted_node (forms.offset_of tables (type_in x.shown) name) st e)
+      → IsBuilt numbering y (forms.member at name p)
+  extract_by at name tables x e p None told y t h n v k s m = nothing_made y told false m
+  extract_by at name tables x e p (Some st) told y t h n v k s m =
+      extract_built numbering at name tables x e p st told y t h n v k s
+      (made_is y told false (node.Value (expr.Extract (forms.offset_of tables (type_in x.shown) name) st e)) m)
+
   member_by : (at : ℕ) (name : Name) (tables : Tables) (x : Told) (rooted : Bool) (n : Node) (p : Part)
       (told : Told) (y : Built) → tables ≡ p.typed.after.tables
       → IsBuilt numbering (record { told = x; rooted = rooted; node = n }) p
       → told ≡ says.node_over at x.shown (says.member_shown_of tables name) x.faults
-      → Makes y told rooted (member_node (forms.offset_of tables (type_in x.shown) name) n)
+      → Makes y told (member_rooted rooted n)
+      (member_node (forms.offset_of tables (type_in x.shown) name) (stored_by tables told) n)
       → IsBuilt numbering y (forms.member at name p)
   member_by at name tables x rooted (node.Place e) p told y t h s m =
       member_built numbering at name tables x rooted e p (forms.offset_of tables (type_in x.shown) name) told y t h refl
       s (made_is y told rooted (node.Place (expr.Offset (forms.offset_of tables (type_in x.shown) name) e)) m)
-  member_by at name tables x rooted (node.Value e) p told y t h s m = nothing_made y told rooted m
+  member_by at name tables x rooted (node.Value e) p told y t h s m =
+      extract_by at name tables x e p (stored_by tables told) told y t h.told h.node.is_value h.node.value refl s m
+  member_by at name tables x rooted (node.Call c) p told y t h s m =
+      extract_by at name tables x (call_node c true) p (stored_by tables told) told y t h.told h.node.is_value
+      h.node.value refl s m
 
   pub member_claim : (at : ℕ) (name : Name) (tables : Tables) (x : Built) (p : Part) (y : Built)
       → tables ≡ p.typed.after.tables → IsBuilt numbering x p
-      → Makes y (says.node_over at x.told.shown (says.member_shown_of tables name) x.told.faults) x.rooted
-      (member_node (forms.offset_of tables (type_in x.told.shown) name) x.node)
+      → (let told = says.node_over at x.told.shown (says.member_shown_of tables name) x.told.faults in
+      Makes y told (member_rooted x.rooted x.node)
+      (member_node (forms.offset_of tables (type_in x.told.shown) name) (stored_by tables told) x.node))
       → IsBuilt numbering y (forms.member at name p)
   member_claim at name tables x p y t h m =
       member_by at name tables x.told x.rooted x.node p _ y t h refl m
@@ -251,6 +270,7 @@ module _ (numbering : Numbering) where
       simple_built numbering at tables x rooted e y p q st told z t h i k s
       (made_is z told false (node.Value (expr.Store at (access_by x rooted st) e y.value)) m)
   simple_by at tables x rooted (node.Value e) y p q (Some st) told z t h i k s m = nothing_made z told false m
+  simple_by at tables x rooted (node.Call c) y p q (Some st) told z t h i k s m = nothing_made z told false m
   simple_by at tables x rooted n y p q None told z t h i k s m = nothing_made z told false m
 
   pub simple_claim : (at : ℕ) (tables : Tables) (x : Built) (y : Used) (p q : Part) (z : Built)
@@ -275,6 +295,8 @@ module _ (numbering : Numbering) where
       (operates op (operand_by tables x) (operand_by tables y.told) chosen c) s
       (made_is z told false (node.Value (expr.Update at chosen (access_by x rooted st) e y.value)) m)
   compound_by op at tables x rooted (node.Value e) y p q (Some st) (Some chosen) told z t h i k c s m =
+      nothing_made z told false m
+  compound_by op at tables x rooted (node.Call f) y p q (Some st) (Some chosen) told z t h i k c s m =
       nothing_made z told false m
   compound_by op at tables x rooted n y p q (Some st) None told z t h i k c s m = nothing_made z told false m
   compound_by op at tables x rooted n y p q None chosen told z t h i k c s m = nothing_made z told false m
@@ -311,6 +333,8 @@ module _ (numbering : Numbering) where
   }
   step_by op at answer tables x rooted (node.Value e) p (Some st) (Some chosen) told y t h k c m =
       nothing_made y told false m
+  step_by op at answer tables x rooted (node.Call f) p (Some st) (Some chosen) told y t h k c m =
+      nothing_made y told false m
   step_by op at answer tables x rooted n p (Some st) None told y t h k c m = nothing_made y told false m
   step_by op at answer tables x rooted n p None chosen told y t h k c m = nothing_made y told false m
 
@@ -330,7 +354,7 @@ module _ (numbering : Numbering) where
       subst (λ y. IsBuilt numbering y (forms.unary at u.Increment p)) (sym s.is) (record {
         told = said_unary u.Increment at tables x.told told p.typed t h.told refl;
         rooted = refl;
-        node = record { value = s.steps u.Increment; effect = s.steps u.Increment };
+        node = record { is_value = refl; value = s.steps u.Increment; effect = s.steps u.Increment };
       })
 
   pub decrement_claim : (at : ℕ) (tables : Tables) (x : Built) (p : Part) (y : Built) → tables ≡ p.typed.after.tables
@@ -343,7 +367,7 @@ module _ (numbering : Numbering) where
       subst (λ y. IsBuilt numbering y (forms.unary at u.Decrement p)) (sym s.is) (record {
         told = said_unary u.Decrement at tables x.told told p.typed t h.told refl;
         rooted = refl;
-        node = record { value = s.steps u.Decrement; effect = s.steps u.Decrement };
+        node = record { is_value = refl; value = s.steps u.Decrement; effect = s.steps u.Decrement };
       })
 
   pub postfix_claim : (op : PostfixOperator) (at : ℕ) (tables : Tables) (x : Built) (p : Part) (y : Built)
@@ -356,7 +380,7 @@ module _ (numbering : Numbering) where
       subst (λ y. IsBuilt numbering y (forms.postfix at after.Increment p)) (sym s.is) (record {
         told = said_postfix at tables x.told told p.typed t h.told refl;
         rooted = refl;
-        node = record { value = s.steps; effect = s.steps };
+        node = record { is_value = refl; value = s.steps; effect = s.steps };
       })
   postfix_claim after.Decrement at tables x p y t h m =
       let told = says.node_over at x.told.shown (says.stepped tables) x.told.faults in
@@ -364,5 +388,5 @@ module _ (numbering : Numbering) where
       subst (λ y. IsBuilt numbering y (forms.postfix at after.Decrement p)) (sym s.is) (record {
         told = said_postfix at tables x.told told p.typed t h.told refl;
         rooted = refl;
-        node = record { value = s.steps; effect = s.steps };
+        node = record { is_value = refl; value = s.steps; effect = s.steps };
       })

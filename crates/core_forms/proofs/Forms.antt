@@ -1,13 +1,12 @@
 -- Each form's core, by the cores of its parts.
-use Rattle.std.proofs.Common.{◌≡◌, ℕ, ℤ, pos, Bool, false, true, List, Option, Some, None, refl, sym, ap, ap₂, ◌∙◌, subst}
+use Rattle.std.proofs.Common.{◌≡◌, ℕ, ℤ, pos, Bool, false, true, List, Option, Some, None, Ok, refl, sym, ap, ap₂, ◌∙◌, subst}
 use Rattle.std.specs.Prelude.{◌++◌, unwrap_or}
 use Rattle.std.proofs.lemmas.Bool.{false≢true}
 use Rattle.c_lexer.specs.declared.token.IntegerConstant.{IntegerConstant}
 use Rattle.c_tree.specs.declared.expr.BinaryOperator.{BinaryOperator}
 use Rattle.c_tree.specs.declared.expr.BinaryOperator.TheVariants as o
 use Rattle.c_tree.specs.declared.expr.UnaryOperator.TheVariants as u
-use Rattle.c_type_terms.specs.declared.class.Class.{Class}
-use Rattle.c_type_terms.specs.declared.class.Class.TheVariants as class
+use Rattle.c_type_terms.specs.declared.ctype.CType.{CType}
 use Rattle.c_type_terms.specs.declared.ctype.IntegerKind.{IntegerKind}
 use Rattle.c_type_terms.specs.declared.tables.Tables.{Tables}
 use Rattle.c_type_terms.specs.Integers.{promoted}
@@ -27,9 +26,11 @@ use Rattle.core_tree.specs.declared.types.Arithmetic.{Arithmetic}
 use Rattle.core_tree.specs.declared.types.Operator.{Operator}
 use Rattle.core_tree.specs.declared.types.Turning.{Turning}
 use Rattle.core_tree.specs.declared.types.Turning.TheVariants as turn
+use Rattle.core_tree.specs.declared.types.ValueType.{ValueType}
 use Rattle.core_tree.specs.declared.types.ValueType.TheVariants as v
 use Rattle.core_tree.specs.Values.{value}
-use Rattle.elaborate.specs.Means.{Numbering, Does, IsValueOf, IsAddressOf, IsEffectOf}
+use Rattle.core_tree.proofs.Equations as eq
+use Rattle.elaborate.specs.Means.{Numbering, IsValueOf, IsAddressOf, as_found}
 use Rattle.elaborate.specs.Operators.{Operates}
 use Rattle.elaborate.specs.Types as types
 use Rattle.elaborate.specs.Types.{word_type}
@@ -38,14 +39,14 @@ use Rattle.elaborate.proofs.Pointers as pointers
 use Rattle.core_forms.specs.declared.built.Built.{Built}
 use Rattle.core_forms.specs.declared.built.Node.{Node}
 use Rattle.core_forms.specs.declared.built.Node.TheVariants as node
-use Rattle.core_forms.specs.Nodes.{Makes, a_value, a_place, operand_by, cast_type}
+use Rattle.core_forms.specs.Nodes.{Makes, a_value, a_place, operand_by, cast_type, stored_by, stored_in, type_as}
 use Rattle.c_says.specs.declared.scope.Duration.TheVariants as duration
 use Rattle.c_means.specs.Values as worths
 use Rattle.core_forms.specs.declared.built.Used.{Used}
-use Rattle.core_forms.specs.Built.{IsPlaceOf, IsWorthOf, IsBuilt, IsUsed, IsDiscarded}
+use Rattle.core_forms.specs.Built.{IsPlaceOf, IsWorthOf, IsBuilt, IsUsed, IsDiscarded, IsCastOperand, IsConverted}
 use Rattle.core_forms.proofs.Saying.{value_told, said_unary, said_size, said_binary, said_subscript, said_comma}
 use Rattle.core_forms.proofs.Saying.{said_choice, said_cast, said_member, said_arrow}
-use Rattle.core_forms.proofs.KindLaws.{converts_same, operates_on, some_same, none_some}
+use Rattle.core_forms.proofs.KindLaws.{converts_same, extracts_same, operates_on, some_same, none_some}
 
 abbrev the_built : Told → Bool → Node → Built
 the_built a b c = record { told = a; rooted = b; node = c }
@@ -64,15 +65,15 @@ module _ (numbering : Numbering) where
   constant_built y told e z x is made said =
       let h = subst (λ e. IsValueOf numbering e (forms.constant x z)) (sym made) (values.constant_value numbering z x) in
       subst (λ y. IsBuilt numbering y (forms.constant x z)) (sym is)
-      (record { told = said; rooted = refl; node = record { value = h; effect = h } })
+      (record { told = said; rooted = refl; node = record { is_value = refl; value = h; effect = h } })
 
-  pub size_built : (at : ℕ) (tables : Tables) (x : Built) (p : Part) (told : Told) (y : Built) (z : ℤ)
-      → tables ≡ p.typed.after.tables → IsBuilt numbering x p
-      → told ≡ says.node_over at x.told.shown (says.size_shown tables) x.told.faults
+  pub size_built : (at : ℕ) (tables : Tables) (x : Told) (p : Part) (told : Told) (y : Built) (z : ℤ)
+      → tables ≡ p.typed.after.tables → x ≡ told_of p.typed
+      → told ≡ says.node_over at x.shown (says.size_shown tables) x.faults
       → z ≡ unwrap_or (value_in told.shown) (pos 0) → y ≡ a_value told (expr.Constant z)
       → IsBuilt numbering y (forms.size_of_expression at p)
   size_built at tables x p told y z t h s is made =
-      let said = said_size at tables x.told told p.typed t h.told s in
+      let said = said_size at tables x told p.typed t h s in
       constant_built y told (expr.Constant z) (unwrap_or (says.constant_of (says.size_of_expression at p.typed)) (pos 0))
       (says.size_of_expression at p.typed) made
       (ap expr.Constant (is ∙ ap (λ (a : Told). unwrap_or (value_in a.shown) (pos 0)) said)) said
@@ -164,11 +165,11 @@ module _ (numbering : Numbering) where
       → told ≡ says.node_over at x.told.shown (says.unary_judged tables u.Not) x.told.faults
       → y ≡ a_value told (expr.Not x.value) → IsBuilt numbering y (forms.unary at u.Not p)
   not_built at tables x p told y t h s is =
-      let v = values.not_value numbering x.value at p h.worth.value in
+      let v = values.not_value numbering x.value at p h.value in
       subst (λ y. IsBuilt numbering y (forms.unary at u.Not p)) (sym is) (record {
         told = said_unary u.Not at tables x.told told p.typed t h.told s;
         rooted = refl;
-        node = record { value = v; effect = v };
+        node = record { is_value = refl; value = v; effect = v };
       })
 
   -- the kind of an operand
@@ -183,11 +184,11 @@ module _ (numbering : Numbering) where
       → y ≡ a_value told (expr.Turn at turn.Minus (word_type (promoted kind)) is_constant x.value)
       → IsBuilt numbering y (forms.unary at u.Minus p)
   minus_built at tables x p told is_constant kind y t h k s is =
-      let v = values.minus_value numbering x.value at is_constant kind p h.worth.value (kind_used x p kind h k) in
+      let v = values.minus_value numbering x.value at is_constant kind p h.value (kind_used x p kind h k) in
       subst (λ y. IsBuilt numbering y (forms.unary at u.Minus p)) (sym is) (record {
         told = said_unary u.Minus at tables x.told told p.typed t h.told s;
         rooted = refl;
-        node = record { value = v; effect = v };
+        node = record { is_value = refl; value = v; effect = v };
       })
 
   pub plus_built : (at : ℕ) (tables : Tables) (x : Used) (p : Part) (told : Told) (is_constant : Bool)
@@ -197,11 +198,11 @@ module _ (numbering : Numbering) where
       → y ≡ a_value told (expr.Turn at turn.Plus (word_type (promoted kind)) is_constant x.value)
       → IsBuilt numbering y (forms.unary at u.Plus p)
   plus_built at tables x p told is_constant kind y t h k s is =
-      let v = values.plus_value numbering x.value at is_constant kind p h.worth.value (kind_used x p kind h k) in
+      let v = values.plus_value numbering x.value at is_constant kind p h.value (kind_used x p kind h k) in
       subst (λ y. IsBuilt numbering y (forms.unary at u.Plus p)) (sym is) (record {
         told = said_unary u.Plus at tables x.told told p.typed t h.told s;
         rooted = refl;
-        node = record { value = v; effect = v };
+        node = record { is_value = refl; value = v; effect = v };
       })
 
   pub complement_built : (at : ℕ) (tables : Tables) (x : Used) (p : Part) (told : Told) (is_constant : Bool)
@@ -211,11 +212,11 @@ module _ (numbering : Numbering) where
       → y ≡ a_value told (expr.Turn at turn.Complement (word_type (promoted kind)) is_constant x.value)
       → IsBuilt numbering y (forms.unary at u.Complement p)
   complement_built at tables x p told is_constant kind y t h k s is =
-      let v = values.complement_value numbering x.value at is_constant kind p h.worth.value (kind_used x p kind h k) in
+      let v = values.complement_value numbering x.value at is_constant kind p h.value (kind_used x p kind h k) in
       subst (λ y. IsBuilt numbering y (forms.unary at u.Complement p)) (sym is) (record {
         told = said_unary u.Complement at tables x.told told p.typed t h.told s;
         rooted = refl;
-        node = record { value = v; effect = v };
+        node = record { is_value = refl; value = v; effect = v };
       })
 
   -- ---- addresses
@@ -230,7 +231,7 @@ module _ (numbering : Numbering) where
       subst (λ y. IsBuilt numbering y (forms.unary at u.Address p)) (sym is) (record {
         told = said_unary u.Address at tables x told p.typed t h.told s;
         rooted = refl;
-        node = record { value = v; effect = v };
+        node = record { is_value = refl; value = v; effect = v };
       })
 
   pub indirection_built : (at : ℕ) (tables : Tables) (x : Used) (p : Part) (told : Told) (y : Built)
@@ -243,7 +244,7 @@ module _ (numbering : Numbering) where
         rooted = refl;
         node = record {
           is_place = refl;
-          address = values.target_address numbering x.value at p h.worth.value;
+          address = values.target_address numbering x.value at p h.value;
           value = λ l env base d. refl;
           effect = λ l env base d. refl;
         };
@@ -262,7 +263,7 @@ module _ (numbering : Numbering) where
         rooted = refl;
         node = record {
           is_place = refl;
-          address = pointers.subscript_address numbering at chosen x.value y.value p q h.worth.value i.worth.value
+          address = pointers.subscript_address numbering at chosen x.value y.value p q h.value i.value
               (operates_on o.Add tables x.told y.told p.typed q.typed chosen t h.told i.told does at);
           value = λ l env base d. refl;
           effect = λ l env base d. refl;
@@ -305,6 +306,39 @@ module _ (numbering : Numbering) where
         node = member_place p.is_place _ at name e p h.node.is_place h.node.address;
       })
 
+  -- a member of a value
+  member_worth : (b : Bool) (offset : ℕ) (x : Typed) (p : Part) (t : ValueType) (e : Expr) → b ≡ false
+      → IsValueOf numbering e p
+      → stored_in (class_in (type_of x)) (bytes_of x.after.tables (type_of x)) ≡ Some t
+      → IsWorthOf numbering (expr.Extract offset t e) (forms.member_by b offset x p)
+  member_worth true offset x p t e is h of = absurd (false≢true (sym is))
+  member_worth false offset x p t e is h of =
+      let v = pointers.member_value numbering offset t x e p h (extracts_same x offset t of) in
+      record { is_value = refl; value = v; effect = v }
+
+  unrooted : (b : Bool) (offset : ℕ) (x : Typed) (p : Part) → b ≡ false → false ≡ (forms.member_by b offset x p).rooted
+  unrooted true offset x p is = absurd (false≢true (sym is))
+  unrooted false offset x p is = refl
+
+  pub extract_built : (at : ℕ) (name : Name) (tables : Tables) (x : Told) (e : Expr) (p : Part) (t : ValueType)
+      (told : Told) (y : Built)
+      → tables ≡ p.typed.after.tables → x ≡ told_of p.typed → p.is_place ≡ false → IsValueOf numbering e p
+      → stored_by tables told ≡ Some t
+      → told ≡ says.node_over at x.shown (says.member_shown_of tables name) x.faults
+      → y ≡ a_value told (expr.Extract (forms.offset_of tables (type_in x.shown) name) t e)
+      → IsBuilt numbering y (forms.member at name p)
+  extract_built at name tables x e p t told y h i not_place v of s is =
+      let offset = forms.offset_of p.typed.after.tables (type_of p.typed) name in
+      let n = ap₂ (λ a (b : Told). forms.offset_of a (type_in b.shown) name) h i in
+      let said = said_member at name tables x told p.typed h i s in
+      let stored = ap₂ (λ a (b : Told). stored_by a b) (sym h) (sym said) ∙ of in
+      subst (λ y. IsBuilt numbering y (forms.member at name p))
+      (sym (is ∙ ap (λ m. a_value told (expr.Extract m t e)) n)) (record {
+        told = said ∙ member_typed p.is_place offset (says.member at name p.typed) p;
+        rooted = unrooted p.is_place offset (says.member at name p.typed) p not_place;
+        node = member_worth p.is_place offset (says.member at name p.typed) p t e not_place v stored;
+      })
+
   pub arrow_built : (at : ℕ) (name : Name) (tables : Tables) (x : Used) (p : Part) (offset : ℕ) (told : Told)
       (y : Built)
       → tables ≡ p.typed.after.tables → IsUsed numbering x p
@@ -320,7 +354,7 @@ module _ (numbering : Numbering) where
         rooted = refl;
         node = record {
           is_place = refl;
-          address = pointers.arrow_address numbering at name x.value p h.worth.value;
+          address = pointers.arrow_address numbering at name x.value p h.value;
           value = λ l env base d. refl;
           effect = λ l env base d. refl;
         };
@@ -334,11 +368,11 @@ module _ (numbering : Numbering) where
       (x.told.faults ++ y.told.faults)
       → z ≡ a_value told (expr.And at x.value y.value) → IsBuilt numbering z (forms.binary at o.LogicalAnd p q)
   and_built at tables x y p q told z t h i s is =
-      let v = values.and_value numbering at x.value y.value p q h.worth.value i.worth.value in
+      let v = values.and_value numbering at x.value y.value p q h.value i.value in
       subst (λ z. IsBuilt numbering z (forms.binary at o.LogicalAnd p q)) (sym is) (record {
         told = said_binary o.LogicalAnd at tables x.told y.told told p.typed q.typed t h.told i.told s;
         rooted = refl;
-        node = record { value = v; effect = v };
+        node = record { is_value = refl; value = v; effect = v };
       })
 
   pub or_built : (at : ℕ) (tables : Tables) (x y : Used) (p q : Part) (told : Told) (z : Built)
@@ -347,11 +381,11 @@ module _ (numbering : Numbering) where
       (x.told.faults ++ y.told.faults)
       → z ≡ a_value told (expr.Or at x.value y.value) → IsBuilt numbering z (forms.binary at o.LogicalOr p q)
   or_built at tables x y p q told z t h i s is =
-      let v = values.or_value numbering at x.value y.value p q h.worth.value i.worth.value in
+      let v = values.or_value numbering at x.value y.value p q h.value i.value in
       subst (λ z. IsBuilt numbering z (forms.binary at o.LogicalOr p q)) (sym is) (record {
         told = said_binary o.LogicalOr at tables x.told y.told told p.typed q.typed t h.told i.told s;
         rooted = refl;
-        node = record { value = v; effect = v };
+        node = record { is_value = refl; value = v; effect = v };
       })
 
   pub both_built : (op : BinaryOperator) (a : Arithmetic) → types.arithmetic op ≡ Some a → (at : ℕ) (tables : Tables)
@@ -366,14 +400,14 @@ module _ (numbering : Numbering) where
   both_built op a is_one at tables x y p q chosen is_constant told z t h i does s is =
       let e = values.evaluates_both numbering op a is_one at p q in
       let v = subst (λ r. IsValueOf numbering (expr.Operate at chosen is_constant x.value y.value) r) e
-      (pointers.operate_value numbering op a is_one at chosen is_constant x.value y.value p q h.worth.value
-      i.worth.value (operates_on op tables x.told y.told p.typed q.typed chosen t h.told i.told does at)) in
+      (pointers.operate_value numbering op a is_one at chosen is_constant x.value y.value p q h.value
+      i.value (operates_on op tables x.told y.told p.typed q.typed chosen t h.told i.told does at)) in
       subst (λ z. IsBuilt numbering z (forms.binary at op p q)) (sym is)
       (subst (λ r. IsBuilt numbering (a_value told (expr.Operate at chosen is_constant x.value y.value)) r) (sym e)
       (record {
         told = said_binary op at tables x.told y.told told p.typed q.typed t h.told i.told s;
         rooted = refl;
-        node = record { value = v; effect = v };
+        node = record { is_value = refl; value = v; effect = v };
       }))
 
   pub comma_built : (at : ℕ) (x y : Used) (p q : Part) (told : Told) (z : Built)
@@ -382,11 +416,11 @@ module _ (numbering : Numbering) where
       (x.told.faults ++ y.told.faults)
       → z ≡ a_value told (expr.Comma x.value y.value) → IsBuilt numbering z (forms.comma at p q)
   comma_built at x y p q told z h i s is =
-      let v = values.comma_value numbering at x.value y.value p q h.effect i.worth.value in
+      let v = values.comma_value numbering at x.value y.value p q h.effect i.value in
       subst (λ z. IsBuilt numbering z (forms.comma at p q)) (sym is) (record {
         told = said_comma at x.told y.told told p.typed q.typed h.told i.told s;
         rooted = refl;
-        node = record { value = v; effect = v };
+        node = record { is_value = refl; value = v; effect = v };
       })
 
   -- ---- choices and casts
@@ -405,35 +439,34 @@ module _ (numbering : Numbering) where
       let v = values.choice_value numbering at t w.value x.value y.value r p q
       (λ z. converts_same (class_in (type_in told.shown)) n z
       ∙ ap (λ (a : Told). worths.converted_to (class_in (type_in a.shown)) z) said)
-      g.worth.value h.worth.value i.worth.value in
+      g.value h.value i.value in
       subst (λ z. IsBuilt numbering z (forms.choice at r p q)) (sym is) (record {
         told = said;
         rooted = refl;
-        node = record { value = v; effect = v };
+        node = record { is_value = refl; value = v; effect = v };
       })
-
-  operand_does : (cl : Class) (e : Expr) (p : Part) → IsWorthOf numbering e p
-      → Does numbering (value e) p.size p.room (forms.cast_operand cl p)
-  operand_does class.Void e p h = h.effect
-  operand_does (class.Integer kind) e p h = h.value
-  operand_does class.Pointer e p h = h.value
-  operand_does (class.Aggregate number) e p h = h.value
-  operand_does class.Array e p h = h.value
-  operand_does class.Function e p h = h.value
-  operand_does class.Floating e p h = h.value
-  operand_does class.Opaque e p h = h.value
 
   pub cast_built : (at : ℕ) (named : NamedType) (faults : List Fault) (x : Used) (p : Part) (told : Told)
       (y : Built)
-      → IsUsed numbering x p → told ≡ says.cast_over at named x.told.shown (faults ++ x.told.faults)
+      → IsCastOperand numbering (forms.named_class named) x p
+      → told ≡ says.cast_over at named x.told.shown (faults ++ x.told.faults)
       → y ≡ a_value told (expr.Cast (cast_type named) x.value)
       → IsBuilt numbering y (forms.cast at named faults p)
   cast_built at named faults x p told y h s is =
       let v = values.cast_value numbering (cast_type named) (forms.named_class named) (says.cast at named faults p.typed)
-      x.value p (λ z. converts_same (forms.named_class named) 0 z)
-      (operand_does (forms.named_class named) x.value p h.worth) in
+      x.value p (λ z. converts_same (forms.named_class named) 0 z) h.does in
       subst (λ y. IsBuilt numbering y (forms.cast at named faults p)) (sym is) (record {
         told = said_cast at named faults x.told told p.typed h.told s;
         rooted = refl;
-        node = record { value = v; effect = v };
+        node = record { is_value = refl; value = v; effect = v };
       })
+
+  -- ---- conversions as by assignment
+
+  pub converted_does : (tables : Tables) (t : Option CType) (e : Expr) (p : Part) → IsValueOf numbering e p
+      → IsConverted numbering (expr.Convert (type_as tables t) e) p t
+  converted_does tables t e p h =
+      values.by_worth numbering _ _ _ _ _ (eq.worth-Convert (type_as tables t) e)
+      (values.between_does numbering (value e) p.size p.room p.run _
+      (λ z d. Ok (worths.converted_to (class_in t) z, d)) h
+      (λ z d. ap (λ n. as_found (Ok (n, d))) (converts_same (class_in t) (bytes_of tables t) z)))

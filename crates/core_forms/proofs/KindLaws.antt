@@ -1,5 +1,6 @@
 -- Types of the core for those that parts have.
 use Rattle.std.proofs.Common.{◌≡◌, ℕ, ℤ, Bool, List, [], ◌∷◌, Option, Some, None, refl, sym, ap, ap₂, ◌∙◌, subst}
+use Rattle.std.specs.Prelude.{unsigned_abs}
 use Rattle.c_tree.specs.declared.expr.BinaryOperator.{BinaryOperator}
 use Rattle.c_type_terms.specs.declared.class.Class.{Class}
 use Rattle.c_type_terms.specs.declared.class.Class.TheVariants as class
@@ -12,11 +13,13 @@ use Rattle.c_type_terms.specs.declared.ctype.IntegerKind.{IntegerKind}
 use Rattle.c_type_terms.specs.declared.ctype.IntegerKind.TheVariants as k
 use Rattle.c_type_terms.specs.declared.ctype.Qualifiers.{Qualifiers}
 use Rattle.c_type_terms.specs.declared.tables.Tables.{Tables}
+use Rattle.c_type_terms.specs.Integers.{bytes_of as kind_bytes}
 use Rattle.c_type_terms.specs.Layouts.{size_of}
 use Rattle.c_type_terms.specs.Types.{class_of}
 use Rattle.c_says.specs.declared.shown.Shown.{Shown}
 use Rattle.c_says.specs.declared.shown.Told.{Told}
 use Rattle.c_says.specs.Typing.{Typed, type_of, type_in, told_of, used_told}
+use Rattle.c_means.specs.Expressions.{part_of_value}
 use Rattle.c_means.specs.Parts.{State}
 use Rattle.c_means.specs.Values as values
 use Rattle.c_means.specs.Values.{class_in, bytes_of, bytes_as}
@@ -73,7 +76,7 @@ same_scalar class.Floating size t e = absurd (none_some e)
 same_scalar class.Opaque size t e = absurd (none_some e)
 
 -- an lvalue's type
-stored_same : (tables : Tables) (o : Option CType) (t : ValueType) → stored_in (class_in o) (bytes_of tables o) ≡ Some t
+pub stored_same : (tables : Tables) (o : Option CType) (t : ValueType) → stored_in (class_in o) (bytes_of tables o) ≡ Some t
     → SameType (class_in o) (bytes_of tables o) t
 stored_same tables None t e = absurd (none_some e)
 stored_same tables (Some c) t e = same_stored (class_of c) (size_of tables c) t e
@@ -115,6 +118,57 @@ converts_same class.Function n z = refl
 converts_same class.Void n z = refl
 converts_same class.Floating n z = refl
 converts_same class.Opaque n z = refl
+
+-- ---- bytes of a value
+
+integer_bytes : (kind : IntegerKind) (offset n : ℕ)
+    → numbers.value_of_bytes (integer_type kind) (values.bytes_within offset (numbers.size_of (integer_type kind)) n)
+    ≡ values.value_of_bytes (class.Integer kind) (values.bytes_within offset (kind_bytes kind) n)
+integer_bytes k.Bool offset n = refl
+integer_bytes k.Char offset n = refl
+integer_bytes k.SignedChar offset n = refl
+integer_bytes k.UnsignedChar offset n = refl
+integer_bytes k.Short offset n = refl
+integer_bytes k.UnsignedShort offset n = refl
+integer_bytes k.Int offset n = refl
+integer_bytes k.UnsignedInt offset n = refl
+integer_bytes k.Long offset n = refl
+integer_bytes k.UnsignedLong offset n = refl
+integer_bytes k.LongLong offset n = refl
+integer_bytes k.UnsignedLongLong offset n = refl
+
+class_bytes : (c : Class) (size : Option ℕ) (t : ValueType) (offset n : ℕ) → stored_in c (bytes_as c size) ≡ Some t
+    → numbers.value_of_bytes t (values.bytes_within offset (numbers.size_of t) n)
+    ≡ values.value_of_bytes c (values.bytes_within offset (bytes_as c size) n)
+class_bytes (class.Integer kind) size t offset n e =
+    subst (λ t. numbers.value_of_bytes t (values.bytes_within offset (numbers.size_of t) n)
+    ≡ values.value_of_bytes (class.Integer kind) (values.bytes_within offset (kind_bytes kind) n))
+    (some_same (integer_type kind) t e) (integer_bytes kind offset n)
+class_bytes class.Pointer size t offset n e =
+    subst (λ t. numbers.value_of_bytes t (values.bytes_within offset (numbers.size_of t) n)
+    ≡ values.value_of_bytes class.Pointer (values.bytes_within offset 8 n)) (some_same v.Pointer t e) refl
+class_bytes (class.Aggregate number) size t offset n e = let m = bytes_as (class.Aggregate number) size in
+    subst (λ t. numbers.value_of_bytes t (values.bytes_within offset (numbers.size_of t) n)
+    ≡ values.value_of_bytes (class.Aggregate number) (values.bytes_within offset m n))
+    (some_same (v.Block m) t e) refl
+class_bytes class.Array size t offset n e = absurd (none_some e)
+class_bytes class.Function size t offset n e = absurd (none_some e)
+class_bytes class.Void size t offset n e = absurd (none_some e)
+class_bytes class.Floating size t offset n e = absurd (none_some e)
+class_bytes class.Opaque size t offset n e = absurd (none_some e)
+
+bytes_same : (tables : Tables) (o : Option CType) (t : ValueType) (offset n : ℕ)
+    → stored_in (class_in o) (bytes_of tables o) ≡ Some t
+    → numbers.value_of_bytes t (values.bytes_within offset (numbers.size_of t) n)
+    ≡ values.value_of_bytes (class_in o) (values.bytes_within offset (bytes_of tables o) n)
+bytes_same tables None t offset n e = absurd (none_some e)
+bytes_same tables (Some c) t offset n e = class_bytes (class_of c) (size_of tables c) t offset n e
+
+pub extracts_same : (x : Typed) (offset : ℕ) (t : ValueType)
+    → stored_in (class_in (type_of x)) (bytes_of x.after.tables (type_of x)) ≡ Some t → (z : ℤ)
+    → numbers.value_of_bytes t (values.bytes_within offset (numbers.size_of t) (unsigned_abs z))
+    ≡ part_of_value offset x z
+extracts_same x offset t e z = bytes_same x.after.tables (type_of x) t offset (unsigned_abs z) e
 
 -- ---- operands
 

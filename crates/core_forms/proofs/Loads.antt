@@ -1,5 +1,5 @@
 -- The core of a part's value.
-use Rattle.std.proofs.Common.{◌≡◌, ℕ, Bool, Option, Some, None, refl, sym, ap, ap₂, ◌∙◌, subst}
+use Rattle.std.proofs.Common.{◌≡◌, ℕ, ℤ, Bool, true, false, Option, Some, None, refl, sym, ap, ap₂, ◌∙◌, subst}
 use Rattle.std.specs.Prelude.{not}
 use Rattle.c_type_terms.specs.declared.class.Class.{Class}
 use Rattle.c_type_terms.specs.declared.class.Class.TheVariants as class
@@ -13,15 +13,17 @@ use Rattle.c_means.specs.Values.{class_in, bytes_of}
 use Rattle.core_tree.specs.declared.expr.Expr.{Expr}
 use Rattle.core_tree.specs.declared.expr.Expr.TheVariants as expr
 use Rattle.core_tree.specs.declared.types.ValueType.TheVariants as v
+use Rattle.core_tree.specs.Values.{value}
 use Rattle.elaborate.specs.Types.{integer_type}
 use Rattle.core_forms.specs.declared.built.Used.{Used}
 use Rattle.elaborate.specs.Means.{Numbering, Does, IsValueOf, IsAddressOf, OfType}
 use Rattle.elaborate.proofs.Values.{loaded_value, array_value, function_value, void_value, rerun}
 use Rattle.core_forms.specs.declared.built.Built.{Built}
+use Rattle.core_forms.specs.declared.built.Call.{Call}
 use Rattle.core_forms.specs.declared.built.Node.{Node}
 use Rattle.core_forms.specs.declared.built.Node.TheVariants as node
-use Rattle.core_forms.specs.Nodes.{read_node, stored_in, loaded, value_node, HasValue}
-use Rattle.core_forms.specs.Built.{IsPlaceOf, IsWorthOf, IsBuilt, IsUsed, IsDiscarded}
+use Rattle.core_forms.specs.Nodes.{read_node, stored_in, loaded, call_node, is_cast_of_used, worth_node, HasWorth}
+use Rattle.core_forms.specs.Built.{IsPlaceOf, IsWorthOf, IsAnswerOf, IsBuilt, IsUsed, IsDiscarded, IsCastOperand}
 use Rattle.core_forms.proofs.KindLaws.{of_stored, some_same, none_some}
 
 -- an lvalue, as a form of its own
@@ -58,33 +60,73 @@ module _ (numbering : Numbering) (p : Part) (e : Expr) (address : IsAddressOf nu
   read_by class.Floating f is same = absurd (none_some (sym same))
   read_by class.Opaque f is same = absurd (none_some (sym same))
 
+-- what a part does, whose value is used or not
+abbrev run_as : Bool → Part → c.Level → c.Run ℤ
+run_as true p = p.run
+run_as false p = p.effect
+
 module _ (numbering : Numbering) (p : Part) (tables : Tables) where
+  abbrev IsWorth : Bool → Expr → Type 0
+  IsWorth used f = Does numbering (value f) p.size p.room (run_as used p)
+
+  of_worth : (used : Bool) (e : Expr) → IsWorthOf numbering e p → IsWorth used e
+  of_worth true e h = h.value
+  of_worth false e h = h.effect
+
+  of_answer : (used : Bool) (c : Call) → IsAnswerOf numbering c p → IsWorth used (call_node c used)
+  of_answer true c h = h.value
+  of_answer false c h = h.effect
+
+  of_place : (used : Bool) (f e : Expr) → IsPlaceOf numbering e p → IsValueOf numbering f (place_of p) → IsWorth used f
+  of_place true f e h w = rerun numbering _ _ _ _ _ w h.value
+  of_place false f e h w = rerun numbering _ _ _ _ _ w h.effect
+
   -- the value of a part, by what is told of it
-  by_node : (told : Told) (rooted : Bool) (n : Node) (f : Expr) → tables ≡ p.typed.after.tables
+  by_node : (used : Bool) (told : Told) (rooted : Bool) (n : Node) (f : Expr) → tables ≡ p.typed.after.tables
       → IsBuilt numbering (record { told = told; rooted = rooted; node = n }) p
-      → Some f ≡ value_node tables told rooted n → IsWorthOf numbering f p
-  by_node told rooted (node.Value e) f t h same = subst (λ n. IsWorthOf numbering n p) (sym (some_same f e same)) h.node
-  by_node told rooted (node.Place e) f t h same =
+      → Some f ≡ worth_node used tables told rooted n → IsWorth used f
+  by_node used told rooted (node.Value e) f t h same =
+      subst (λ n. IsWorth used n) (sym (some_same f e same)) (of_worth used e h.node)
+  by_node used told rooted (node.Call c) f t h same =
+      subst (λ n. IsWorth used n) (sym (some_same f (call_node c used) same)) (of_answer used c h.node)
+  by_node used told rooted (node.Place e) f t h same =
       let is = same
       ∙ ap₂ (λ (a : Told) b. read_node (class_in (type_in a.shown)) (bytes_of tables (type_in a.shown)) a.at b e)
       h.told h.rooted
       ∙ ap (λ a. read_node (class_in (type_of p.typed)) (bytes_of a (type_of p.typed)) p.typed.at p.rooted e) t in
       let w = read_by numbering p e h.node.address (class_in (type_of p.typed)) f refl is in
-      record {
-        value = rerun numbering _ _ _ _ _ w h.node.value;
-        effect = rerun numbering _ _ _ _ _ w h.node.effect;
-      }
+      of_place used f e h.node w
 
   pub is_used : (x : Built) (y : Used) → tables ≡ p.typed.after.tables → IsBuilt numbering x p
-      → HasValue tables x (used_told tables x.told) y → IsUsed numbering y p
+      → HasWorth true tables x (used_told tables x.told) y → IsUsed numbering y p
   is_used x y t h m = record {
     told = m.told ∙ ap₂ used_told t h.told;
-    worth = by_node x.told x.rooted x.node y.value t h m.value;
+    value = by_node true x.told x.rooted x.node y.value t h m.value;
   }
 
   pub is_discarded : (x : Built) (y : Used) → tables ≡ p.typed.after.tables → IsBuilt numbering x p
-      → HasValue tables x x.told y → IsDiscarded numbering y p
-  is_discarded x y t h m = let w = by_node x.told x.rooted x.node y.value t h m.value in record {
+      → HasWorth false tables x x.told y → IsDiscarded numbering y p
+  is_discarded x y t h m = record {
     told = m.told ∙ h.told;
-    effect = w.effect;
+    effect = by_node false x.told x.rooted x.node y.value t h m.value;
+  }
+
+  -- ---- the operand of a cast
+
+  for_cast : (cl : Class) (e : Expr) → IsWorth (is_cast_of_used cl) e
+      → Does numbering (value e) p.size p.room (forms.cast_operand cl p)
+  for_cast class.Void e h = h
+  for_cast (class.Integer kind) e h = h
+  for_cast class.Pointer e h = h
+  for_cast (class.Aggregate number) e h = h
+  for_cast class.Array e h = h
+  for_cast class.Function e h = h
+  for_cast class.Floating e h = h
+  for_cast class.Opaque e h = h
+
+  pub is_cast_operand : (cl : Class) (x : Built) (y : Used) → tables ≡ p.typed.after.tables → IsBuilt numbering x p
+      → HasWorth (is_cast_of_used cl) tables x (used_told tables x.told) y → IsCastOperand numbering cl y p
+  is_cast_operand cl x y t h m = record {
+    told = m.told ∙ ap₂ used_told t h.told;
+    does = for_cast cl y.value (by_node (is_cast_of_used cl) x.told x.rooted x.node y.value t h m.value);
   }

@@ -1,19 +1,25 @@
 -- What it is to be the core of a part of an expression, with what the types say of the part.
-use Rattle.std.specs.Prelude.{◌≡◌, ℕ, true}
+use Rattle.std.specs.Prelude.{◌≡◌, ℕ, true, false, Option, Ok}
+use Rattle.c_type_terms.specs.declared.class.Class.{Class}
+use Rattle.c_type_terms.specs.declared.ctype.CType.{CType}
 use Rattle.c_says.specs.Typing.{told_of, used_told}
 use Rattle.c_means.specs.Parts.{State, Env, Part}
 use Rattle.c_means.specs.Parts as c
 use Rattle.c_tree.specs.declared.expr.BinaryOperator.{BinaryOperator}
 use Rattle.c_tree.specs.declared.expr.UnaryOperator.{UnaryOperator}
-use Rattle.c_means.specs.Expressions.{loading, postfix_by, prefix}
+use Rattle.c_means.specs.Expressions.{cast_operand, loading, postfix_by, prefix}
+use Rattle.c_means.specs.Values.{class_in, converted_to}
 use Rattle.core_tree.specs.declared.types.Answered.{Answered}
 use Rattle.core_tree.specs.declared.types.Answered.TheVariants as answered
 use Rattle.core_tree.specs.declared.expr.Expr.{Expr}
-use Rattle.elaborate.specs.Means.{Numbering, IsValueOf, IsAddressOf, IsEffectOf}
+use Rattle.core_tree.specs.Values.{value}
+use Rattle.elaborate.specs.Means.{Numbering, Does, IsValueOf, IsAddressOf, IsEffectOf}
 use Rattle.core_forms.specs.declared.built.Built.{Built}
+use Rattle.core_forms.specs.declared.built.Call.{Call}
 use Rattle.core_forms.specs.declared.built.Node.{Node}
 use Rattle.core_forms.specs.declared.built.Node.TheVariants as node
 use Rattle.core_forms.specs.declared.built.Used.{Used}
+use Rattle.core_forms.specs.Nodes.{call_node}
 
 -- the core of an lvalue or function, whose value is what stands at its address
 pub record IsPlaceOf (numbering : Numbering) (e : Expr) (p : Part) : Type 0 where
@@ -26,12 +32,20 @@ pub record IsPlaceOf (numbering : Numbering) (e : Expr) (p : Part) : Type 0 wher
 
 -- the core of a value, which does the same where the value isn't used
 pub record IsWorthOf (numbering : Numbering) (e : Expr) (p : Part) : Type 0 where
+  pub is_value : p.is_place ≡ false
   pub value : IsValueOf numbering e p
   pub effect : IsEffectOf numbering e p
+
+-- the core of a call, which need not answer where its value isn't used (C99 6.9.1p12)
+pub record IsAnswerOf (numbering : Numbering) (c : Call) (p : Part) : Type 0 where
+  pub is_value : p.is_place ≡ false
+  pub value : IsValueOf numbering (call_node c true) p
+  pub effect : IsEffectOf numbering (call_node c false) p
 
 abbrev pub IsNodeOf : Numbering → Node → Part → Type 0
 IsNodeOf numbering (node.Place e) p = IsPlaceOf numbering e p
 IsNodeOf numbering (node.Value e) p = IsWorthOf numbering e p
+IsNodeOf numbering (node.Call c) p = IsAnswerOf numbering c p
 
 pub record IsBuilt (numbering : Numbering) (x : Built) (p : Part) : Type 0 where
   pub told : x.told ≡ told_of p.typed
@@ -41,12 +55,23 @@ pub record IsBuilt (numbering : Numbering) (x : Built) (p : Part) : Type 0 where
 -- a part as an operand
 pub record IsUsed (numbering : Numbering) (x : Used) (p : Part) : Type 0 where
   pub told : x.told ≡ used_told p.typed.after.tables (told_of p.typed)
-  pub worth : IsWorthOf numbering x.value p
+  pub value : IsValueOf numbering x.value p
 
 -- a part whose value isn't used
 pub record IsDiscarded (numbering : Numbering) (x : Used) (p : Part) : Type 0 where
   pub told : x.told ≡ told_of p.typed
   pub effect : IsEffectOf numbering x.value p
+
+-- a part as the operand of a cast to a type of this class
+pub record IsCastOperand (numbering : Numbering) (cl : Class) (x : Used) (p : Part) : Type 0 where
+  pub told : x.told ≡ used_told p.typed.after.tables (told_of p.typed)
+  pub does : Does numbering (value x.value) p.size p.room (cast_operand cl p)
+
+-- a part's value, converted to a type as by assignment (C99 6.5.16.1p2)
+abbrev pub IsConverted : Numbering → Expr → Part → Option CType → Type 0
+IsConverted numbering e p t =
+    Does numbering (value e) p.size p.room
+    (λ l env base d. c.◌>>=◌ (p.run l env base d) (λ v. Ok (converted_to (class_in t) v.0, v.1)))
 
 -- ---- `++` and `--`
 

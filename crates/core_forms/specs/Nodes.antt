@@ -6,6 +6,7 @@ use Rattle.c_tree.specs.declared.expr.PostfixOperator.{PostfixOperator}
 use Rattle.c_tree.specs.declared.expr.PostfixOperator.TheVariants as after
 use Rattle.c_type_terms.specs.declared.class.Class.{Class}
 use Rattle.c_type_terms.specs.declared.class.Class.TheVariants as class
+use Rattle.c_type_terms.specs.declared.ctype.CType.{CType}
 use Rattle.c_type_terms.specs.declared.ctype.IntegerKind.{IntegerKind}
 use Rattle.c_type_terms.specs.declared.ctype.IntegerKind.TheVariants as k
 use Rattle.c_type_terms.specs.declared.tables.Tables.{Tables}
@@ -32,6 +33,7 @@ use Rattle.elaborate.specs.declared.operators.OperandType.{OperandType}
 use Rattle.elaborate.specs.Operators.{operator_of}
 use Rattle.elaborate.specs.Types.{integer_type, word_type, value_type}
 use Rattle.core_forms.specs.declared.built.Built.{Built}
+use Rattle.core_forms.specs.declared.built.Call.{Call}
 use Rattle.core_forms.specs.declared.built.Node.{Node}
 use Rattle.core_forms.specs.declared.built.Node.TheVariants as node
 use Rattle.core_forms.specs.declared.built.Used.{Used}
@@ -56,9 +58,13 @@ pub record Makes (y : Built) (said : Told) (root : Bool) (n : Option Node) : Typ
 abbrev pub is_constant : Told → Bool
 is_constant x = is_some (value_in x.shown)
 
--- the type of the core of a value
+-- the type of the core of a value of a type
+abbrev pub type_as : Tables → Option CType → ValueType
+type_as tables t = value_type (class_in t) (bytes_of tables t)
+
+-- of the type that an expression has
 abbrev pub type_by : Tables → Told → ValueType
-type_by tables x = value_type (class_in (type_in x.shown)) (bytes_of tables (type_in x.shown))
+type_by tables x = type_as tables (type_in x.shown)
 
 -- the type of the core of a cast to a named type: no structure is cast to, so its bytes are of no account
 abbrev pub cast_type : NamedType → ValueType
@@ -122,15 +128,26 @@ read_node class.Void n at rooted e = Some (expr.Convert v.Void e)
 read_node class.Floating n at rooted e = None
 read_node class.Opaque n at rooted e = None
 
-abbrev pub value_node : Tables → Told → Bool → Node → Option Expr
-value_node tables x rooted (node.Value e) = Some e
-value_node tables x rooted (node.Place e) =
+-- a call, whose answer is used or not
+abbrev pub call_node : Call → Bool → Expr
+call_node c used = expr.Call c.at c.arguments c.callee c.answer used
+
+-- the value of a part, which is used or not
+abbrev pub worth_node : Bool → Tables → Told → Bool → Node → Option Expr
+worth_node used tables x rooted (node.Value e) = Some e
+worth_node used tables x rooted (node.Place e) =
     read_node (class_in (type_in x.shown)) (bytes_of tables (type_in x.shown)) x.at rooted e
+worth_node used tables x rooted (node.Call c) = Some (call_node c used)
 
 -- a part with the core of its value
-pub record HasValue (tables : Tables) (x : Built) (said : Told) (y : Used) : Type 0 where
+pub record HasWorth (used : Bool) (tables : Tables) (x : Built) (said : Told) (y : Used) : Type 0 where
   pub told : y.told ≡ said
-  pub value : Some y.value ≡ value_node tables x.told x.rooted x.node
+  pub value : Some y.value ≡ worth_node used tables x.told x.rooted x.node
+
+-- what is cast to void isn't used (C99 6.3.2.2)
+abbrev pub is_cast_of_used : Class → Bool
+is_cast_of_used class.Void = false
+is_cast_of_used c = true
 
 -- ---- names
 
@@ -185,28 +202,43 @@ binary_node at op tables constant x y =
 abbrev pub pointer_node : Node → Option Node
 pointer_node (node.Place e) = Some (node.Value (expr.Pointer e))
 pointer_node (node.Value e) = None
+pointer_node (node.Call c) = None
 
 abbrev pub target_of_sum : ℕ → Option Operator → Expr → Expr → Option Node
 target_of_sum at None e f = None
 target_of_sum at (Some operator) e f =
     Some (node.Place (expr.Convert v.Pointer (expr.Operate at operator false e f)))
 
--- of an lvalue: a member of a value that is none has no node yet
-abbrev pub member_node : ℕ → Node → Option Node
-member_node bytes (node.Place e) = Some (node.Place (expr.Offset bytes e))
-member_node bytes (node.Value e) = None
+-- some bytes of a value, of a type in which an object is stored
+abbrev pub extracted_node : ℕ → Option ValueType → Expr → Option Node
+extracted_node bytes None e = None
+extracted_node bytes (Some t) e = Some (node.Value (expr.Extract bytes t e))
+
+-- of an lvalue, else of a value
+abbrev pub member_node : ℕ → Option ValueType → Node → Option Node
+member_node bytes t (node.Place e) = Some (node.Place (expr.Offset bytes e))
+member_node bytes t (node.Value e) = extracted_node bytes t e
+member_node bytes t (node.Call c) = extracted_node bytes t (call_node c true)
+
+-- a member of an lvalue has its root
+abbrev pub member_rooted : Bool → Node → Bool
+member_rooted rooted (node.Place e) = rooted
+member_rooted rooted (node.Value e) = false
+member_rooted rooted (node.Call c) = false
 
 -- ---- assignment
 
 abbrev pub stored_node : ℕ → Told → Bool → Option ValueType → Node → Expr → Option Node
 stored_node at x rooted (Some t) (node.Place e) f = Some (node.Value (expr.Store at (access_by x rooted t) e f))
 stored_node at x rooted (Some t) (node.Value e) f = None
+stored_node at x rooted (Some t) (node.Call c) f = None
 stored_node at x rooted None n f = None
 
 abbrev pub updated_node : ℕ → Told → Bool → Option ValueType → Option Operator → Node → Expr → Option Node
 updated_node at x rooted (Some t) (Some operator) (node.Place e) f =
     Some (node.Value (expr.Update at operator (access_by x rooted t) e f))
 updated_node at x rooted (Some t) (Some operator) (node.Value e) f = None
+updated_node at x rooted (Some t) (Some operator) (node.Call c) f = None
 updated_node at x rooted (Some t) None n f = None
 updated_node at x rooted None q n f = None
 
@@ -214,6 +246,7 @@ abbrev pub step_node : ℕ → Answered → Told → Bool → Option ValueType �
 step_node at answer x rooted (Some t) (Some operator) (node.Place e) =
     Some (expr.Step at operator (access_by x rooted t) answer e)
 step_node at answer x rooted (Some t) (Some operator) (node.Value e) = None
+step_node at answer x rooted (Some t) (Some operator) (node.Call c) = None
 step_node at answer x rooted (Some t) None n = None
 step_node at answer x rooted None q n = None
 

@@ -9,11 +9,11 @@ ghost use Rattle.c_means.specs.Operators.{target_in};
 ghost use Rattle.core_tree.specs.declared.expr.Expr.TheVariants as expr;
 ghost use Rattle.core_tree.specs.declared.types.ValueType.TheVariants as v;
 ghost use Rattle.elaborate.specs.Operators as operators;
-ghost use Rattle.core_forms.specs.Nodes.{Makes, a_place, member_node, operand_by, pointer_node, target_of_sum};
+ghost use Rattle.core_forms.specs.Nodes.{Makes, a_place, extracted_node, member_node, member_rooted, operand_by, pointer_node, stored_by, target_of_sum};
 
-use crate::built::{Built, Node, Used, placed, valued};
+use crate::built::{Built, Node, Used, called, placed, valued};
 use crate::failure::NoCore;
-use crate::types::operand_type;
+use crate::types::{operand_type, stored_type};
 use c_lexer::Name;
 use c_says::Told;
 use c_tree::{BinaryOperator, UnaryOperator};
@@ -35,6 +35,7 @@ pub fn address_of(alloc: Global, tables: &Tables, at: u32, x: Built) -> Result<B
             Ok(valued(alloc, told, Expr::Pointer { operand })?)
         }
         Node::Value(_) => Err(NoCore::Outside),
+        Node::Call(_) => Err(NoCore::Outside),
     }
 }
 
@@ -98,7 +99,30 @@ fn member_offset(tables: &Tables, told: &Told, name: &Name) -> u64
     }
 }
 
-/// `object.member` of what has an address (C99 6.5.2.3p3).
+/// Some bytes of a value, of the type that is told.
+fn extracted(
+    alloc: Global,
+    tables: &Tables,
+    told: Told,
+    bytes: u64,
+    operand: Shared<Expr>,
+) -> Result<Built, NoCore>
+    ensures { IfOk result (λ y. Makes y told false (extracted_node bytes (stored_by tables.now told) operand)) }
+{
+    match stored_type(tables, &told) {
+        Some(member) => {
+            let node = Expr::Extract {
+                bytes,
+                member,
+                operand,
+            };
+            Ok(valued(alloc, told, node)?)
+        }
+        None => Err(NoCore::Outside),
+    }
+}
+
+/// `object.member`: of what has an address the address, else some bytes of the value (C99 6.5.2.3p3).
 pub fn member(
     alloc: Global,
     tables: &Tables,
@@ -106,17 +130,19 @@ pub fn member(
     name: &Name,
     x: Built,
 ) -> Result<Built, NoCore>
-    ensures { IfOk result (λ y. Makes y (says.node_over at x.told.shown (says.member_shown_of tables.now name.now) x.told.faults) x.rooted
-        (member_node (form.offset_of tables.now (type_in x.told.shown) name.now) x.node)) }
+    ensures { let told = says.node_over at x.told.shown (says.member_shown_of tables.now name.now) x.told.faults in
+        IfOk result (λ y. Makes y told (member_rooted x.rooted x.node) (member_node (form.offset_of tables.now (type_in x.told.shown) name.now) (stored_by tables.now told) x.node)) }
 {
     let Built { told, rooted, node } = x;
+    let bytes = member_offset(tables, &told, name);
+    let told = forms::member(alloc, tables, at, name, told)?;
     match node {
-        Node::Place(operand) => {
-            let bytes = member_offset(tables, &told, name);
-            let told = forms::member(alloc, tables, at, name, told)?;
-            Ok(placed(alloc, told, rooted, Expr::Offset { bytes, operand })?)
+        Node::Place(operand) => Ok(placed(alloc, told, rooted, Expr::Offset { bytes, operand })?),
+        Node::Value(value) => extracted(alloc, tables, told, bytes, value),
+        Node::Call(call) => {
+            let value = called(alloc, call, true)?;
+            extracted(alloc, tables, told, bytes, value)
         }
-        Node::Value(_) => Err(NoCore::Outside),
     }
 }
 

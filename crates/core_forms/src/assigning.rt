@@ -53,6 +53,7 @@ pub fn simple(alloc: Global, tables: &Tables, at: u32, x: Built, y: Used) -> Res
             Ok(valued(alloc, told, node)?)
         }
         Node::Value(_) => Err(NoCore::Outside),
+        Node::Call(_) => Err(NoCore::Outside),
     }
 }
 
@@ -92,6 +93,7 @@ pub fn compound(
             Ok(valued(alloc, told, node)?)
         }
         Node::Value(_) => Err(NoCore::Outside),
+        Node::Call(_) => Err(NoCore::Outside),
     }
 }
 
@@ -131,6 +133,7 @@ fn step(
             Ok(Shared::new(alloc, node)?)
         }
         Node::Value(_) => Err(NoCore::Outside),
+        Node::Call(_) => Err(NoCore::Outside),
     }
 }
 

@@ -1,23 +1,33 @@
 //! What parts of expressions are in the core, and their values (C99 6.3.2.1).
-ghost use Rattle.std.specs.Prelude.{◌≡◌, Some, IfOk};
+ghost use Rattle.std.specs.Prelude.{◌≡◌, true, false, Some, IfOk};
 ghost use Rattle.c_says.specs.Typing.{used_told};
-ghost use Rattle.core_forms.specs.Nodes.{a_value, a_place, loaded, read_node, value_node, HasValue};
+ghost use Rattle.core_forms.specs.Nodes.{a_value, a_place, call_node, loaded, read_node, worth_node, HasWorth};
 
 use crate::failure::NoCore;
 use crate::types::{bytes_in, class_of};
 use c_says::Told;
 use c_type_forms as forms;
 use c_type_terms::{Class, Tables};
-use core_tree::{Access, Expr, ValueType};
+use core_tree::{Access, Callee, Expr, ValueType};
 use elaborate::value_type;
-use plain_data::Shared;
+use plain_data::{Items, Shared};
 use std::alloc::{AllocError, Global};
 
-/// The core of a part: of its address, where it is an lvalue or a function, else of its value.
+/// A call, of which it isn't said yet whether its answer is used.
+#[derive(Drop)]
+pub struct Call {
+    pub at: u32,
+    pub arguments: Items<Shared<Expr>>,
+    pub callee: Callee,
+    pub answer: ValueType,
+}
+
+/// The core of a part: of its address, where it is an lvalue or a function, else of its value; or the call that it is.
 #[derive(Drop)]
 pub enum Node {
     Place(Shared<Expr>),
     Value(Shared<Expr>),
+    Call(Call),
 }
 
 /// A part of an expression: what the types say of it, whether the root of the lvalue that it is is a name, and its core.
@@ -113,18 +123,40 @@ fn read(
     }
 }
 
-/// The core of a part's value.
-fn value_of(
+/// The core of a call, whose answer is used or not. It fails for want of memory alone.
+pub(crate) fn called(alloc: Global, call: Call, is_used: bool) -> Result<Shared<Expr>, AllocError>
+    ensures { IfOk result (λ e. e ≡ call_node call is_used) }
+{
+    let Call {
+        at,
+        arguments,
+        callee,
+        answer,
+    } = call;
+    let node = Expr::Call {
+        at,
+        arguments,
+        callee,
+        answer,
+        is_used,
+    };
+    Shared::new(alloc, node)
+}
+
+/// The core of a part's value, which is used or not.
+pub(crate) fn value_of(
     alloc: Global,
     tables: &Tables,
     told: &Told,
     rooted: bool,
     node: Node,
+    is_used: bool,
 ) -> Result<Shared<Expr>, NoCore>
-    ensures { IfOk result (λ e. Some e ≡ value_node tables.now told.now rooted node) }
+    ensures { IfOk result (λ e. Some e ≡ worth_node is_used tables.now told.now rooted node) }
 {
     match node {
         Node::Value(value) => Ok(value),
+        Node::Call(call) => Ok(called(alloc, call, is_used)?),
         Node::Place(address) => read(
             alloc,
             class_of(told),
@@ -138,19 +170,19 @@ fn value_of(
 
 /// A part as an operand, in the names in force behind it (C99 6.3.2.1p2 to p4).
 pub fn operand(alloc: Global, tables: &Tables, x: Built) -> Result<Used, NoCore>
-    ensures { IfOk result (λ y. HasValue tables.now x (used_told tables.now x.told) y) }
+    ensures { IfOk result (λ y. HasWorth true tables.now x (used_told tables.now x.told) y) }
 {
     let Built { told, rooted, node } = x;
-    let value = value_of(alloc, tables, &told, rooted, node)?;
+    let value = value_of(alloc, tables, &told, rooted, node, true)?;
     let told = forms::used(alloc, tables, told)?;
     Ok(Used { told, value })
 }
 
 /// A part whose value isn't used, in the names in force behind it: what the types say of it as it stands.
 pub fn discarded(alloc: Global, tables: &Tables, x: Built) -> Result<Used, NoCore>
-    ensures { IfOk result (λ y. HasValue tables.now x x.told y) }
+    ensures { IfOk result (λ y. HasWorth false tables.now x x.told y) }
 {
     let Built { told, rooted, node } = x;
-    let value = value_of(alloc, tables, &told, rooted, node)?;
+    let value = value_of(alloc, tables, &told, rooted, node, false)?;
     Ok(Used { told, value })
 }

@@ -3,10 +3,12 @@ ghost use Rattle.std.specs.Prelude.{◌≡◌, ◌++◌, IfOk};
 ghost use Rattle.c_says.specs.Typing as says;
 ghost use Rattle.c_means.specs.Expressions as form;
 ghost use Rattle.core_tree.specs.declared.expr.Expr.TheVariants as expr;
-ghost use Rattle.core_forms.specs.Nodes.{a_value, cast_type, type_by};
+ghost use Rattle.core_forms.specs.Nodes as nodes;
+ghost use Rattle.core_forms.specs.Nodes.{a_value, cast_type, type_by, HasWorth};
 
-use crate::built::{Built, Used, valued};
-use crate::types::type_of;
+use crate::built::{Built, Used, value_of, valued};
+use crate::failure::NoCore;
+use crate::types::{type_as, type_of};
 use c_says::{Fault, Rule};
 use c_type_forms as forms;
 use c_type_terms::{CType, Class, Tables};
@@ -52,6 +54,16 @@ pub fn choice(
     valued(alloc, told, node)
 }
 
+/// Whether the value of what is cast to a type of this class is used.
+fn is_cast_of_used(class: Class) -> bool
+    ensures { result ≡ nodes.is_cast_of_used class }
+{
+    match class {
+        Class::Void => false,
+        _ => true,
+    }
+}
+
 /// The class of a named type, as which a cast to it is evaluated.
 fn named_class(named: &Option<Result<CType, Rule>>) -> Class
     ensures { result ≡ form.named_class named.now }
@@ -61,6 +73,22 @@ fn named_class(named: &Option<Result<CType, Rule>>) -> Class
         Some(Err(_)) => Class::Void,
         None => Class::Void,
     }
+}
+
+/// A part as the operand of a cast to a named type: of one to void, the value isn't used (C99 6.3.2.2).
+pub fn cast_operand(
+    alloc: Global,
+    tables: &Tables,
+    named: &Option<Result<CType, Rule>>,
+    x: Built,
+) -> Result<Used, NoCore>
+    ensures { IfOk result (λ y. HasWorth (nodes.is_cast_of_used (form.named_class named.now)) tables.now x (says.used_told tables.now x.told) y) }
+{
+    let Built { told, rooted, node } = x;
+    let is_used = is_cast_of_used(named_class(named));
+    let value = value_of(alloc, tables, &told, rooted, node, is_used)?;
+    let told = forms::used(alloc, tables, told)?;
+    Ok(Used { told, value })
 }
 
 /// A cast to a named type. It fails for want of memory alone.
@@ -77,4 +105,22 @@ pub fn cast(
     let to = value_type(named_class(&named), 0);
     let told = forms::cast(alloc, at, named, faults, told)?;
     valued(alloc, told, Expr::Cast { to, operand: value })
+}
+
+/// A value, converted to a type as by assignment (C99 6.5.16.1p2). It fails for want of memory alone.
+pub fn converted(
+    alloc: Global,
+    tables: &Tables,
+    ctype: &Option<CType>,
+    value: Shared<Expr>,
+) -> Result<Shared<Expr>, AllocError>
+    ensures { IfOk result (λ e. e ≡ expr.Convert (nodes.type_as tables.now ctype.now) value) }
+{
+    Shared::new(
+        alloc,
+        Expr::Convert {
+            to: type_as(tables, ctype),
+            operand: value,
+        },
+    )
 }

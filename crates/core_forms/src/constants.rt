@@ -60,12 +60,11 @@ pub fn size_of_expression(
     alloc: Global,
     tables: &Tables,
     at: u32,
-    x: Built,
+    x: Told,
 ) -> Result<Built, AllocError>
-    ensures { let told = says.node_over at x.told.shown (says.size_shown tables.now) x.told.faults in IfOk result (λ y. y ≡ a_value told (expr.Constant (unwrap_or (says.value_in told.shown) (pos 0)))) }
+    ensures { let told = says.node_over at x.shown (says.size_shown tables.now) x.faults in IfOk result (λ y. y ≡ a_value told (expr.Constant (unwrap_or (says.value_in told.shown) (pos 0)))) }
 {
-    let Built { told, .. } = x;
-    let told = forms::size_of_expression(alloc, tables, at, told)?;
+    let told = forms::size_of_expression(alloc, tables, at, x)?;
     let value = constant_of(&told);
     valued(alloc, told, Expr::Constant { value })
 }

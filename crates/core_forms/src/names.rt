@@ -1,9 +1,10 @@
 //! Names, string literals and `__func__` (C99 6.5.1, 6.4.5, 6.4.2.2).
-ghost use Rattle.std.specs.Prelude.{◌≡◌, ℕ, [], false, IfOk};
+ghost use Rattle.std.specs.Prelude.{◌≡◌, [], false, IfOk};
 ghost use Rattle.std.specs.Option.{option_copied};
 ghost use Rattle.c_says.specs.Scopes.{Scope};
 ghost use Rattle.c_says.specs.Typing as says;
 ghost use Rattle.core_tree.specs.declared.expr.Expr.TheVariants as expr;
+ghost use Rattle.elaborate.specs.Means.{Numbering};
 ghost use Rattle.core_forms.specs.Nodes.{Makes, a_place, is_object, named_node};
 
 use crate::built::{Built, placed, valued};
@@ -19,11 +20,11 @@ use std::alloc::Global;
 
 /// Where objects and functions are that live throughout the run.
 pub trait Places {
-    ghost place: { Self → ℕ → ℕ };
+    ghost numbering: { Self → Numbering };
 
     /// The place of what is declared at this offset, or of the literal that stands there.
     fn place(&self, at: u32) -> u64
-        ensures { result ≡ (place self.now) at };
+        ensures { result ≡ (numbering self.now).place at };
 }
 
 /// The core of a name, by its declaration. A name without one, a typedef name, and one whose declaration breaks a rule
@@ -34,7 +35,7 @@ pub fn identifier<P: Places>(
     at: u32,
     entry: Option<&Shared<Entry>>,
 ) -> Result<Built, NoCore>
-    ensures { let e = option_copied entry.entry in IfOk result (λ y. Makes y (says.named_told at e) (is_object e) (named_node e (P.place places.now))) }
+    ensures { let e = option_copied entry.entry in IfOk result (λ y. Makes y (says.named_told at e) (is_object e) (named_node e (P.numbering places.now).place)) }
 {
     let told = forms::identifier(alloc, at, entry)?;
     match entry {
@@ -73,7 +74,7 @@ pub fn string_literal<P: Places>(
     at: u32,
     pieces: &[Shared<Bytes>],
 ) -> Result<Built, NoCore>
-    ensures { IfOk result (λ y. y ≡ a_place (says.node at (says.literal_shown tables.now pieces.now) []) false (expr.Fixed ((P.place places.now) at))) }
+    ensures { IfOk result (λ y. y ≡ a_place (says.node at (says.literal_shown tables.now pieces.now) []) false (expr.Fixed ((P.numbering places.now).place at))) }
 {
     let told = forms::string_literal(alloc, tables, at, pieces)?;
     let place = places.place(at);
@@ -88,7 +89,7 @@ pub fn function_name<P: Places>(
     at: u32,
     function: &Option<Name>,
 ) -> Result<Built, NoCore>
-    ensures { (s : Scope) → s.tables ≡ tables.now → IfOk result (λ y. y ≡ a_place (says.told_of (says.function_name at function.now s)) false (expr.Fixed ((P.place places.now) at))) }
+    ensures { (s : Scope) → s.tables ≡ tables.now → IfOk result (λ y. y ≡ a_place (says.told_of (says.function_name at function.now s)) false (expr.Fixed ((P.numbering places.now).place at))) }
 {
     let told = forms::function_name(alloc, tables, at, function)?;
     let place = places.place(at);

@@ -68,6 +68,19 @@ pub(crate) fn kind_of(told: &Told) -> Option<IntegerKind>
     }
 }
 
+/// The type of the core of a value of a type.
+pub fn type_as(tables: &Tables, ctype: &Option<CType>) -> ValueType
+    ensures { result ≡ nodes.type_as tables.now ctype.now }
+{
+    match ctype {
+        Some(ctype) => {
+            let class = ctype.class();
+            value_type(class, bytes_as(class, tables.size_of(ctype)))
+        }
+        None => ValueType::Void,
+    }
+}
+
 /// The type of the core of an expression's value.
 pub(crate) fn type_of(tables: &Tables, told: &Told) -> ValueType
     ensures { result ≡ nodes.type_by tables.now told.now }
@@ -75,12 +88,10 @@ pub(crate) fn type_of(tables: &Tables, told: &Told) -> ValueType
     value_type(class_of(told), bytes_in(tables, told))
 }
 
-/// The type in which an object is stored, where it is an integer, a pointer, a structure or a union.
-pub(crate) fn stored_type(tables: &Tables, told: &Told) -> Option<ValueType>
-    ensures { result ≡ nodes.stored_by tables.now told.now }
+/// The type in which an object of a class and so many bytes is stored.
+fn stored_in(class: Class, bytes: u64) -> Option<ValueType>
+    ensures { result ≡ nodes.stored_in class bytes }
 {
-    let bytes = bytes_in(tables, told);
-    let class = class_of(told);
     match class {
         Class::Integer(_) => Some(value_type(class, bytes)),
         Class::Pointer => Some(ValueType::Pointer),
@@ -91,6 +102,21 @@ pub(crate) fn stored_type(tables: &Tables, told: &Told) -> Option<ValueType>
         Class::Floating => None,
         Class::Opaque => None,
     }
+}
+
+/// The type in which an object of a type is stored, where it is an integer, a pointer, a structure or a union.
+pub fn stored_as(tables: &Tables, ctype: &CType) -> Option<ValueType>
+    ensures { result ≡ nodes.stored_in (class_in (Some ctype.now)) (bytes_of tables.now (Some ctype.now)) }
+{
+    let class = ctype.class();
+    stored_in(class, bytes_as(class, tables.size_of(ctype)))
+}
+
+/// The same of what an expression is.
+pub(crate) fn stored_type(tables: &Tables, told: &Told) -> Option<ValueType>
+    ensures { result ≡ nodes.stored_by tables.now told.now }
+{
+    stored_in(class_of(told), bytes_in(tables, told))
 }
 
 /// The type in which an integer or a pointer is stored.

@@ -59,6 +59,7 @@ module _ (numbering : Function → Numbering) (m : whole.Machine) (k : Machine O
       limits = h.limits;
       turns = e;
       static_places = h.places f;
+      identity = h.identity f;
       rules = λ g r is. let q = h.rules f g r is in record {
         size = q.size None;
         room = q.room None;
@@ -78,6 +79,7 @@ module _ (numbering : Function → Numbering) (m : whole.Machine) (k : Machine O
       limits = h.limits;
       turns = e;
       static_places = h.places f;
+      identity = h.identity f;
       rules = λ g r is. let q = h.rules f g r is in record {
         size = q.size (Some (whole.level_of m n));
         room = q.room (Some (whole.level_of m n));

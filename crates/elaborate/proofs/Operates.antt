@@ -19,7 +19,7 @@ use Rattle.core_tree.specs.declared.types.Operator.TheVariants as op
 use Rattle.core_tree.specs.States.{or_stop}
 use Rattle.core_tree.specs.Memory as memory
 use Rattle.elaborate.specs.declared.operators.OperandType.{OperandType}
-use Rattle.elaborate.specs.Means.{as_done, as_found}
+use Rattle.elaborate.specs.Means.{Numbering, as_done, as_found}
 use Rattle.elaborate.specs.Operators.{operator_on, operator_of, Operates}
 use Rattle.elaborate.specs.Types.{word_type, arithmetic, working}
 use Rattle.elaborate.proofs.Numbers.{worked_same, working_word}
@@ -39,8 +39,10 @@ numbers_same : (b : BinaryOperator) (r : Arithmetic) (j k : IntegerKind) (m n : 
 numbers_same b r j k m n e at v w d =
     ap (λ x. or_stop at x (as_done d)) (worked_same (working b j k) (working_word b j k) b r v w e)
     ∙ or_stop_same at (says.worked b (working b j k) v w) d
-    ∙ ap as_found (sym (on_integers (record { place = λ at. at; body = λ g. None; rule = λ g. None }) b r e at j k m
-    n v w d))
+    ∙ ap as_found (sym (on_integers any b r e at j k m n v w d))
+  where
+    any : Numbering
+    any = record { place = λ at. at; identity = λ name. None; body = λ g. None; rule = λ g. None }
 
 -- two pointers of one object
 ordered_same : (order : ℕ → ℕ → Bool) (x y : ℕ) (at : ℕ) (d : State) → cond (in_one_object d.store x y)

@@ -13,13 +13,13 @@ use Rattle.c_means.specs.Parts as c
 use Rattle.c_runs.specs.Items.{Made}
 use Rattle.c_runs.specs.Items as runs
 use Rattle.c_says.specs.declared.scope.Entry.{Entry}
-use Rattle.c_says.specs.Scopes.{Scope}
+use Rattle.c_says.specs.Scopes.{Scope, Name}
 use Rattle.c_runs.specs.Programs.{Function}
 use Rattle.c_runs.specs.Runs as whole
 use Rattle.core_tree.specs.declared.program.Parameter.{Parameter}
 use Rattle.core_tree.specs.Memory.{stored}
 use Rattle.core_tree.specs.Programs.{Body, Machine, turns_in}
-use Rattle.c_runs.specs.Rules.{Rules, BodyCall, PreludeCall}
+use Rattle.c_runs.specs.Rules.{Rules, BodyCall, PreludeCall, identity_index}
 use Rattle.core_tree.specs.declared.code.Code.{Code}
 use Rattle.c_means.specs.Expressions.{Passed}
 use Rattle.core_tree.specs.declared.expr.Callee.{Callee}
@@ -59,10 +59,12 @@ pub record Ruling : Type 0 where
   pub room : ℕ
   pub acts : c.World → c.Limits → Env → List ℤ → ℕ → State → State
 
--- What a function's calls are: the places of what lives throughout the run, by offset; the number of the function whose
--- body a call runs; and what a call by rule does.
+-- What a function's calls are: the places of what lives throughout the run, by offset; which argument a function of a
+-- name hands on, where it does nothing else; the number of the function whose body a call runs; and what a call by rule
+-- does.
 pub record Numbering : Type 0 where
   pub place : ℕ → ℕ
+  pub identity : Name → Option ℕ
   pub body : c.Site → Option ℕ
   pub rule : c.Site → Option Ruling
 
@@ -87,6 +89,7 @@ pub record Like (numbering : Numbering) (l : c.Level) (k : Level Output) : Type 
   pub limits : k.limits ≡ l.limits
   pub turns : k.measures.turns ≡ l.turns
   pub static_places : l.static ≡ numbering.place
+  pub identity : l.identity ≡ numbering.identity
   pub bodies : (g : c.Site) (f : ℕ) → numbering.body g ≡ Some f → Calls l k g f
   pub rules : (g : c.Site) (r : Ruling) → numbering.rule g ≡ Some r → Follows l g r
 
@@ -221,5 +224,6 @@ pub record IsMachineOf (numbering : Function → Numbering) (m : whole.Machine) 
   pub world : k.world ≡ m.world
   pub limits : k.limits ≡ m.limits
   pub places : (f : Function) → whole.places_of m.program ≡ (numbering f).place
+  pub identity : (f : Function) → identity_index m.profile ≡ (numbering f).identity
   pub bodies : (f : Function) (g : c.Site) (n : ℕ) → (numbering f).body g ≡ Some n → Numbered numbering m k g n
   pub rules : (f : Function) (g : c.Site) (r : Ruling) → (numbering f).rule g ≡ Some r → HasRule m f g r

@@ -1,0 +1,8 @@
+use Rattle.std.proofs.lemmas.Result.{IfOk-weaker}
+use Rattle.core_exprs.proofs.EachForm as each
+use Rattle.core_exprs.proofs.forms.unused.Goals as goal
+
+pub returns : goal.returns
+returns c n p h =
+    IfOk-weaker c.discarded.result _ _ (λ y m. each.on_unused n c.tables.result.now c.args.scope.now c.args.x p y
+    c.tables.ensures h m) c.discarded.ensures

@@ -1,0 +1,351 @@
+//! Forms of expressions over what was found of their parts, of which the last is taken as it stands in the names in
+//! force behind it.
+ghost use Rattle.std.specs.Prelude.{◌≡◌, ◌++◌, None, Some, IfOk, OnOk};
+ghost use Rattle.c_says.specs.Scopes as scopes;
+ghost use Rattle.c_says.specs.Typing as says;
+ghost use Rattle.c_says.specs.Typing.{typed_in};
+ghost use Rattle.std.specs.Option.{option_copied};
+ghost use Rattle.core_tree.specs.declared.expr.Expr.TheVariants as expr;
+ghost use Rattle.core_forms.specs.Nodes.{a_value};
+ghost use Rattle.c_means.specs.Expressions as form;
+ghost use Rattle.c_means.specs.Parts.{Part};
+ghost use Rattle.elaborate.specs.Means.{Numbering};
+ghost use Rattle.core_forms.specs.Built.{IsBuilt, IsDiscarded, IsUsed};
+ghost use Rattle.core_exprs.specs.Found.{IsFoundOf};
+
+use crate::callees::Callees;
+use crate::found::{Found, plain};
+use bit_words::Bytes;
+use c_declares::TypeSaid;
+use c_lexer::{IntegerConstant, Name};
+use c_says::{Entry, Told};
+use c_tree::{BinaryOperator, PostfixOperator};
+use c_type_scope::Scope;
+use core_forms::{Built, NoCore, Used};
+use plain_data::Shared;
+use std::alloc::{AllocError, Global};
+
+/// An integer constant (C99 6.4.4.1). It fails for want of memory alone.
+pub(crate) fn integer_constant(
+    alloc: Global,
+    at: u32,
+    constant: &IntegerConstant,
+) -> Result<Found, NoCore>
+    ensures { (n : Numbering) (s : scopes.Scope) → IfOk result (λ x. IsFoundOf n x (form.integer_constant at constant.now s) s) }
+{
+    let x = core_forms::integer_constant(alloc, at, constant)?;
+    Ok(plain(x))
+}
+
+/// A character constant as a part. It fails for want of memory alone.
+fn character(alloc: Global, at: u32, value: &i32) -> Result<Built, AllocError>
+    ensures { IfOk result (λ x. x ≡ a_value (says.character_told at value.now) (expr.Constant value.now)) }
+{
+    core_forms::character_constant(alloc, at, *value)
+}
+
+/// A character constant (C99 6.4.4.4). It fails for want of memory alone.
+pub(crate) fn character_constant(alloc: Global, at: u32, value: &i32) -> Result<Found, NoCore>
+    ensures { (n : Numbering) (s : scopes.Scope) → IfOk result (λ x. IsFoundOf n x (form.character_constant at value.now s) s) }
+{
+    let x = character(alloc, at, value)?;
+    Ok(plain(x))
+}
+
+/// Puts adjacent pieces of a string literal behind others. It fails for want of memory alone.
+fn put_pieces(text: &mut Bytes, pieces: &[Shared<Bytes>]) -> Result<(), AllocError>
+    ensures { OnOk result (text.new ≡ text.old ++ form.joined pieces.now) }
+{
+    match pieces.split_first() {
+        Some((piece, pieces)) => {
+            text.extend_from_slice(piece.get().as_slice())?;
+            put_pieces(text, pieces)
+        }
+        None => Ok(()),
+    }
+}
+
+/// The bytes of adjacent string literals. It fails for want of memory alone.
+fn joined(alloc: Global, pieces: &[Shared<Bytes>]) -> Result<Bytes, AllocError>
+    ensures { IfOk result (λ x. x ≡ form.joined pieces.now) }
+{
+    let mut text = Bytes::new(alloc);
+    put_pieces(&mut text, pieces)?;
+    Ok(text)
+}
+
+/// Adjacent string literals (C99 6.4.5). It fails for want of memory alone.
+pub(crate) fn string_literal<C: Callees>(
+    alloc: Global,
+    callees: &C,
+    scope: &Scope,
+    at: u32,
+    pieces: &[Shared<Bytes>],
+) -> Result<Found, NoCore>
+    ensures { IfOk result (λ x. IsFoundOf (C.numbering callees.now) x (form.string_literal at pieces.now scope.now) scope.now) }
+{
+    let text = joined(alloc, pieces)?;
+    let built = core_forms::string_literal(alloc, callees, scope.tables(), at, pieces)?;
+    Ok(Found {
+        built,
+        text: Some(text),
+    })
+}
+
+/// `__func__` (C99 6.4.2.2), in the body of a function or outside of any.
+pub(crate) fn function_name<C: Callees>(
+    alloc: Global,
+    callees: &C,
+    scope: &Scope,
+    at: u32,
+) -> Result<Found, NoCore>
+    ensures { IfOk result (λ x. IsFoundOf (C.numbering callees.now) x (form.function_name at scope.now.function scope.now) scope.now) }
+{
+    let x = core_forms::function_name(alloc, callees, scope.tables(), at, scope.function())?;
+    Ok(plain(x))
+}
+
+/// The declaration of a name that is in force.
+fn declared<'a>(scope: &'a Scope, name: &Name) -> Option<&'a Shared<Entry>>
+    ensures { option_copied result ≡ scopes.look_up scope.now name.now }
+{
+    scope.look_up(name.get().as_slice())
+}
+
+/// A name, by its declaration in force (C99 6.5.1p2).
+pub(crate) fn identifier<C: Callees>(
+    alloc: Global,
+    callees: &C,
+    scope: &Scope,
+    at: u32,
+    name: &Name,
+) -> Result<Found, NoCore>
+    ensures { IfOk result (λ x. IsFoundOf (C.numbering callees.now) x (form.identifier at scope.now (scopes.look_up scope.now name.now)) scope.now) }
+{
+    let x = core_forms::identifier(alloc, callees, at, declared(scope, name))?;
+    Ok(plain(x))
+}
+
+/// A part whose value is used.
+pub(crate) fn used(alloc: Global, scope: &Scope, x: Found) -> Result<Used, NoCore>
+    ensures { (n : Numbering) (p : Part) → IsFoundOf n x p scope.now → IfOk result (λ u. IsUsed n u p) }
+{
+    let Found { built, .. } = x;
+    core_forms::operand(alloc, scope.tables(), built)
+}
+
+/// A part whose value isn't used.
+pub(crate) fn unused(alloc: Global, scope: &Scope, x: Found) -> Result<Used, NoCore>
+    ensures { (n : Numbering) (p : Part) → IsFoundOf n x p scope.now → IfOk result (λ u. IsDiscarded n u p) }
+{
+    let Found { built, .. } = x;
+    core_forms::discarded(alloc, scope.tables(), built)
+}
+
+/// A subscript (C99 6.5.2.1).
+pub(crate) fn subscript(
+    alloc: Global,
+    scope: &Scope,
+    at: u32,
+    x: Used,
+    y: Found,
+) -> Result<Found, NoCore>
+    ensures { (n : Numbering) (p q : Part) → IsUsed n x p → IsFoundOf n y q scope.now → IfOk result (λ z. IsFoundOf n z (form.subscript at p q) scope.now) }
+{
+    let tables = scope.tables();
+    let Found { built, .. } = y;
+    let y = core_forms::operand(alloc, tables, built)?;
+    let z = core_forms::subscript(alloc, tables, at, x, y)?;
+    Ok(plain(z))
+}
+
+/// A member of an object or of a value (C99 6.5.2.3p3).
+pub(crate) fn member(
+    alloc: Global,
+    scope: &Scope,
+    at: u32,
+    name: &Name,
+    x: Found,
+) -> Result<Found, NoCore>
+    ensures { (n : Numbering) (p : Part) → IsFoundOf n x p scope.now → IfOk result (λ z. IsFoundOf n z (form.member at name.now p) scope.now) }
+{
+    let Found { built, .. } = x;
+    let z = core_forms::member(alloc, scope.tables(), at, name, built)?;
+    Ok(plain(z))
+}
+
+/// A member of what a value points to (C99 6.5.2.3p4).
+pub(crate) fn arrow(
+    alloc: Global,
+    scope: &Scope,
+    at: u32,
+    name: &Name,
+    x: Found,
+) -> Result<Found, NoCore>
+    ensures { (n : Numbering) (p : Part) → IsFoundOf n x p scope.now → IfOk result (λ z. IsFoundOf n z (form.arrow at name.now p) scope.now) }
+{
+    let tables = scope.tables();
+    let Found { built, .. } = x;
+    let u = core_forms::operand(alloc, tables, built)?;
+    let z = core_forms::arrow(alloc, tables, at, name, u)?;
+    Ok(plain(z))
+}
+
+/// `++` or `--` behind its operand (C99 6.5.2.4).
+pub(crate) fn postfix(
+    alloc: Global,
+    scope: &Scope,
+    at: u32,
+    operator: PostfixOperator,
+    x: Found,
+) -> Result<Found, NoCore>
+    ensures { (n : Numbering) (p : Part) → IsFoundOf n x p scope.now → IfOk result (λ z. IsFoundOf n z (form.postfix at operator p) scope.now) }
+{
+    let Found { built, .. } = x;
+    let z = core_forms::postfix(alloc, scope.tables(), at, operator, built)?;
+    Ok(plain(z))
+}
+
+/// The size of an expression's type, which isn't evaluated (C99 6.5.3.4p2). It fails for want of memory alone.
+pub(crate) fn size_of_expression(
+    alloc: Global,
+    scope: &Scope,
+    at: u32,
+    x: Told,
+) -> Result<Found, NoCore>
+    ensures { (n : Numbering) (p : Part) → typed_in x scope.now ≡ p.typed → IfOk result (λ z. IsFoundOf n z (form.size_of_expression at p) scope.now) }
+{
+    let z = core_forms::size_of_expression(alloc, scope.tables(), at, x)?;
+    Ok(plain(z))
+}
+
+/// The size of a named type. It fails for want of memory alone.
+pub(crate) fn size_of_type(
+    alloc: Global,
+    scope: &Scope,
+    at: u32,
+    named: TypeSaid,
+) -> Result<Found, NoCore>
+    ensures { (n : Numbering) → IfOk result (λ z. IsFoundOf n z (form.size_of_type at named.ctype named.faults scope.now) scope.now) }
+{
+    let TypeSaid { ctype, faults } = named;
+    let z = core_forms::size_of_type(alloc, scope.tables(), at, ctype, faults)?;
+    Ok(plain(z))
+}
+
+/// A cast to a named type (C99 6.5.4).
+pub(crate) fn cast(
+    alloc: Global,
+    scope: &Scope,
+    at: u32,
+    to: TypeSaid,
+    x: Found,
+) -> Result<Found, NoCore>
+    ensures { (n : Numbering) (p : Part) → IsFoundOf n x p scope.now → IfOk result (λ z. IsFoundOf n z (form.cast at to.ctype to.faults p) scope.now) }
+{
+    let TypeSaid { ctype, faults } = to;
+    let Found { built, .. } = x;
+    let u = core_forms::cast_operand(alloc, scope.tables(), &ctype, built)?;
+    let z = core_forms::cast(alloc, at, ctype, faults, u)?;
+    Ok(plain(z))
+}
+
+/// A binary operator (C99 6.5.5 to 6.5.14).
+pub(crate) fn binary(
+    alloc: Global,
+    scope: &Scope,
+    at: u32,
+    operator: BinaryOperator,
+    x: Used,
+    y: Found,
+) -> Result<Found, NoCore>
+    ensures { (n : Numbering) (p q : Part) → IsUsed n x p → IsFoundOf n y q scope.now → IfOk result (λ z. IsFoundOf n z (form.binary at operator p q) scope.now) }
+{
+    let tables = scope.tables();
+    let Found { built, .. } = y;
+    let y = core_forms::operand(alloc, tables, built)?;
+    let z = core_forms::binary(alloc, tables, at, operator, x, y)?;
+    Ok(plain(z))
+}
+
+/// The conditional operator (C99 6.5.15).
+pub(crate) fn choice(
+    alloc: Global,
+    scope: &Scope,
+    at: u32,
+    condition: Used,
+    x: Used,
+    y: Found,
+) -> Result<Found, NoCore>
+    ensures { (n : Numbering) (r p q : Part) → IsUsed n condition r → IsUsed n x p → IsFoundOf n y q scope.now →
+        IfOk result (λ z. IsFoundOf n z (form.choice at r p q) scope.now) }
+{
+    let tables = scope.tables();
+    let Found { built, .. } = y;
+    let y = core_forms::operand(alloc, tables, built)?;
+    let z = core_forms::choice(alloc, tables, at, condition, x, y)?;
+    Ok(plain(z))
+}
+
+/// `target = value` (C99 6.5.16.1).
+fn simple(alloc: Global, scope: &Scope, at: u32, x: Built, y: Found) -> Result<Found, NoCore>
+    ensures { (n : Numbering) (p q : Part) → IsBuilt n x p → IsFoundOf n y q scope.now → IfOk result (λ z. IsFoundOf n z (form.assignment at None p q) scope.now) }
+{
+    let Found { built, .. } = y;
+    let tables = scope.tables();
+    let y = core_forms::operand(alloc, tables, built)?;
+    let z = core_forms::simple(alloc, tables, at, x, y)?;
+    Ok(plain(z))
+}
+
+/// `target op= value` (C99 6.5.16.2).
+fn compound(
+    alloc: Global,
+    scope: &Scope,
+    at: u32,
+    operator: BinaryOperator,
+    x: Built,
+    y: Found,
+) -> Result<Found, NoCore>
+    ensures { (n : Numbering) (p q : Part) → IsBuilt n x p → IsFoundOf n y q scope.now → IfOk result (λ z. IsFoundOf n z (form.assignment at (Some operator) p q) scope.now) }
+{
+    let Found { built, .. } = y;
+    let tables = scope.tables();
+    let y = core_forms::operand(alloc, tables, built)?;
+    let z = core_forms::compound(alloc, tables, at, operator, x, y)?;
+    Ok(plain(z))
+}
+
+/// An assignment to what has an address (C99 6.5.16).
+pub(crate) fn assignment(
+    alloc: Global,
+    scope: &Scope,
+    at: u32,
+    operator: Option<BinaryOperator>,
+    x: Found,
+    y: Found,
+) -> Result<Found, NoCore>
+    ensures { (n : Numbering) (p q : Part) → IsBuilt n x.built p → IsFoundOf n y q scope.now → IfOk result (λ z. IsFoundOf n z (form.assignment at operator p q) scope.now) }
+{
+    let Found { built, .. } = x;
+    if let Some(operator) = operator {
+        return compound(alloc, scope, at, operator, built, y);
+    }
+    simple(alloc, scope, at, built, y)
+}
+
+/// The comma operator (C99 6.5.17), of which the left operand isn't used.
+pub(crate) fn comma(
+    alloc: Global,
+    scope: &Scope,
+    at: u32,
+    x: Used,
+    y: Found,
+) -> Result<Found, NoCore>
+    ensures { (n : Numbering) (p q : Part) → IsDiscarded n x p → IsFoundOf n y q scope.now → IfOk result (λ z. IsFoundOf n z (form.comma at p q) scope.now) }
+{
+    let Found { built, .. } = y;
+    let y = core_forms::operand(alloc, scope.tables(), built)?;
+    let z = core_forms::comma(alloc, at, x, y)?;
+    Ok(plain(z))
+}

@@ -1,0 +1,18 @@
+//! Calls as they stand in the source (C99 6.5.2.2).
+
+use bit_words::Bytes;
+use c_says::Entry;
+use c_type_terms::CType;
+use plain_data::{Items, Shared};
+
+/// A call as it stands in the source, apart from the names in force behind it: the offset of the callee's name, the
+/// declaration that the name has, the type of the call, the types of its arguments as they are converted, and the bytes
+/// of those that are string literals.
+#[derive(Drop)]
+pub struct Site {
+    pub at: u32,
+    pub callee: Shared<Entry>,
+    pub ctype: Option<CType>,
+    pub types: Items<Option<CType>>,
+    pub texts: Items<Option<Bytes>>,
+}
