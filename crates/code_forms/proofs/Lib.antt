@@ -1,0 +1,4 @@
+pub mod Turns
+pub mod Choosing
+pub mod Statements
+pub mod Declaring

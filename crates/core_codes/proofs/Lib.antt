@@ -1,0 +1,4 @@
+pub mod LoopParts
+pub mod Forms
+pub mod InTurn
+pub mod Arms

@@ -1,0 +1,98 @@
+-- What it is to be the core of an expression, of a declaration, and of the parts of statements, with the names in force
+-- behind it.
+use Rattle.std.specs.Prelude.{◌≡◌, ℤ, true, false, List, [], ◌∷◌, Option, Some, None}
+use Rattle.c_says.specs.Scopes.{Scope}
+use Rattle.c_says.specs.Typing.{told_of}
+use Rattle.c_runs.specs.Notes.{Noted, ExprNoted}
+use Rattle.c_runs.specs.Items.{Item}
+use Rattle.core_tree.specs.declared.code.Code.{Code}
+use Rattle.core_tree.specs.declared.code.Code.TheVariants as code
+use Rattle.core_tree.specs.declared.expr.Expr.{Expr}
+use Rattle.core_tree.specs.declared.expr.Expr.TheVariants as expr
+use Rattle.core_tree.specs.declared.types.ValueType.{ValueType}
+use Rattle.elaborate.specs.Means.{Numbering, IsValueOf, IsEffectOf}
+use Rattle.code_forms.specs.Contents.{AreCodesOf}
+use Rattle.core_codes.specs.declared.made.Made.{Made}
+use Rattle.core_codes.specs.declared.parts.Valued.{Valued}
+use Rattle.core_codes.specs.declared.pieces.ForBegun.{ForBegun}
+
+-- ---- expressions and declarations, behind which these names are in force
+
+-- an expression whose value is used
+pub record IsValued (numbering : Numbering) (y : Valued) (n : Noted) (t : Scope) : Type 0 where
+  pub told : y.told ≡ told_of n.part.typed
+  pub value : IsValueOf numbering y.value n.part
+  pub after : t ≡ n.part.typed.after
+
+pub record IsWorth (numbering : Numbering) (e : Expr) (n : Noted) (t : Scope) : Type 0 where
+  pub value : IsValueOf numbering e n.part
+  pub after : t ≡ n.part.typed.after
+
+-- one whose value isn't used
+pub record IsDone (numbering : Numbering) (e : Expr) (n : Noted) (t : Scope) : Type 0 where
+  pub effect : IsEffectOf numbering e n.part
+  pub after : t ≡ n.part.typed.after
+
+-- where there is one
+abbrev pub MaybeWorth : Numbering → Option Expr → Option ExprNoted → Scope → Scope → Type 0
+MaybeWorth numbering None None s t = t ≡ s
+MaybeWorth numbering (Some e) (Some f) s t = IsWorth numbering e (f s) t
+MaybeWorth numbering _ _ s t = ⊥
+
+abbrev pub MaybeDone : Numbering → Option Expr → Option ExprNoted → Scope → Scope → Type 0
+MaybeDone numbering None None s t = t ≡ s
+MaybeDone numbering (Some e) (Some f) s t = IsDone numbering e (f s) t
+MaybeDone numbering _ _ s t = ⊥
+
+-- a declaration, or what a `for` begins with
+pub record IsBegun (numbering : Numbering) (xs : List Code) (i : Item) (t : Scope) : Type 0 where
+  pub codes : AreCodesOf numbering xs i
+  pub after : t ≡ i.after
+
+-- what stands in front of the body of a `for`: each part with the names in force behind it
+pub record IsForBegun (numbering : Numbering) (s : Scope) (begins : Scope → Item) (condition step : Option ExprNoted)
+    (y : ForBegun) (t : Scope) : Type 0
+  where
+    pub behind_first : Scope
+    pub behind_condition : Scope
+    pub begun : IsBegun numbering y.first (begins s) behind_first
+    pub tests : MaybeWorth numbering y.condition condition behind_first behind_condition
+    pub steps : MaybeDone numbering y.step step behind_condition t
+
+-- ---- what is made of parts
+
+abbrev pub alone : Code → List ℤ → Made
+alone c zs = record { codes = c ∷ []; cases = zs }
+
+-- an expression that a `for` begins with
+abbrev pub first_codes : Option Expr → List Code
+first_codes None = []
+first_codes (Some e) = code.Value false e ∷ []
+
+-- an expression statement
+abbrev pub effect_node : Option Expr → Code
+effect_node None = code.Nothing true
+effect_node (Some e) = code.Value true e
+
+-- `return`, of a value that is converted
+abbrev pub return_node : ValueType → Option Expr → Code
+return_node t None = code.Return None
+return_node t (Some e) = code.Return (Some (expr.Convert t e))
+
+-- a labeled statement: round the one code of its body, with more cases
+pub record Wraps (f : Code → Code) (g : List ℤ → List ℤ) (body y : Made) : Type 0 where
+  pub inner : Code
+  pub given : List ℤ
+  pub is_one : body ≡ alone inner given
+  pub is : y ≡ alone (f inner) (g given)
+
+abbrev pub same_cases : List ℤ → List ℤ
+same_cases zs = zs
+
+abbrev pub and_case : ℤ → List ℤ → List ℤ
+and_case z zs = z ∷ zs
+
+-- a case of a value, which it must have
+abbrev pub IsCase : Option ℤ → Expr → Made → Made → Type 0
+IsCase None e body y = ⊥
+IsCase (Some z) e body y = Wraps (code.Case z e) (and_case z) body y

@@ -1,0 +1,346 @@
+//! Statements without substatements, and the parts of those with some.
+ghost use Rattle.std.specs.Prelude.{◌≡◌, true, false, [], ◌∷◌, ◌++◌, Some, None, IfOk, IfSome, option_map};
+ghost use Rattle.c_runs.specs.Notes.{noted};
+ghost use Rattle.c_runs.specs.Statements as form;
+ghost use Rattle.c_says.specs.Typing.{type_in, value_in, used_told};
+ghost use Rattle.c_means.specs.Operators.{kind_in};
+ghost use Rattle.core_tree.specs.declared.code.Code.TheVariants as code;
+ghost use Rattle.elaborate.specs.Types.{word_type};
+ghost use Rattle.code_forms.specs.Nodes.{negative_node};
+ghost use Rattle.core_codes.specs.Parts as spec;
+ghost use Rattle.core_codes.specs.Parts.{alone};
+
+use crate::context::Context;
+use crate::made::{Made, in_front};
+use crate::parts::{Parts, Valued};
+use c_lexer::Name;
+use c_says::Told;
+use c_tree as tree;
+use c_tree::ForStart;
+use c_type_forms as forms;
+use c_type_scope::Scope;
+use c_type_terms::{IntegerKind, Tables};
+use code_forms::Content;
+use core_forms::NoCore;
+use core_tree::{Code, Expr};
+use plain_data::{Items, Shared};
+use std::alloc::{AllocError, Global};
+
+/// An expression whose value is used, where there is one.
+pub(crate) fn maybe_value<P: Parts>(
+    alloc: Global,
+    parts: &P,
+    value: &Option<Shared<tree::Expr>>,
+    scope: &mut Scope,
+) -> Result<Option<Shared<Expr>>, NoCore>
+    ensures { IfOk result (λ y. spec.MaybeWorth (P.numbering parts.now) y (option_map noted value.now) scope.old scope.new) }
+{
+    match value {
+        Some(value) => {
+            let Valued { value, .. } = parts.value(alloc, value.get(), scope)?;
+            Ok(Some(value))
+        }
+        None => Ok(None),
+    }
+}
+
+/// An expression whose value isn't used, where there is one.
+pub(crate) fn maybe_effect<P: Parts>(
+    alloc: Global,
+    parts: &P,
+    value: &Option<Shared<tree::Expr>>,
+    scope: &mut Scope,
+) -> Result<Option<Shared<Expr>>, NoCore>
+    ensures { IfOk result (λ y. spec.MaybeDone (P.numbering parts.now) y (option_map noted value.now) scope.old scope.new) }
+{
+    match value {
+        Some(value) => Ok(Some(parts.effect(alloc, value.get(), scope)?)),
+        None => Ok(None),
+    }
+}
+
+/// The first part of a `for` that is an expression.
+fn first_value(alloc: Global, value: Option<Shared<Expr>>) -> Result<Items<Shared<Code>>, NoCore>
+    ensures { IfOk result (λ y. y ≡ spec.first_codes value) }
+{
+    let mut codes = Items::new(alloc);
+    if let Some(value) = value {
+        codes.push(code_forms::first_part(alloc, value)?)?;
+    }
+    Ok(codes)
+}
+
+/// What a `for` begins with (C99 6.8.5.3).
+fn begun_by<P: Parts>(
+    alloc: Global,
+    parts: &P,
+    start: &ForStart,
+    scope: &mut Scope,
+) -> Result<Items<Shared<Code>>, NoCore>
+    ensures { IfOk result (λ y. spec.IsBegun (P.numbering parts.now) y (form.begun_by start.now scope.old) scope.new) }
+{
+    match start {
+        ForStart::Value { value } => {
+            let value = maybe_effect(alloc, parts, value, scope)?;
+            first_value(alloc, value)
+        }
+        ForStart::Declared { declaration } => parts.declaration(alloc, declaration, scope),
+    }
+}
+
+/// The parts of a `for` that stand in front of its body.
+#[derive(Drop)]
+pub(crate) struct ForBegun {
+    first: Items<Shared<Code>>,
+    condition: Option<Shared<Expr>>,
+    step: Option<Shared<Expr>>,
+}
+
+/// What stands in front of the body of a `for`, in order (C99 6.8.5.3).
+pub(crate) fn for_begun<P: Parts>(
+    alloc: Global,
+    parts: &P,
+    start: &ForStart,
+    condition: &Option<Shared<tree::Expr>>,
+    step: &Option<Shared<tree::Expr>>,
+    scope: &mut Scope,
+) -> Result<ForBegun, NoCore>
+    ensures { IfOk result (λ y. spec.IsForBegun (P.numbering parts.now) scope.old (form.begun_by start.now) (option_map noted condition.now) (option_map noted step.now) y scope.new) }
+{
+    let first = begun_by(alloc, parts, start, scope)?;
+    let condition = maybe_value(alloc, parts, condition, scope)?;
+    let step = maybe_effect(alloc, parts, step, scope)?;
+    Ok(ForBegun {
+        first,
+        condition,
+        step,
+    })
+}
+
+/// The condition of an `if`, and what is done where it isn't 0.
+#[derive(Drop)]
+pub(crate) struct IfBegun {
+    pub condition: Shared<Expr>,
+    pub positive: Shared<Code>,
+}
+
+/// A declaration, of these items. It takes no memory.
+pub(crate) fn declared_made(alloc: Global, codes: Items<Shared<Code>>) -> Result<Made, NoCore>
+    ensures { IfOk result (λ y. y ≡ record { codes = codes; cases = [] }) }
+{
+    Ok(Made {
+        codes,
+        cases: Items::new(alloc),
+    })
+}
+
+/// `value;`, and `;` alone.
+pub(crate) fn effect_made(alloc: Global, value: Option<Shared<Expr>>) -> Result<Made, NoCore>
+    ensures { IfOk result (λ y. y ≡ alone (spec.effect_node value) []) }
+{
+    let code = match value {
+        Some(value) => code_forms::effect(alloc, value)?,
+        None => code_forms::empty(alloc)?,
+    };
+    Ok(Made::one(alloc, code)?)
+}
+
+/// `return`, with or without a value.
+pub(crate) fn return_made(
+    alloc: Global,
+    x: Context,
+    value: Option<Shared<Expr>>,
+) -> Result<Made, NoCore>
+    ensures { IfOk result (λ y. y ≡ alone (spec.return_node x.returned value) []) }
+{
+    let code = match value {
+        Some(value) => code_forms::value_return(alloc, x.returned, value)?,
+        None => code_forms::bare_return(alloc)?,
+    };
+    Ok(Made::one(alloc, code)?)
+}
+
+pub(crate) fn goto_made(alloc: Global, name: &Name) -> Result<Made, NoCore>
+    ensures { IfOk result (λ y. y ≡ alone (code.Goto name.now) []) }
+{
+    let code = code_forms::goto_label(alloc, name.clone()?)?;
+    Ok(Made::one(alloc, code)?)
+}
+
+pub(crate) fn continue_made(alloc: Global) -> Result<Made, NoCore>
+    ensures { IfOk result (λ y. y ≡ alone code.Continue []) }
+{
+    let code = code_forms::continue_loop(alloc)?;
+    Ok(Made::one(alloc, code)?)
+}
+
+pub(crate) fn break_made(alloc: Global) -> Result<Made, NoCore>
+    ensures { IfOk result (λ y. y ≡ alone code.Break []) }
+{
+    let code = code_forms::break_out(alloc)?;
+    Ok(Made::one(alloc, code)?)
+}
+
+/// A compound statement of these items.
+pub(crate) fn compound_made(alloc: Global, items: Made) -> Result<Made, NoCore>
+    ensures { IfOk result (λ y. y ≡ alone (code.Block true items.codes) []) }
+{
+    let Made { codes, .. } = items;
+    let code = code_forms::compound(alloc, codes)?;
+    Ok(Made::one(alloc, code)?)
+}
+
+/// A label, in front of a statement. What has several items is no statement, and has no core behind a label.
+pub(crate) fn label_made(alloc: Global, name: &Name, body: Made) -> Result<Made, NoCore>
+    ensures { IfOk result (λ y. spec.Wraps (code.Label name.now) spec.same_cases body y) }
+{
+    match body.only() {
+        Some((body, cases)) => {
+            let code = code_forms::label(alloc, name.clone()?, body)?;
+            Ok(Made::with_cases(alloc, code, cases)?)
+        }
+        None => Err(NoCore::Outside),
+    }
+}
+
+/// `default`, in front of a statement.
+pub(crate) fn default_made(alloc: Global, body: Made) -> Result<Made, NoCore>
+    ensures { IfOk result (λ y. spec.Wraps code.Default spec.same_cases body y) }
+{
+    match body.only() {
+        Some((body, cases)) => {
+            let code = code_forms::default_label(alloc, body)?;
+            Ok(Made::with_cases(alloc, code, cases)?)
+        }
+        None => Err(NoCore::Outside),
+    }
+}
+
+/// The value of a `case` as its `switch` compares it: it stands in the block of one, and its expression is constant (C99
+/// 6.8.1p2, 6.8.4.2p3).
+pub(crate) fn case_constant(x: Context, told: &Told) -> Option<i128>
+    ensures { IfSome result (λ z. Some z ≡ form.case_value x.compared (value_in told.now.shown)) }
+{
+    match x.compared {
+        Some(compared) => match &told.shown {
+            Some(shown) => match shown.value {
+                Some(constant) => Some(code_forms::case_value(compared, constant)),
+                None => None,
+            },
+            None => None,
+        },
+        None => None,
+    }
+}
+
+/// A `case` of this value, in front of a statement.
+fn valued_case(alloc: Global, value: i128, label: Shared<Expr>, body: Made) -> Result<Made, NoCore>
+    ensures { IfOk result (λ y. spec.Wraps (code.Case value label) (spec.and_case value) body y) }
+{
+    match body.only() {
+        Some((body, cases)) => {
+            let code = code_forms::case_label(alloc, value, label, body)?;
+            let cases = in_front(alloc, value, cases)?;
+            Ok(Made::with_cases(alloc, code, cases)?)
+        }
+        None => Err(NoCore::Outside),
+    }
+}
+
+/// `case`, in front of a statement; without a value it has no core.
+pub(crate) fn case_made(
+    alloc: Global,
+    value: Option<i128>,
+    label: Shared<Expr>,
+    body: Made,
+) -> Result<Made, NoCore>
+    ensures { IfOk result (λ y. spec.IsCase value label body y) }
+{
+    match value {
+        Some(value) => valued_case(alloc, value, label, body),
+        None => Err(NoCore::Outside),
+    }
+}
+
+pub(crate) fn if_made(
+    alloc: Global,
+    at: u32,
+    begun: IfBegun,
+    negative: Option<Shared<Code>>,
+) -> Result<Made, NoCore>
+    ensures { IfOk result (λ y. y ≡ alone (code.If at begun.condition begun.positive (negative_node negative)) []) }
+{
+    let IfBegun {
+        condition,
+        positive,
+    } = begun;
+    let code = code_forms::if_else(alloc, at, condition, positive, negative)?;
+    Ok(Made::one(alloc, code)?)
+}
+
+/// The type in which a `switch` compares (C99 6.8.4.2p5).
+pub(crate) fn compared_in(
+    alloc: Global,
+    tables: &Tables,
+    told: Told,
+) -> Result<IntegerKind, AllocError>
+    ensures { IfOk result (λ kind. kind ≡ form.compared_in (kind_in (type_in (used_told tables.now told).shown))) }
+{
+    let used = forms::used(alloc, tables, told)?;
+    Ok(code_forms::compared_kind(&used))
+}
+
+pub(crate) fn switch_made(
+    alloc: Global,
+    at: u32,
+    compared: IntegerKind,
+    value: Shared<Expr>,
+    body: Content,
+) -> Result<Made, NoCore>
+    ensures { IfOk result (λ y. y ≡ alone (code.Switch at (word_type compared) body.cases value body.is_compound body.items) []) }
+{
+    let code = code_forms::switch(alloc, at, compared, value, body)?;
+    Ok(Made::one(alloc, code)?)
+}
+
+pub(crate) fn while_made(
+    alloc: Global,
+    at: u32,
+    condition: Shared<Expr>,
+    body: Shared<Code>,
+) -> Result<Made, NoCore>
+    ensures { IfOk result (λ y. y ≡ alone (code.Loop at (Some condition) None body) []) }
+{
+    let code = code_forms::while_loop(alloc, at, condition, body)?;
+    Ok(Made::one(alloc, code)?)
+}
+
+pub(crate) fn do_made(
+    alloc: Global,
+    at: u32,
+    body: Shared<Code>,
+    condition: Shared<Expr>,
+) -> Result<Made, NoCore>
+    ensures { IfOk result (λ y. y ≡ alone (code.Repeat at condition body) []) }
+{
+    let code = code_forms::do_loop(alloc, at, body, condition)?;
+    Ok(Made::one(alloc, code)?)
+}
+
+pub(crate) fn for_made(
+    alloc: Global,
+    at: u32,
+    begun: ForBegun,
+    body: Shared<Code>,
+) -> Result<Made, NoCore>
+    ensures { IfOk result (λ y. y ≡ alone (code.Block false (begun.first ++ code.Loop at begun.condition begun.step body ∷ [])) []) }
+{
+    let ForBegun {
+        first,
+        condition,
+        step,
+    } = begun;
+    let turns = code_forms::for_turns(alloc, at, condition, step, body)?;
+    let code = code_forms::for_block(alloc, first, turns)?;
+    Ok(Made::one(alloc, code)?)
+}
