@@ -1,0 +1,4 @@
+pub mod Frames
+pub mod Settings
+pub mod Running
+pub mod Below
