@@ -124,11 +124,7 @@ fn read(
 }
 
 /// The core of a call, whose answer is used or not. It fails for want of memory alone.
-pub(crate) fn called(
-    alloc: Global,
-    call: Call,
-    is_used: bool,
-) -> Result<Shared<Expr>, AllocError>
+pub(crate) fn called(alloc: Global, call: Call, is_used: bool) -> Result<Shared<Expr>, AllocError>
     ensures { IfOk result (λ e. e ≡ call_node call is_used) }
 {
     let Call {

@@ -6,7 +6,7 @@ ghost use Rattle.core_tree.specs.declared.expr.Expr.TheVariants as expr;
 ghost use Rattle.core_forms.specs.Nodes as nodes;
 ghost use Rattle.core_forms.specs.Nodes.{a_value, cast_type, type_by, HasWorth};
 
-use crate::built::{Built, Used, valued, value_of};
+use crate::built::{Built, Used, value_of, valued};
 use crate::failure::NoCore;
 use crate::types::{type_as, type_of};
 use c_says::{Fault, Rule};

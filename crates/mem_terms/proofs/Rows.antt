@@ -1,9 +1,13 @@
--- Worked rows of the definitions: a store of bytes written, zeroed, copied onto itself with an overlap, read in every
--- width and around the end of the address space; an object's size and kind before and after its end.
-use Rattle.std.proofs.Common.{◌≡◌, ◌-◌, ◌^◌, true, false, refl}
+-- Worked rows of the definitions: a store of bytes written, zeroed, copied onto itself with an overlap, chosen, read in
+-- every width and around the end of the address space; an object's size and kind before and after its end.
+use Rattle.std.proofs.Common.{◌≡◌, ◌-◌, ◌^◌, ℕ, zero, suc, Bool, true, false, List, [], refl}
+use Rattle.bit_words.specs.declared.width.Width.TheVariants.{W16}
 use Rattle.c_store.specs.declared.object.ObjectKind.TheVariants.{Heap, Static}
 use Rattle.c_store.specs.Store.{Store, initial, make, end, object_size}
 use Rattle.c_store.specs.Access.{is_live}
+use Rattle.term_bank.specs.declared.shape.Shape.TheVariants.{Choose, Read}
+use Rattle.term_bank.specs.declared.sort.Sort.TheVariants.{Memory}
+use Rattle.term_bank.specs.Values.{Environment, Values, worth, of_truth, of_word, of_store}
 use Rattle.term_bank.specs.Memories.{behind, distance, is_within, lay, write, zero_range, copy_range, read, has_kind}
 
 blank : Store
@@ -42,6 +46,38 @@ copied = refl
 round : read 1 (write 2 (2 ^ 64 - 1) 258 blank) 0 ≡ 1
 unfolding blank read write lay is_within distance behind
 round = refl
+
+-- a choice between these bytes and none: node 0 is the truth, 1 and 2 the memories, 3 what is chosen, 4 the address 0
+nowhere : Environment
+nowhere = record {
+  entry = blank;
+  parameters = [];
+  base = 0;
+  words = λ _. 0;
+  bytes = λ _. 0;
+  rows = λ _ _. 0;
+}
+
+choosing : Bool → Values
+choosing b zero = of_truth b
+choosing b (suc zero) = of_store bytes
+choosing b (suc (suc zero)) = of_store blank
+choosing b (suc (suc (suc n))) = of_word 0
+
+chosen : Bool → Values
+chosen b zero = of_truth b
+chosen b (suc zero) = of_store bytes
+chosen b (suc (suc zero)) = of_store blank
+chosen b (suc (suc (suc zero))) = worth nowhere (choosing b) (Choose Memory 0 1 2)
+chosen b (suc (suc (suc (suc n)))) = of_word 0
+
+first_chosen : (worth nowhere (chosen true) (Read W16 3 4)).word ≡ 0x0201
+unfolding nowhere choosing chosen bytes blank read write lay is_within distance behind
+first_chosen = refl
+
+second_chosen : (worth nowhere (chosen false) (Read W16 3 4)).word ≡ 0
+unfolding nowhere choosing chosen bytes blank read write lay is_within distance behind
+second_chosen = refl
 
 alive : Store
 alive = make 3 (record { kind = Heap; size = 16 }) blank

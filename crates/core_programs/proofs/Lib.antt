@@ -1,0 +1,5 @@
+pub mod Starts
+pub mod Programs
+pub mod Machines
+pub mod Callings
+pub mod OffsetLaws
