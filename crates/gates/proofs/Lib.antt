@@ -1,0 +1,3 @@
+pub mod GateLemmas
+pub mod BitLemmas
+pub mod CellLemmas
