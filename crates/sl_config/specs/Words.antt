@@ -1,6 +1,6 @@
 -- Which words are a command line, and what they ask for.
-use Rattle.std.specs.Prelude.{ℕ, ◌+◌, ◌-◌, ◌*◌, ◌==◌, ◌&&◌, min, not, nat_le, nat_lt, if◌then◌else◌, unwrap_or, is_some, Bool, true, false, List, [], ◌∷◌, ◌++◌, length, take, drop, slice_index, codes, Option, Some, None, Result, Ok, Err}
-use Rattle.std.specs.List.{list_all, prefix_len}
+use Rattle.std.specs.Prelude.{ℕ, ◌+◌, ◌-◌, ◌*◌, ◌==◌, ◌&&◌, min, not, nat_le, nat_lt, if◌then◌else◌, unwrap_or, is_some, Bool, true, false, List, [], ◌∷◌, ◌++◌, length, slice_index, codes, option_and_then, Option, Some, None, Result, Ok, Err}
+use Rattle.std.specs.List.{list_all, list_any, before_first, after_first}
 use Rattle.std.specs.Char.{is_ascii_digit}
 use Rattle.std.specs.Str.{bytes_eq}
 use Rattle.sl_config.specs.Generated.{Text}
@@ -154,23 +154,39 @@ abbrev pub on_flag : Option Flag → (Flag → Answer) → Answer → Answer
 on_flag None go other = other
 on_flag (Some flag) go other = go flag
 
--- the bytes before the first `=`
-abbrev pub name_len : Text → ℕ
-name_len word = prefix_len (λ b. not (b == 61)) word
+abbrev pub with_bare_name : Command → Given → Text → Answer
+with_bare_name command given name =
+    on_flag (flag_named name) (λ f. with_flag command given f) (on_setting (setting_named name) (λ s. with_wanted command given s))
 
--- what stands behind `--`
-unfoldable pub with_name : Command → Given → Text → Answer
-with_name command given word =
-    if nat_lt (name_len word) (length word)
-    then on_setting (setting_named (take (name_len word) word)) (λ s. with_setting command given s (drop (name_len word + 1) word))
-    else on_flag (flag_named word) (λ f. with_flag command given f) (on_setting (setting_named word) (λ s. with_wanted command given s))
+-- a name behind `--`, and the value behind its `=`, if there is one
+abbrev pub with_name : Command → Given → Text → Option Text → Answer
+with_name command given name None = with_bare_name command given name
+with_name command given name (Some value) = on_setting (setting_named name) (λ s. with_setting command given s value)
+
+abbrev pub is_equals : ℕ → Bool
+is_equals byte = byte == 61
+
+-- the bytes before the first `=`, and those behind it
+abbrev pub name_and_value : Text → Text × Option Text
+name_and_value word = (before_first is_equals word, if list_any is_equals word then Some (after_first is_equals word) else None)
 
 -- it begins with `-` and is longer than one byte
 abbrev pub is_dashed : Text → Bool
 is_dashed word = nat_lt 1 (length word) && (slice_index word 0 == 45)
 
-abbrev pub with_option : Command → Given → Text → Answer
-with_option command given word = if slice_index word 1 == 45 then with_name command given (drop 2 word) else Err Usage
+abbrev pub behind_hyphen : Text → Option Text
+behind_hyphen [] = None
+behind_hyphen (byte ∷ word) = if byte == 45 then Some word else None
+
+abbrev pub behind_hyphens : Text → Option Text
+behind_hyphens word = option_and_then behind_hyphen (behind_hyphen word)
+
+abbrev pub by_option : Command → Given → Option Text → Answer
+by_option command given None = Err Usage
+by_option command given (Some option) = with_name command given (name_and_value option).0 (name_and_value option).1
+
+unfoldable pub with_option : Command → Given → Text → Answer
+with_option command given word = by_option command given (behind_hyphens word)
 
 abbrev pub with_free_word : Command → Given → Text → Answer
 with_free_word command given word =

@@ -1,4 +1,4 @@
-use bit_words::Bytes;
+use crate::name::Name;
 use plain_data::Items;
 
 /// An option with a value.
@@ -21,9 +21,9 @@ pub(crate) enum Flag {
 /// What was read of the words so far.
 #[derive(Drop)]
 pub(crate) struct Given {
-    pub(crate) places: Items<Bytes>,
-    pub(crate) config: Option<Bytes>,
-    pub(crate) cert: Option<Bytes>,
+    pub(crate) places: Items<Name>,
+    pub(crate) config: Option<Name>,
+    pub(crate) cert: Option<Name>,
     pub(crate) turns: Option<u32>,
     pub(crate) depth: Option<u32>,
     pub(crate) conflicts: Option<u32>,

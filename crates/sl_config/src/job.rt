@@ -1,4 +1,4 @@
-use bit_words::Bytes;
+use crate::name::Name;
 use plain_data::Items;
 use std::alloc::AllocError;
 use thiserror::Error;
@@ -19,11 +19,11 @@ pub enum Command {
 pub struct Job {
     pub command: Command,
     /// The words that stand by themselves, in order.
-    pub places: Items<Bytes>,
+    pub places: Items<Name>,
     /// The number of `self N`.
     pub count: Option<u32>,
-    pub config: Option<Bytes>,
-    pub cert: Option<Bytes>,
+    pub config: Option<Name>,
+    pub cert: Option<Name>,
     pub turns: u32,
     pub depth: u32,
     pub conflicts: u32,

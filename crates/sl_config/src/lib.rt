@@ -5,6 +5,7 @@
 mod generating;
 mod given;
 mod job;
+mod name;
 mod numbers;
 mod reading;
 mod step;
@@ -12,6 +13,7 @@ mod table;
 
 pub use generating::{MakeFault, make_log, make_source};
 pub use job::{Command, Job, WordsFault};
+pub use name::Name;
 pub use reading::read_words;
 
 #[cfg(test)]

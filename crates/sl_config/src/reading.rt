@@ -31,7 +31,7 @@ fn with_words(alloc: Global, command: Command, words: &[String]) -> Result<Given
 {
     let mut given = nothing_given(alloc);
     'words: for word in words {
-        given = with_word(alloc, command, given, word.as_bytes())?;
+        given = with_word(alloc, command, given, word.as_str())?;
     }
     Ok(given)
 }
@@ -46,7 +46,7 @@ fn count_of(command: Command, given: &Given) -> Option<u32>
     ensures { result ≡ spec.count_of command given.now.places }
 {
     match (command, given.places.as_slice()) {
-        (Command::SelfTest, [word, ..]) => number_in(1, 200, word.as_slice()),
+        (Command::SelfTest, [word, ..]) => number_in(1, 200, word.as_str().as_bytes()),
         _ => None,
     }
 }
@@ -93,7 +93,7 @@ pub fn read_words(alloc: Global, words: &[String]) -> Result<Job, WordsFault>
     let Some((first, rest)) = words.split_first() else {
         return Err(WordsFault::Usage);
     };
-    let Some(command) = command_named(first.as_bytes()) else {
+    let Some(command) = command_named(first.as_str()) else {
         return Err(WordsFault::Usage);
     };
     let given = with_words(alloc, command, rest)?;

@@ -1,26 +1,26 @@
 //! One word after the other.
-ghost use Rattle.std.specs.Prelude.{◌≡◌, ◌≢◌, Err, ◌<◌, length};
+ghost use Rattle.std.specs.Prelude.{◌≡◌, ◌≢◌, Err, option_map};
 ghost use Rattle.sl_config.specs.Words as spec;
 
 use crate::given::{Flag, Given, Setting};
 use crate::job::{Command, WordsFault};
+use crate::name::Name;
 use crate::numbers::number_in;
 use crate::table::{flag_named, places, setting_named, takes, takes_flag};
-use plain_data::Items;
 use std::alloc::Global;
 
 fn with_place(
     alloc: Global,
     command: Command,
     mut given: Given,
-    word: &[u8],
+    word: &str,
 ) -> Result<Given, WordsFault>
     ensures { result ≢ Err WordsFault.Memory → result ≡ spec.with_place command given word.now }
 {
     if word.is_empty() || given.places.len() >= places(command) {
         return Err(WordsFault::Usage);
     }
-    given.places.push(Items::from_slice(alloc, word)?)?;
+    given.places.push(Name::new(alloc, word)?)?;
     Ok(given)
 }
 
@@ -76,20 +76,20 @@ fn with_value(
     alloc: Global,
     mut given: Given,
     setting: Setting,
-    value: &[u8],
+    value: &str,
 ) -> Result<Given, WordsFault>
     ensures { result ≢ Err WordsFault.Memory → result ≡ spec.with_value given setting value.now }
 {
     match setting {
-        Setting::Turns => with_turns(given, number_in(1, 64, value)),
-        Setting::Depth => with_depth(given, number_in(1, 16, value)),
-        Setting::Conflicts => with_conflicts(given, number_in(1, 200_000, value)),
+        Setting::Turns => with_turns(given, number_in(1, 64, value.as_bytes())),
+        Setting::Depth => with_depth(given, number_in(1, 16, value.as_bytes())),
+        Setting::Conflicts => with_conflicts(given, number_in(1, 200_000, value.as_bytes())),
         Setting::Config => {
-            given.config = Some(Items::from_slice(alloc, value)?);
+            given.config = Some(Name::new(alloc, value)?);
             Ok(given)
         }
         Setting::Cert => {
-            given.cert = Some(Items::from_slice(alloc, value)?);
+            given.cert = Some(Name::new(alloc, value)?);
             Ok(given)
         }
     }
@@ -100,7 +100,7 @@ fn with_setting(
     command: Command,
     given: Given,
     setting: Setting,
-    value: &[u8],
+    value: &str,
 ) -> Result<Given, WordsFault>
     ensures { result ≢ Err WordsFault.Memory → result ≡ spec.with_setting command given setting value.now }
 {
@@ -142,73 +142,90 @@ fn with_flag(command: Command, mut given: Given, flag: Flag) -> Result<Given, Wo
     Ok(given)
 }
 
-/// How many bytes stand before the first `=`.
-fn name_len(word: &[u8]) -> usize
-    ensures { result ≡ spec.name_len word.now }
+fn with_bare_name(command: Command, given: Given, name: &str) -> Result<Given, WordsFault>
+    ensures { result ≡ spec.with_bare_name command given name.now }
 {
-    word.iter().take_while(|b| **b != b'=').count()
-}
-
-fn with_bare_name(command: Command, given: Given, word: &[u8]) -> Result<Given, WordsFault>
-    ensures { result ≡ spec.on_flag (spec.flag_named word.now) (λ f. spec.with_flag command given f)
-        (spec.on_setting (spec.setting_named word.now) (λ s. spec.with_wanted command given s)) }
-{
-    match (flag_named(word), setting_named(word)) {
+    match (flag_named(name), setting_named(name)) {
         (Some(flag), _) => with_flag(command, given, flag),
         (None, Some(setting)) => with_wanted(command, given, setting),
         (None, None) => Err(WordsFault::Usage),
     }
 }
 
-#[tactic(auto, unfolding(crate::specs::Words::with_name))]
+/// The bytes before the first `=`, and those behind it, if there is one.
+fn name_and_value(word: &str) -> (&str, Option<&str>)
+    ensures { (result.0.now, option_map (λ s. s.now) result.1) ≡ spec.name_and_value word.now }
+{
+    match word.split_once('=') {
+        Some((name, value)) => (name, Some(value)),
+        None => (word, None),
+    }
+}
+
 fn with_name(
     alloc: Global,
     command: Command,
     given: Given,
-    word: &[u8],
+    name: &str,
+    value: Option<&str>,
 ) -> Result<Given, WordsFault>
-    ensures { result ≢ Err WordsFault.Memory → result ≡ spec.with_name command given word.now }
+    ensures { result ≢ Err WordsFault.Memory → result ≡ spec.with_name command given name.now (option_map (λ s. s.now) value.entry) }
 {
-    let at = name_len(word);
-    if at >= word.len() {
-        return with_bare_name(command, given, word);
-    }
-    let Some(setting) = setting_named(&word[..at]) else {
-        return Err(WordsFault::Usage);
+    let Some(value) = value else {
+        return with_bare_name(command, given, name);
     };
-    with_setting(alloc, command, given, setting, &word[at + 1..])
+    match setting_named(name) {
+        Some(setting) => with_setting(alloc, command, given, setting, value),
+        None => Err(WordsFault::Usage),
+    }
 }
 
-fn is_dashed(word: &[u8]) -> bool
+fn is_dashed(word: &str) -> bool
     ensures { result ≡ spec.is_dashed word.now }
 {
-    1 < word.len() && word[0] == b'-'
+    let bytes = word.as_bytes();
+    1 < bytes.len() && bytes[0] == b'-'
 }
 
+/// What stands behind a first `-`.
+fn behind_hyphen(word: &str) -> Option<&str>
+    ensures { option_map (λ s. s.now) result ≡ spec.behind_hyphen word.now }
+{
+    word.strip_prefix('-')
+}
+
+/// What stands behind a first `--`.
+fn behind_hyphens(word: &str) -> Option<&str>
+    ensures { option_map (λ s. s.now) result ≡ spec.behind_hyphens word.now }
+{
+    behind_hyphen(behind_hyphen(word)?)
+}
+
+#[tactic(auto, unfolding(crate::specs::Words::with_option))]
 fn with_option(
     alloc: Global,
     command: Command,
     given: Given,
-    word: &[u8],
+    word: &str,
 ) -> Result<Given, WordsFault>
-    requires { 1 < length word.now }
     ensures { result ≢ Err WordsFault.Memory → result ≡ spec.with_option command given word.now }
 {
-    if word[1] != b'-' {
+    let Some(option) = behind_hyphens(word) else {
         return Err(WordsFault::Usage);
-    }
-    with_name(alloc, command, given, &word[2..])
+    };
+    let (name, value) = name_and_value(option);
+    with_name(alloc, command, given, name, value)
 }
 
 fn with_free_word(
     alloc: Global,
     command: Command,
     mut given: Given,
-    word: &[u8],
+    word: &str,
 ) -> Result<Given, WordsFault>
     ensures { result ≢ Err WordsFault.Memory → result ≡ spec.with_free_word command given word.now }
 {
-    if word == b"--".as_slice() {
+    if word == "--" {
         given.trailing = true;
         return Ok(given);
     }
@@ -225,7 +242,7 @@ pub(crate) fn with_word(
     alloc: Global,
     command: Command,
     mut given: Given,
-    word: &[u8],
+    word: &str,
 ) -> Result<Given, WordsFault>
     ensures { result ≢ Err WordsFault.Memory → result ≡ spec.with_word command given word.now }
 {

@@ -5,23 +5,17 @@ ghost use Rattle.sl_config.specs.Words as spec;
 use crate::given::{Flag, Setting};
 use crate::job::Command;
 
-pub(crate) fn command_named(word: &[u8]) -> Option<Command>
+pub(crate) fn command_named(word: &str) -> Option<Command>
     ensures { result ≡ spec.command_named word.now }
 {
-    if word == b"diagnose".as_slice() {
-        Some(Command::Diagnose)
-    } else if word == b"check".as_slice() {
-        Some(Command::Check)
-    } else if word == b"replay".as_slice() {
-        Some(Command::Replay)
-    } else if word == b"sites".as_slice() {
-        Some(Command::Sites)
-    } else if word == b"match".as_slice() {
-        Some(Command::Match)
-    } else if word == b"self".as_slice() {
-        Some(Command::SelfTest)
-    } else {
-        None
+    match word {
+        "diagnose" => Some(Command::Diagnose),
+        "check" => Some(Command::Check),
+        "replay" => Some(Command::Replay),
+        "sites" => Some(Command::Sites),
+        "match" => Some(Command::Match),
+        "self" => Some(Command::SelfTest),
+        _ => None,
     }
 }
 
@@ -57,32 +51,25 @@ pub(crate) fn takes_flag(command: Command, flag: Flag) -> bool
     }
 }
 
-pub(crate) fn setting_named(name: &[u8]) -> Option<Setting>
+pub(crate) fn setting_named(name: &str) -> Option<Setting>
     ensures { result ≡ spec.setting_named name.now }
 {
-    if name == b"config".as_slice() {
-        Some(Setting::Config)
-    } else if name == b"turns".as_slice() {
-        Some(Setting::Turns)
-    } else if name == b"depth".as_slice() {
-        Some(Setting::Depth)
-    } else if name == b"conflicts".as_slice() {
-        Some(Setting::Conflicts)
-    } else if name == b"cert".as_slice() {
-        Some(Setting::Cert)
-    } else {
-        None
+    match name {
+        "config" => Some(Setting::Config),
+        "turns" => Some(Setting::Turns),
+        "depth" => Some(Setting::Depth),
+        "conflicts" => Some(Setting::Conflicts),
+        "cert" => Some(Setting::Cert),
+        _ => None,
     }
 }
 
-pub(crate) fn flag_named(name: &[u8]) -> Option<Flag>
+pub(crate) fn flag_named(name: &str) -> Option<Flag>
     ensures { result ≡ spec.flag_named name.now }
 {
-    if name == b"by-line".as_slice() {
-        Some(Flag::ByLine)
-    } else if name == b"json".as_slice() {
-        Some(Flag::Json)
-    } else {
-        None
+    match name {
+        "by-line" => Some(Flag::ByLine),
+        "json" => Some(Flag::Json),
+        _ => None,
     }
 }

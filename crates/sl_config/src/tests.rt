@@ -144,14 +144,8 @@ fn what_is_asked_for(rt: HostRuntime) -> Result<(), Fail> {
         (job.command, job.by_line, job.json),
         (Command::Check, true, false)
     );
-    assert_eq!(rt;
-        job.places.get(2).map(|place| place.as_slice()),
-        Some(b"-x".as_slice())
-    );
-    assert_eq!(rt;
-        job.config.as_ref().map(|name| name.as_slice()),
-        Some(b"c".as_slice())
-    );
+    assert_eq!(rt; job.places.get(2).map(|place| place.as_str()), Some("-x"));
+    assert_eq!(rt; job.config.as_ref().map(|name| name.as_str()), Some("c"));
     assert!(rt; job.cert.is_none());
     Ok(())
 }

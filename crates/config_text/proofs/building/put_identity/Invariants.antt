@@ -1,0 +1,7 @@
+use Rattle.std.proofs.Common.{◌≡◌, ◌++◌}
+use Rattle.serde_json.specs.View.{members_view}
+use Rattle.config_text.specs.Values.{for_each, identity_function}
+use Rattle.config_text.proofs.building.put_identity.Given as goal
+
+abbrev pub invariant-loop-key : goal.invariant-loop-key
+invariant-loop-key l = l.all ++ for_each identity_function (members_view l.key-iterator) ≡ l.fn.all ++ for_each identity_function (members_view l.fn.entries.entries)
