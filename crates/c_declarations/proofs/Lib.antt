@@ -1,3 +1,4 @@
+pub mod BegunLaws
 pub mod Heads
 pub mod Signed
 pub mod Wholes

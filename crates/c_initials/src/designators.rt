@@ -257,7 +257,7 @@ fn designated_further(
 }
 
 /// Designators, which begin at the object of the closest braces. It fails for want of memory alone.
-pub(crate) fn designated_by(
+pub fn designated_by(
     alloc: Global,
     designators: &[Designator],
     filling: Filling,

@@ -9,7 +9,11 @@ mod parts;
 mod trees;
 mod values;
 
+pub use designators::designated_by;
 pub use filling::{Filling, fills_value};
 pub use frames::{Frame, Frames};
 pub use parts::Part;
-pub use trees::{filling_of, fills};
+pub use trees::{
+    Goes, Opened, filling_of, fills, list_alone, list_begun, list_closed, value_alone,
+    with_part_left,
+};

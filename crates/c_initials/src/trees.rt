@@ -24,7 +24,7 @@ use std::marker::Model;
 
 /// Where the closest braces go on behind a list for a part.
 #[derive(Drop)]
-struct Goes {
+pub struct Goes {
     frames: Frames,
     high: u64,
 }
@@ -37,15 +37,21 @@ impl Model for Goes {
     ghost view = { λ g. record { frames = g.frames; high = g.high } };
 }
 
-/// A list for a part, at its beginning.
+/// A list for a part, at its beginning, and where the closest braces go on behind it.
 #[derive(Drop)]
-struct Opened {
-    inside: Filling,
-    outside: Option<Goes>,
+pub struct Opened {
+    pub inside: Filling,
+    pub outside: Option<Goes>,
 }
 
-/// Begins a list that initialises the next part of the innermost object that has one left (C99 6.7.8p20).
-fn begun(alloc: Global, scope: &Scope, at: u32, filling: Filling) -> Result<Opened, AllocError>
+/// Begins a list that initialises the next part of the innermost object that has one left (C99 6.7.8p20). It fails for
+/// want of memory alone.
+pub fn list_begun(
+    alloc: Global,
+    scope: &Scope,
+    at: u32,
+    filling: Filling,
+) -> Result<Opened, AllocError>
     ensures inside { IfOk result (λ o. o.inside ≡ said.opened at scope.now.tables filling.frames filling) }
     ensures outside { IfOk result (λ o. o.outside ≡ said.goes_on filling.frames filling.high) }
 {
@@ -92,7 +98,7 @@ fn begun_within(alloc: Global, part: Shared<Part>, filling: Filling) -> Result<O
 }
 
 /// Goes on behind a list for a part.
-fn closed(outside: Option<Goes>, filling: Filling, scope: &Scope) -> Filling
+pub fn list_closed(outside: Option<Goes>, filling: Filling, scope: &Scope) -> Filling
     ensures { filling_in result scope.now ≡ said.closed outside (filling_in filling scope.now) }
 {
     match outside {
@@ -106,7 +112,8 @@ fn closed(outside: Option<Goes>, filling: Filling, scope: &Scope) -> Filling
     }
 }
 
-fn with_part_left(scope: &Scope, filling: Filling) -> Filling
+/// Leaves the objects without a part left. It takes no memory.
+pub fn with_part_left(scope: &Scope, filling: Filling) -> Filling
     ensures { result ≡ record filling { frames = spec.with_part_left scope.now.tables filling.frames } }
 {
     let Filling {
@@ -157,9 +164,9 @@ fn fills_list(
 ) -> Result<Filling, AllocError>
     ensures { IfOk result (λ z. filling_in z scope.new ≡ spec.fills_list at (map said.item_fills items.now) filling.frames (filling_in filling scope.old)) }
 {
-    let Opened { inside, outside } = begun(alloc, scope, at, filling)?;
+    let Opened { inside, outside } = list_begun(alloc, scope, at, filling)?;
     let filled = fills_all(alloc, items, inside, scope)?;
-    Ok(closed(outside, filled, scope))
+    Ok(list_closed(outside, filled, scope))
 }
 
 #[cycle(initial)]
@@ -192,7 +199,15 @@ fn fills_item(
     fills(alloc, item.value.get(), filling, scope)
 }
 
-fn value_alone(
+/// A list in braces for a whole object, at its beginning. It fails for want of memory alone.
+pub fn list_alone(alloc: Global, whole: Shared<Part>) -> Result<Filling, AllocError>
+    ensures { IfOk result (λ z. z ≡ record no_filling { frames = spec.started whole ∷ [] }) }
+{
+    Filling::new(alloc).within(Frame::started(whole))
+}
+
+/// An expression without braces, for a whole object. It fails for want of memory alone.
+pub fn value_alone(
     alloc: Global,
     scope: &Scope,
     told: Told,
@@ -225,7 +240,7 @@ pub fn filling_of(
             value_alone(alloc, scope, told, whole)
         }
         Initializer::List { items, .. } => {
-            let filling = Filling::new(alloc).within(Frame::started(whole))?;
+            let filling = list_alone(alloc, whole)?;
             fills_all(alloc, items.as_slice(), filling, scope)
         }
     }

@@ -1,5 +1,5 @@
 use Rattle.std.proofs.Common.{◌≡◌, [], ◌∷◌, IfOk, map, ap, sym, subst, ◌∙◌}
-use Rattle.c_says.specs.Initials.{Part, Frame, Filling, started, filling_of, fills_all}
+use Rattle.c_says.specs.Initials.{Part, Filling, started, filling_of, fills_all}
 use Rattle.c_says.specs.Units.{initial_says}
 use Rattle.c_initials.specs.Filled.{Filled, filling_in, no_filling}
 use Rattle.c_initials.specs.Said.{item_fills}
@@ -14,8 +14,6 @@ returns-in_ok-filling-in-List c =
     ap (λ items. fills_all (map item_fills items) (filling_in c.in_ok-filling-in-List.filling s)) c.as_slice.ensures
     ∙ ap (λ (f : Filled). fills_all (map item_fills c.in-List.items) (filling_in f s))
     (c.in_ok-filling-in-List.ensures
-    ∙ ap (λ (g : Filled). record g { frames = c.started.result ∷ g.frames }) c.new.ensures
-    ∙ ap (λ (f : Frame). record no_filling { frames = f ∷ [] }) c.started.ensures
     ∙ ap (λ (p : Part). record no_filling { frames = started p ∷ [] }) c.in_ok-whole.ensures)
     ∙ sym (list_of c.args.initializer.now c.in-List.at c.in-List.items c.in-List.trailing c.args.ctype s c.in-List.is)
     in
