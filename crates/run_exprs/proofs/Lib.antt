@@ -1,7 +1,0 @@
-pub mod NameLaws
-pub mod Unevaluated
-pub mod Compounds
-pub mod CallLaws
-pub mod CalleeLaws
-pub mod HasPlace
-pub mod ReadValues

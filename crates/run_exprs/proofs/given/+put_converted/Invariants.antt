@@ -1,5 +1,0 @@
-use Rattle.std.proofs.Common.{length}
-use Rattle.run_exprs.proofs.given.+put_converted.Given as goal
-
-abbrev pub decreases-put_converted : goal.decreases-put_converted
-decreases-put_converted l = length l.types.now

@@ -1,9 +1,0 @@
-pub mod Frames
-pub mod Tells
-pub mod Below
-pub mod Names
-pub mod Sites
-pub mod Calls
-pub mod Operating
-pub mod Arguments
-pub mod Telling

@@ -1,5 +1,0 @@
-use Rattle.std.proofs.Common.{length}
-use Rattle.run_stmts.proofs.below.Steps.+within.Given as goal
-
-abbrev pub decreases-within : goal.decreases-within
-decreases-within g l = length l.objects.now

@@ -1,5 +1,0 @@
-use Rattle.std.proofs.Common.{length}
-use Rattle.run_stmts.proofs.blocks.+bury.Given as goal
-
-abbrev pub decreases-bury : goal.decreases-bury
-decreases-bury l = length l.objects.now

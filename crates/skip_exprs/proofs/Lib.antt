@@ -1,2 +1,0 @@
-pub mod OnForms
-pub mod UnaryTold
