@@ -5,3 +5,6 @@
 mod places;
 
 pub use places::PlaceTable;
+
+#[cfg(test)]
+mod tests;
