@@ -9,3 +9,6 @@ mod reading;
 
 pub use config::{Config, ConfigFault};
 pub use reading::{default_config, read_config};
+
+#[cfg(test)]
+mod tests;
