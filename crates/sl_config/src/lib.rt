@@ -1,5 +1,5 @@
-//! The source and the log on which the program tries itself. (The words of a command line and the
-//! configuration come later.)
+//! What the words of a command line ask for, and the source and the log on which the program tries itself. (The
+//! configuration is read by `config_text`.)
 #![tactic(auto)]
 
 mod generating;
