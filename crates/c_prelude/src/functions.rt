@@ -6,7 +6,7 @@ ghost use Rattle.c_runs.specs.Prelude as texts;
 
 use crate::bench::{Bench, far, pointed};
 use crate::step::Step;
-use crate::tables;
+use crate::{comparing, copying, numbers};
 use bit_words::Bytes;
 use c_tree::{Body, Declarator, External, Parameter};
 use plain_data::{Items, Shared};
@@ -139,7 +139,7 @@ fn strlen(alloc: Global) -> Result<Shared<External>, AllocError>
         parenthesis: 20,
         star: None,
     };
-    made(alloc, b"strlen", head, &tables::STRLEN)
+    made(alloc, b"strlen", head, &comparing::STRLEN)
 }
 
 fn strcmp(alloc: Global) -> Result<Shared<External>, AllocError>
@@ -150,7 +150,7 @@ fn strcmp(alloc: Global) -> Result<Shared<External>, AllocError>
         parenthesis: 99,
         star: None,
     };
-    made(alloc, b"strcmp", head, &tables::STRCMP)
+    made(alloc, b"strcmp", head, &comparing::STRCMP)
 }
 
 fn strncmp(alloc: Global) -> Result<Shared<External>, AllocError>
@@ -161,7 +161,7 @@ fn strncmp(alloc: Global) -> Result<Shared<External>, AllocError>
         parenthesis: 250,
         star: None,
     };
-    made(alloc, b"strncmp", head, &tables::STRNCMP)
+    made(alloc, b"strncmp", head, &comparing::STRNCMP)
 }
 
 fn strchr(alloc: Global) -> Result<Shared<External>, AllocError>
@@ -172,7 +172,7 @@ fn strchr(alloc: Global) -> Result<Shared<External>, AllocError>
         parenthesis: 450,
         star: Some(443),
     };
-    made(alloc, b"strchr", head, &tables::STRCHR)
+    made(alloc, b"strchr", head, &comparing::STRCHR)
 }
 
 fn strcpy(alloc: Global) -> Result<Shared<External>, AllocError>
@@ -183,7 +183,7 @@ fn strcpy(alloc: Global) -> Result<Shared<External>, AllocError>
         parenthesis: 557,
         star: Some(550),
     };
-    made(alloc, b"strcpy", head, &tables::STRCPY)
+    made(alloc, b"strcpy", head, &copying::STRCPY)
 }
 
 fn strcat(alloc: Global) -> Result<Shared<External>, AllocError>
@@ -194,7 +194,7 @@ fn strcat(alloc: Global) -> Result<Shared<External>, AllocError>
         parenthesis: 656,
         star: Some(649),
     };
-    made(alloc, b"strcat", head, &tables::STRCAT)
+    made(alloc, b"strcat", head, &copying::STRCAT)
 }
 
 fn memset(alloc: Global) -> Result<Shared<External>, AllocError>
@@ -205,7 +205,7 @@ fn memset(alloc: Global) -> Result<Shared<External>, AllocError>
         parenthesis: 798,
         star: Some(791),
     };
-    made(alloc, b"memset", head, &tables::MEMSET)
+    made(alloc, b"memset", head, &copying::MEMSET)
 }
 
 fn memcpy(alloc: Global) -> Result<Shared<External>, AllocError>
@@ -216,7 +216,7 @@ fn memcpy(alloc: Global) -> Result<Shared<External>, AllocError>
         parenthesis: 931,
         star: Some(924),
     };
-    made(alloc, b"memcpy", head, &tables::MEMCPY)
+    made(alloc, b"memcpy", head, &copying::MEMCPY)
 }
 
 fn atoi(alloc: Global) -> Result<Shared<External>, AllocError>
@@ -227,7 +227,7 @@ fn atoi(alloc: Global) -> Result<Shared<External>, AllocError>
         parenthesis: 1099,
         star: None,
     };
-    made(alloc, b"atoi", head, &tables::ATOI)
+    made(alloc, b"atoi", head, &numbers::ATOI)
 }
 
 /// The functions of the C library that have a body here: `strlen`, `strcmp`, `strncmp`, `strchr`, `strcpy`, `strcat`, `memset`,

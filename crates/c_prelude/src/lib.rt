@@ -3,10 +3,12 @@
 #![tactic(auto)]
 
 mod bench;
+mod comparing;
+mod copying;
 mod functions;
+mod numbers;
 mod stack;
 mod step;
-mod tables;
 
 pub use functions::prelude;
 
