@@ -4,7 +4,7 @@ ghost use Rattle.std.specs.Map.{keys_of};
 ghost use Rattle.std.specs.List.Sorted.{IsStrictlySortedBy};
 ghost use Rattle.bit_words.specs.Worlds.{value_at, has_no_zero, Sets};
 
-use std::alloc::Global;
+use std::alloc::{AllocError, Global};
 use std::collections::BTreeMap;
 use std::collections::btree_map::Iter;
 use std::marker::Model;
@@ -46,6 +46,16 @@ impl World {
             words: BTreeMap::new(alloc),
             bytes: BTreeMap::new(alloc),
         }
+    }
+
+    /// A world that gives the same everywhere. It fails for want of memory alone.
+    pub fn duplicate(&self) -> Result<World, AllocError>
+        ensures { IfOk result (λ copy. copy ≡ self.now) }
+    {
+        Ok(World {
+            words: self.words.clone()?,
+            bytes: self.bytes.clone()?,
+        })
     }
 
     /// The word at a place.

@@ -277,6 +277,13 @@ impl Scope {
         &self.file
     }
 
+    /// What each open block declares, the outermost first.
+    pub fn blocks(&self) -> &[Block]
+        ensures { self.now.blocks ≡ reverse result.now }
+    {
+        &self.blocks
+    }
+
     /// Whether no block is open.
     pub fn in_file(&self) -> bool
         ensures { result ≡ spec.in_file self.now }
