@@ -326,6 +326,13 @@ impl Scope {
         self.linked.get(name)
     }
 
+    /// The objects and functions with linkage that were declared anywhere, in order.
+    pub fn linked(&self) -> &[Shared<Linked>]
+        ensures { result.now ≡ self.now.linked }
+    {
+        self.linked.as_slice()
+    }
+
     /// Notes an object or function with linkage. It fails for want of memory alone.
     pub fn note_linked(&mut self, linked: Shared<Linked>) -> Result<(), AllocError>
         ensures { OnOk result (self.new ≡ spec.with_linked linked.at linked.name linked.linkage linked.is_defined self.old) }
