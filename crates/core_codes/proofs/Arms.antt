@@ -1,6 +1,6 @@
 -- What each function of the recursion makes is the core of the statement that it is handed, by the equations that hold
 -- where it ends.
-use Rattle.std.proofs.Common.{◌≡◌, ℕ, ℤ, true, false, List, [], ◌∷◌, ◌++◌, map, Option, Some, None, refl, sym}
+use Rattle.std.proofs.Common.{◌≡◌, ℕ, ℤ, true, false, List, [], ◌++◌, map, Option, Some, None, refl, sym}
 use Rattle.std.proofs.Common.{ap, ap₂, ◌∙◌, subst}
 use Rattle.std.specs.Prelude.{option_map, IfSome}
 use Rattle.c_tree.specs.declared.expr.Expr.{Expr as CExpr}
@@ -15,31 +15,31 @@ use Rattle.c_says.specs.Typing.{type_in, value_in, used_told}
 use Rattle.c_means.specs.Operators.{kind_in}
 use Rattle.c_grammar.proofs.UnitEquations.{StmtSteps, of_stmt}
 use Rattle.c_runs.specs.Notes.{ExprNoted, noted}
-use Rattle.c_runs.specs.Items.{Item}
 use Rattle.c_runs.specs.Items as runs
 use Rattle.c_runs.specs.Statements.{stmt}
 use Rattle.c_runs.specs.Statements as statements
 use Rattle.c_runs.proofs.Equations as eq
-use Rattle.core_tree.specs.declared.code.Code.{Code}
 use Rattle.core_tree.specs.declared.code.Code.TheVariants as code
 use Rattle.core_tree.specs.declared.expr.Expr.{Expr}
 use Rattle.elaborate.specs.Means.{Numbering}
-use Rattle.elaborate.specs.Types.{word_type}
-use Rattle.code_forms.specs.declared.blocks.Content.{Content}
 use Rattle.code_forms.specs.Nodes.{negative_node}
 use Rattle.code_forms.specs.Contents.{case_values}
 use Rattle.core_codes.specs.declared.context.Context.{Context}
+use Rattle.core_codes.specs.declared.made.Body.{Body}
 use Rattle.core_codes.specs.declared.made.Made.{Made}
+use Rattle.core_codes.specs.declared.made.SubBlock.{SubBlock}
+use Rattle.core_codes.specs.declared.parts.Begun.{Begun}
 use Rattle.core_codes.specs.declared.parts.Valued.{Valued}
 use Rattle.core_codes.specs.declared.pieces.ForBegun.{ForBegun}
 use Rattle.core_codes.specs.declared.pieces.IfBegun.{IfBegun}
 use Rattle.core_codes.specs.Made.{IsMade, IsContent, IsSub, MaybeSub, IsIfBegun}
-use Rattle.core_codes.specs.Parts.{IsValued, IsBegun, IsForBegun, MaybeWorth, MaybeDone, alone, effect_node, return_node}
-use Rattle.core_codes.specs.Parts.{Wraps, same_cases, IsCase}
+use Rattle.core_codes.specs.Parts.{IsValued, IsBegun, IsForBegun, MaybeWorth, MaybeDone, alone, bare, effect_node}
+use Rattle.core_codes.specs.Parts.{return_node, code_if, settings_if, Wraps, same_cases, IsCase}
 use Rattle.core_codes.proofs.LoopParts.{declaration_gives_none, begun_gives_none}
 use Rattle.core_codes.proofs.Forms.{within, on_block, on_compound_content, on_other_content, on_sub, on_value}
 use Rattle.core_codes.proofs.Forms.{on_return, on_goto, on_continue, on_break, on_label, on_default, on_case, on_if}
-use Rattle.core_codes.proofs.Forms.{on_if_else, on_switch, on_while, on_do, on_for}
+use Rattle.core_codes.proofs.Forms.{on_if_else, on_switch, on_while, on_do, on_for, body_of, block_around, switch_node}
+use Rattle.core_codes.proofs.Forms.{for_node}
 
 -- ---- what is no compound statement is one item of its block
 
@@ -68,6 +68,10 @@ others = record {
   on_return = λ at value different. by_step _ _ (eq.does-Return at value) refl;
 }
 
+abbrev if_made : ℕ → IfBegun → Option SubBlock → Made
+if_made at g n = alone (code.If at g.condition g.positive.code (negative_node (code_if n))) []
+    (g.positive.settings ++ settings_if n)
+
 module _ (numbering : Numbering) (x : Context) (s : Scope) where
   -- a statement, by the form that it is
   as_form : (st : Stmt) (k : runs.Code) (y : Made) (t : Scope) → stmt st ≡ k → IsMade numbering x s k.here y t
@@ -82,19 +86,21 @@ module _ (numbering : Numbering) (x : Context) (s : Scope) where
   of_block st at items items' y t is c h = as_form st (statements.compound (map stmt items')) y t
       (ap stmt is ∙ eq.does-Block at items ∙ ap (λ is. statements.compound (map stmt is)) (sym c)) h
 
-  pub of_declared : (st : Stmt) (d : Declaration) (xs : List Code) (y : Made) (t : Scope) → st ≡ tree.Declared d
-      → IsBegun numbering xs (statements.declaration d s) t → y ≡ record { codes = xs; cases = [] }
+  pub of_declared : (st : Stmt) (d : Declaration) (z : Begun) (y : Made) (t : Scope) → st ≡ tree.Declared d
+      → IsBegun numbering z (statements.declaration d s) t
+      → y ≡ record { codes = z.codes; cases = []; settings = z.settings }
       → IsMade numbering x s (stmt st).here y t
-  of_declared st d xs y t is h made =
+  of_declared st d z y t is h made =
       as_form st (statements.code (λ c. statements.declaration d c.scope) []) y t (ap stmt is ∙ eq.does-Declared d)
       (subst (λ y. IsMade numbering x s (λ c. statements.declaration d c.scope) y t) (sym made) (record {
         codes = λ a r. h.codes;
         cases = λ a r. ap case_values (sym (declaration_gives_none d s));
+        lasting = λ a r. h.lasting;
         after = λ a r. h.after;
       }))
 
   pub of_value : (st : Stmt) (at : ℕ) (o : Option CExpr) (e : Option Expr) (y : Made) (t : Scope)
-      → st ≡ tree.Value at o → MaybeDone numbering e (option_map noted o) s t → y ≡ alone (effect_node e) []
+      → st ≡ tree.Value at o → MaybeDone numbering e (option_map noted o) s t → y ≡ bare (effect_node e)
       → IsMade numbering x s (stmt st).here y t
   of_value st at o e y t is h made =
       as_form st (statements.code (λ c. runs.node (statements.maybe_value (option_map noted o) c.scope)) []) y t
@@ -126,8 +132,8 @@ module _ (numbering : Numbering) (x : Context) (s : Scope) where
 
   -- with or without `else`
   either : (at : ℕ) (f : ExprNoted) (b : runs.Code) (o : Option runs.Code) (g : IfBegun) (u : Scope)
-      (n : Option Code) (y : Made) (v : Scope) → IsIfBegun numbering x s f b g u → MaybeSub numbering x u o n v
-      → y ≡ alone (code.If at g.condition g.positive (negative_node n)) []
+      (n : Option SubBlock) (y : Made) (v : Scope) → IsIfBegun numbering x s f b g u → MaybeSub numbering x u o n v
+      → y ≡ if_made at g n
       → IsMade numbering x s (statements.if_of at f b o).here y (leave v)
   either at f b None g u None y v h k is =
       on_if numbering x s at f b g y v (subst (λ w. IsIfBegun numbering x s f b g w) (sym k) h) is
@@ -136,9 +142,9 @@ module _ (numbering : Numbering) (x : Context) (s : Scope) where
   either at f b (Some o) g u (Some c) y v h k is = on_if_else numbering x s at f b g u o c y v h k is
 
   pub of_if : (st : Stmt) (at : ℕ) (e e' : CExpr) (b b' : Stmt) (o : Option Stmt) (g : IfBegun) (u : Scope)
-      (n : Option Code) (y : Made) (v w : Scope) → st ≡ tree.If at e b o → e' ≡ e → b' ≡ b
+      (n : Option SubBlock) (y : Made) (v w : Scope) → st ≡ tree.If at e b o → e' ≡ e → b' ≡ b
       → IsIfBegun numbering x s (noted e') (stmt b') g u → MaybeSub numbering x u (option_map stmt o) n v
-      → w ≡ leave v → y ≡ alone (code.If at g.condition g.positive (negative_node n)) []
+      → w ≡ leave v → y ≡ if_made at g n
       → IsMade numbering x s (stmt st).here y w
   of_if st at e e' b b' o g u n y v w is c d h k left made = as_form st (an_if_of at e' b' o) y w
       (ap stmt is ∙ eq.does-If at e b o ∙ ap₂ (λ e b. an_if_of at e b o) (sym c) (sym d))
@@ -173,11 +179,11 @@ module _ (numbering : Numbering) (x : Context) (s : Scope) where
       statements.for_of at (statements.begun_by first) (option_map noted condition) (option_map noted step) (stmt b)
 
   pub of_for : (st : Stmt) (at : ℕ) (first : ForStart) (condition step : Option CExpr) (b b' : Stmt) (s' : Scope)
-      (g : ForBegun) (t : Scope) (c : Code) (y : Made) (u w : Scope) → st ≡ tree.For at first condition step b
+      (g : ForBegun) (t : Scope) (c : SubBlock) (y : Made) (u w : Scope) → st ≡ tree.For at first condition step b
       → b' ≡ b → s' ≡ enter s
       → IsForBegun numbering s' (statements.begun_by first) (option_map noted condition) (option_map noted step) g t
       → IsSub numbering x t (runs.sub (stmt b')) c u → w ≡ leave u
-      → y ≡ alone (code.Block false (g.first ++ code.Loop at g.condition g.step c ∷ [])) []
+      → y ≡ alone (for_node at g c) [] (g.first.settings ++ c.settings)
       → IsMade numbering x s (stmt st).here y w
   of_for st at first condition step b b' s' g t c y u w is d inside h k left made =
       as_form st (a_for at first condition step b') y w
@@ -190,23 +196,23 @@ module _ (numbering : Numbering) (x : Context) (s : Scope) where
       (begun_gives_none first (enter s)) k made))
 
   pub of_goto : (st : Stmt) (at : ℕ) (name : Name) (y : Made) → st ≡ tree.Goto at name
-      → y ≡ alone (code.Goto name) [] → IsMade numbering x s (stmt st).here y s
+      → y ≡ bare (code.Goto name) → IsMade numbering x s (stmt st).here y s
   of_goto st at name y is made = as_form st (statements.code (statements.goto_of at name) []) y s
       (ap stmt is ∙ eq.does-Goto at name) (on_goto numbering x s at name y made)
 
-  pub of_continue : (st : Stmt) (at : ℕ) (y : Made) → st ≡ tree.Continue at → y ≡ alone code.Continue []
+  pub of_continue : (st : Stmt) (at : ℕ) (y : Made) → st ≡ tree.Continue at → y ≡ bare code.Continue
       → IsMade numbering x s (stmt st).here y s
   of_continue st at y is made = as_form st (statements.code (statements.continue_of at) []) y s
       (ap stmt is ∙ eq.does-Continue at) (on_continue numbering x s at y made)
 
-  pub of_break : (st : Stmt) (at : ℕ) (y : Made) → st ≡ tree.Break at → y ≡ alone code.Break []
+  pub of_break : (st : Stmt) (at : ℕ) (y : Made) → st ≡ tree.Break at → y ≡ bare code.Break
       → IsMade numbering x s (stmt st).here y s
   of_break st at y is made = as_form st (statements.code (statements.break_of at) []) y s
       (ap stmt is ∙ eq.does-Break at) (on_break numbering x s at y made)
 
   pub of_return : (st : Stmt) (at : ℕ) (o : Option CExpr) (e : Option Expr) (y : Made) (t : Scope)
       → st ≡ tree.Return at o → MaybeWorth numbering e (option_map noted o) s t
-      → y ≡ alone (return_node x.returned e) [] → IsMade numbering x s (stmt st).here y t
+      → y ≡ bare (return_node x.returned e) → IsMade numbering x s (stmt st).here y t
   of_return st at o e y t is h made =
       as_form st (statements.code (statements.return_of at (option_map noted o)) []) y t
       (ap stmt is ∙ eq.does-Return at o) (on_return numbering x s at e (option_map noted o) y t h made)
@@ -215,7 +221,7 @@ module _ (numbering : Numbering) (x : Context) (s : Scope) where
 
   pub a_block : (items : List Stmt) (x' : Context) (s' : Scope) (made y : Made) (t w : Scope) → x' ≡ within x
       → s' ≡ enter s → IsMade numbering x' s' (runs.in_turn (map stmt items)) made t → w ≡ leave t
-      → y ≡ alone (code.Block true made.codes) []
+      → y ≡ alone (code.Block true made.codes) [] made.settings
       → IsMade numbering x s (statements.compound (map stmt items)).here y w
   a_block items x' s' made y t w inside entered h left is =
       subst (λ w. IsMade numbering x s (statements.compound (map stmt items)).here y w) (sym left)
@@ -223,28 +229,28 @@ module _ (numbering : Numbering) (x : Context) (s : Scope) where
       (subst (λ x'. IsMade numbering x' (enter s) (runs.in_turn (map stmt items)) made t) inside
       (subst (λ s'. IsMade numbering x' s' (runs.in_turn (map stmt items)) made t) entered h)) is)
 
-  pub block_content : (st : Stmt) (at : ℕ) (items items' : List Stmt) (made : Made) (z : Content) (t : Scope)
+  pub block_content : (st : Stmt) (at : ℕ) (items items' : List Stmt) (made : Made) (z : Body) (t : Scope)
       → st ≡ tree.Block at items → items' ≡ items
       → IsMade numbering x s (runs.in_turn (map stmt items')) made t
-      → z ≡ record { is_compound = true; items = made.codes; cases = made.cases }
+      → z ≡ body_of true made
       → IsContent numbering x s (stmt st).content z t
   block_content st at items items' made z t is c h made_of =
       subst (λ (k : runs.Code). IsContent numbering x s k.content z t)
       (sym (ap stmt is ∙ eq.does-Block at items ∙ ap (λ is. statements.compound (map stmt is)) (sym c)))
       (on_compound_content numbering x s (map stmt items') made z t h made_of)
 
-  pub other_content : (st : Stmt) (made : Made) (z : Content) (t : Scope)
+  pub other_content : (st : Stmt) (made : Made) (z : Body) (t : Scope)
       → ((at : ℕ) (items : List Stmt) → st ≡ tree.Block at items → ⊥)
       → IsMade numbering x s (stmt st).here made t
-      → z ≡ record { is_compound = false; items = made.codes; cases = made.cases }
+      → z ≡ body_of false made
       → IsContent numbering x s (stmt st).content z t
   other_content st made z t different h made_of =
       subst (λ f. IsContent numbering x s f z t) (sym (of_stmt IsOther others st different))
       (on_other_content numbering x s (stmt st).here made z t h made_of)
 
-  pub a_sub : (st : Stmt) (x' : Context) (s' : Scope) (z : Content) (y : Code) (t w : Scope) → x' ≡ within x
+  pub a_sub : (st : Stmt) (x' : Context) (s' : Scope) (z : Body) (y : SubBlock) (t w : Scope) → x' ≡ within x
       → s' ≡ enter s → IsContent numbering x' s' (stmt st).content z t → w ≡ leave t
-      → y ≡ code.Block z.is_compound z.items → IsSub numbering x s (runs.sub (stmt st)) y w
+      → y ≡ block_around z → IsSub numbering x s (runs.sub (stmt st)) y w
   a_sub st x' s' z y t w inside entered h left is =
       subst (λ w. IsSub numbering x s (runs.sub (stmt st)) y w) (sym left)
       (on_sub numbering x s (stmt st) z y t
@@ -253,12 +259,12 @@ module _ (numbering : Numbering) (x : Context) (s : Scope) where
 
   pub a_switch : (at : ℕ) (f : ExprNoted) (s' : Scope) (v : Valued) (t : Scope) (ts : Tables) (kind : IntegerKind)
       (x' : Context)
-      (t' : Scope) (b : runs.Code) (z : Content) (u w w' : Scope) (y : Made) → s' ≡ enter s
+      (t' : Scope) (b : runs.Code) (z : Body) (u w w' : Scope) (y : Made) → s' ≡ enter s
       → IsValued numbering v (f s') t → ts ≡ t.tables
       → kind ≡ statements.compared_in (kind_in (type_in (used_told ts v.told).shown))
       → x' ≡ record x { compared = Some kind } → t' ≡ enter t → IsContent numbering x' t' b.content z u
       → w ≡ leave u → w' ≡ leave w
-      → y ≡ alone (code.Switch at (word_type kind) z.cases v.value z.is_compound z.items) []
+      → y ≡ alone (switch_node at kind v z) [] z.settings
       → IsMade numbering x s (statements.switch_of at f b).here y w'
   a_switch at f s' v t ts kind x' t' b z u w w' y entered g tabled q chooses inside h left out is =
       subst (λ w'. IsMade numbering x s (statements.switch_of at f b).here y w') (sym (out ∙ ap leave left))
@@ -267,23 +273,24 @@ module _ (numbering : Numbering) (x : Context) (s : Scope) where
       (subst (λ x'. IsContent numbering x' (enter t) b.content z u) chooses
       (subst (λ t'. IsContent numbering x' t' b.content z u) inside h)) is)
 
-  pub a_while : (at : ℕ) (f : ExprNoted) (s' : Scope) (v : Valued) (t : Scope) (b : runs.Code) (c : Code) (u w : Scope)
-      (y : Made) → s' ≡ enter s → IsValued numbering v (f s') t → IsSub numbering x t (runs.sub b) c u → w ≡ leave u
-      → y ≡ alone (code.Loop at (Some v.value) None c) []
+  pub a_while : (at : ℕ) (f : ExprNoted) (s' : Scope) (v : Valued) (t : Scope) (b : runs.Code) (c : SubBlock)
+      (u w : Scope) (y : Made) → s' ≡ enter s → IsValued numbering v (f s') t
+      → IsSub numbering x t (runs.sub b) c u → w ≡ leave u
+      → y ≡ alone (code.Loop at (Some v.value) None c.code) [] c.settings
       → IsMade numbering x s (statements.while_of at f b).here y w
   a_while at f s' v t b c u w y entered g h left is =
       subst (λ w. IsMade numbering x s (statements.while_of at f b).here y w) (sym left)
       (on_while numbering x s at f v t b c y u (subst (λ s'. IsValued numbering v (f s') t) entered g) h is)
 
-  pub a_do : (at : ℕ) (s' : Scope) (b : runs.Code) (c : Code) (t : Scope) (f : ExprNoted) (v : Valued) (u w : Scope)
+  pub a_do : (at : ℕ) (s' : Scope) (b : runs.Code) (c : SubBlock) (t : Scope) (f : ExprNoted) (v : Valued) (u w : Scope)
       (y : Made) → s' ≡ enter s → IsSub numbering x s' (runs.sub b) c t → IsValued numbering v (f t) u → w ≡ leave u
-      → y ≡ alone (code.Repeat at v.value c) []
+      → y ≡ alone (code.Repeat at v.value c.code) [] c.settings
       → IsMade numbering x s (statements.do_of at b f).here y w
   a_do at s' b c t f v u w y entered h g left is =
       subst (λ w. IsMade numbering x s (statements.do_of at b f).here y w) (sym left)
       (on_do numbering x s at b c t f v y u (subst (λ s'. IsSub numbering x s' (runs.sub b) c t) entered h) g is)
 
-  pub an_if : (f : ExprNoted) (s' : Scope) (v : Valued) (t : Scope) (b : runs.Code) (c : Code) (u : Scope)
+  pub an_if : (f : ExprNoted) (s' : Scope) (v : Valued) (t : Scope) (b : runs.Code) (c : SubBlock) (u : Scope)
       (g : IfBegun) → s' ≡ enter s → IsValued numbering v (f s') t → IsSub numbering x t (runs.sub b) c u
       → g ≡ record { condition = v.value; positive = c } → IsIfBegun numbering x s f b g u
   an_if f s' v t b c u g entered k h is =
@@ -294,12 +301,12 @@ module _ (numbering : Numbering) (x : Context) (s : Scope) where
         positive = h;
       })
 
-  pub no_else : (o : Option Stmt) (y : Option Code) → o ≡ None → y ≡ None
+  pub no_else : (o : Option Stmt) (y : Option SubBlock) → o ≡ None → y ≡ None
       → MaybeSub numbering x s (option_map stmt o) y s
   no_else o y is made = subst (λ o. MaybeSub numbering x s (option_map stmt o) y s) (sym is)
       (subst (λ y. MaybeSub numbering x s None y s) (sym made) refl)
 
-  pub an_else : (o : Option Stmt) (n n' : Stmt) (c : Code) (t : Scope) → o ≡ Some n → n' ≡ n
+  pub an_else : (o : Option Stmt) (n n' : Stmt) (c : SubBlock) (t : Scope) → o ≡ Some n → n' ≡ n
       → IsSub numbering x s (runs.sub (stmt n')) c t → MaybeSub numbering x s (option_map stmt o) (Some c) t
   an_else o n n' c t is d h = subst (λ o. MaybeSub numbering x s (option_map stmt o) (Some c) t) (sym is)
       (subst (λ n. IsSub numbering x s (runs.sub (stmt n)) c t) d h)

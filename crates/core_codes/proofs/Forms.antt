@@ -1,5 +1,5 @@
 -- What is made of each form of statement is its core, where what is made of its parts is theirs.
-use Rattle.std.proofs.Common.{◌≡◌, ℕ, ◌+◌, ℤ, true, false, List, [], ◌∷◌, ◌++◌, Option, Some, None, refl, sym}
+use Rattle.std.proofs.Common.{◌≡◌, ℕ, ◌+◌, ℤ, Bool, true, false, List, [], ◌∷◌, ◌++◌, Option, Some, None, refl, sym}
 use Rattle.std.proofs.Common.{ap, ap₂, ◌∙◌, subst}
 use Rattle.c_type_terms.specs.declared.ctype.IntegerKind.{IntegerKind}
 use Rattle.c_says.specs.declared.shown.Told.{Told}
@@ -14,25 +14,29 @@ use Rattle.core_tree.specs.declared.code.Code.{Code}
 use Rattle.core_tree.specs.declared.code.Code.TheVariants as code
 use Rattle.core_tree.specs.declared.expr.Expr.{Expr}
 use Rattle.core_tree.specs.declared.expr.Expr.TheVariants as expr
+use Rattle.core_tree.specs.declared.program.LastingSetting.{LastingSetting}
 use Rattle.elaborate.specs.Means.{Numbering, IsValueOf, IsCodeOf}
 use Rattle.elaborate.specs.Types.{word_type}
 use Rattle.elaborate.proofs.Codes.{bare_return_code, label_code, case_code, default_code, if_code, while_code, do_code}
 use Rattle.elaborate.proofs.Codes.{no_item, goto_code, continue_code, break_code}
-use Rattle.code_forms.specs.declared.blocks.Content.{Content}
 use Rattle.code_forms.specs.Nodes.{negative_node}
 use Rattle.code_forms.specs.Contents.{AreCodesOf, value_if, case_values}
 use Rattle.code_forms.proofs.Statements.{returned_code, compound_code, content_code, bare_if_code, switch_content}
 use Rattle.code_forms.proofs.Statements.{turns_code, for_code}
 use Rattle.code_forms.proofs.Turns.{alone_codes, only_code, joined_codes}
 use Rattle.core_codes.specs.declared.context.Context.{Context}
+use Rattle.core_codes.specs.declared.made.Body.{Body}
 use Rattle.core_codes.specs.declared.made.Made.{Made}
+use Rattle.core_codes.specs.declared.made.SubBlock.{SubBlock}
 use Rattle.core_codes.specs.declared.parts.Valued.{Valued}
 use Rattle.core_codes.specs.declared.pieces.ForBegun.{ForBegun}
 use Rattle.core_codes.specs.declared.pieces.IfBegun.{IfBegun}
 use Rattle.core_codes.specs.Made.{Around, context_in, Returns, IsMade, IsContent, IsSub, IsIfBegun, joined}
-use Rattle.core_codes.specs.Parts.{IsValued, IsForBegun, MaybeWorth, MaybeDone, alone, effect_node, return_node, Wraps}
-use Rattle.core_codes.specs.Parts.{same_cases, and_case}
-use Rattle.core_codes.proofs.LoopParts.{tested, stepped, first_after, effect_code}
+use Rattle.core_codes.specs.Parts.{IsValued, IsForBegun, MaybeWorth, MaybeDone, alone, bare, effect_node, return_node}
+use Rattle.core_codes.specs.Parts.{Wraps, same_cases, and_case}
+use Rattle.core_codes.specs.Settings.{AreAllSet}
+use Rattle.core_codes.proofs.Settings.{none_set, none_set_of, both_set, set_alone, loop_set}
+use Rattle.core_codes.proofs.LoopParts.{tested, stepped, first_after, effect_code, value_has_none, test_has_none}
 
 -- a block within, and more labels
 abbrev pub within : Context → Context
@@ -47,16 +51,39 @@ in_a_loop a = record a { breaks = true; continues = true }
 abbrev in_a_switch : Around → Around
 in_a_switch a = record a { breaks = true }
 
+-- ---- what is made
+
+-- what stands in the block that a statement is
+abbrev pub body_of : Bool → Made → Body
+body_of b made = record {
+  content = record { is_compound = b; items = made.codes; cases = made.cases };
+  settings = made.settings;
+}
+
+-- the block that a substatement is
+abbrev pub block_around : Body → SubBlock
+block_around z = record { code = code.Block z.content.is_compound z.content.items; settings = z.settings }
+
+abbrev pub switch_node : ℕ → IntegerKind → Valued → Body → Code
+switch_node at kind v z =
+    code.Switch at (word_type kind) z.content.cases v.value z.content.is_compound z.content.items
+
+abbrev pub for_node : ℕ → ForBegun → SubBlock → Code
+for_node at g c = code.Block false (g.first.codes ++ code.Loop at g.condition g.step c.code ∷ [])
+
 module _ (numbering : Numbering) (x : Context) (s : Scope) where
   -- ---- one item
 
-  one_made : (f : runs.Context → Item) (y : Made) (c : Code) (zs : List ℤ) (t : Scope) → y ≡ alone c zs
+  one_made : (f : runs.Context → Item) (y : Made) (c : Code) (zs : List ℤ) (xs : List LastingSetting) (t : Scope)
+      → y ≡ alone c zs xs
       → ((a : Around) → Returns x a → IsCodeOf numbering c (f (context_in x s a)))
       → ((a : Around) → Returns x a → zs ≡ case_values (f (context_in x s a)).cases)
+      → ((a : Around) → Returns x a → AreAllSet numbering xs (f (context_in x s a)).lasting)
       → ((a : Around) → Returns x a → t ≡ (f (context_in x s a)).after) → IsMade numbering x s f y t
-  one_made f y c zs t is h g r = subst (λ y. IsMade numbering x s f y t) (sym is) (record {
+  one_made f y c zs xs t is h g k r = subst (λ y. IsMade numbering x s f y t) (sym is) (record {
     codes = λ a e. alone_codes numbering c (f (context_in x s a)) (h a e);
     cases = g;
+    lasting = k;
     after = r;
   })
 
@@ -64,20 +91,20 @@ module _ (numbering : Numbering) (x : Context) (s : Scope) where
 
   pub on_block : (items : List runs.Code) (made y : Made) (t : Scope)
       → IsMade numbering (within x) (enter s) (runs.in_turn items) made t
-      → y ≡ alone (code.Block true made.codes) []
+      → y ≡ alone (code.Block true made.codes) [] made.settings
       → IsMade numbering x s (statements.compound items).here y (leave t)
   on_block items made y t h is =
-      one_made (statements.compound items).here y (code.Block true made.codes) [] (leave t) is
+      one_made (statements.compound items).here y (code.Block true made.codes) [] made.settings (leave t) is
       (λ a e. compound_code numbering made.codes
       (runs.in_turn items (context_in (within x) (enter s) (with_labels (runs.labels_of items) a)))
       (h.codes (with_labels (runs.labels_of items) a) e))
-      (λ a e. refl)
+      (λ a e. refl) (λ a e. h.lasting (with_labels (runs.labels_of items) a) e)
       (λ a e. ap leave (h.after (with_labels (runs.labels_of items) a) e))
 
   -- what stands in a compound statement
-  pub on_compound_content : (items : List runs.Code) (made : Made) (y : Content) (t : Scope)
+  pub on_compound_content : (items : List runs.Code) (made : Made) (y : Body) (t : Scope)
       → IsMade numbering x s (runs.in_turn items) made t
-      → y ≡ record { is_compound = true; items = made.codes; cases = made.cases }
+      → y ≡ body_of true made
       → IsContent numbering x s (statements.compound items).content y t
   on_compound_content items made y t h is =
       subst (λ y. IsContent numbering x s (statements.compound items).content y t) (sym is) (record {
@@ -87,33 +114,38 @@ module _ (numbering : Numbering) (x : Context) (s : Scope) where
           items = h.codes a e;
           cases = h.cases a e;
         };
+        lasting = h.lasting;
         after = h.after;
       })
 
   -- what stands in the block that any other statement is
-  pub on_other_content : (f : runs.Context → Item) (made : Made) (y : Content) (t : Scope)
-      → IsMade numbering x s f made t → y ≡ record { is_compound = false; items = made.codes; cases = made.cases }
+  pub on_other_content : (f : runs.Context → Item) (made : Made) (y : Body) (t : Scope)
+      → IsMade numbering x s f made t → y ≡ body_of false made
       → IsContent numbering x s f y t
   on_other_content f made y t h is = subst (λ y. IsContent numbering x s f y t) (sym is) (record {
     content = λ a e. record { inside = f (context_in x s a); is = refl; items = h.codes a e; cases = h.cases a e };
+    lasting = h.lasting;
     after = h.after;
   })
 
   -- the block that a substatement is
-  pub on_sub : (b : runs.Code) (z : Content) (y : Code) (t : Scope)
-      → IsContent numbering (within x) (enter s) b.content z t → y ≡ code.Block z.is_compound z.items
+  pub on_sub : (b : runs.Code) (z : Body) (y : SubBlock) (t : Scope)
+      → IsContent numbering (within x) (enter s) b.content z t → y ≡ block_around z
       → IsSub numbering x s (runs.sub b) y (leave t)
   on_sub b z y t h is = subst (λ y. IsSub numbering x s (runs.sub b) y (leave t)) (sym is) (record {
-    code = λ a e. content_code numbering z (b.content (context_in (within x) (enter s) (with_labels b.own a)))
+    code = λ a e. content_code numbering z.content (b.content (context_in (within x) (enter s) (with_labels b.own a)))
         (h.content (with_labels b.own a) e);
+    lasting = λ a e. h.lasting (with_labels b.own a) e;
     after = λ a e. ap leave (h.after (with_labels b.own a) e);
   })
 
   -- no item
-  pub on_nothing : (y : Made) → y ≡ record { codes = []; cases = [] } → IsMade numbering x s (runs.in_turn []) y s
+  pub on_nothing : (y : Made) → y ≡ record { codes = []; cases = []; settings = [] }
+      → IsMade numbering x s (runs.in_turn []) y s
   on_nothing y is = subst (λ y. IsMade numbering x s (runs.in_turn []) y s) (sym is) (record {
     codes = λ a e. no_items;
     cases = λ a e. refl;
+    lasting = λ a e. none_set numbering;
     after = λ a e. refl;
   }) where
     no_items : AreCodesOf numbering [] (runs.nothing s)
@@ -122,76 +154,79 @@ module _ (numbering : Numbering) (x : Context) (s : Scope) where
   -- ---- statements without substatements
 
   pub on_value : (e : Option Expr) (f : Option ExprNoted) (y : Made) (t : Scope) → MaybeDone numbering e f s t
-      → y ≡ alone (effect_node e) []
+      → y ≡ bare (effect_node e)
       → IsMade numbering x s (λ c. runs.node (statements.maybe_value f c.scope)) y t
   on_value e f y t h is =
-      one_made (λ c. runs.node (statements.maybe_value f c.scope)) y (effect_node e) [] t is
-      (λ a r. effect_code numbering e f s t h) (λ a r. gives_none f) (λ a r. first_after numbering e f s t h)
+      one_made (λ c. runs.node (statements.maybe_value f c.scope)) y (effect_node e) [] [] t is
+      (λ a r. effect_code numbering e f s t h) (λ a r. gives_none f)
+      (λ a r. none_set_of numbering (runs.node (statements.maybe_value f s)).lasting (value_has_none f s))
+      (λ a r. first_after numbering e f s t h)
     where
       gives_none : (f : Option ExprNoted) → [] ≡ case_values (runs.node (statements.maybe_value f s)).cases
       gives_none None = refl
       gives_none (Some f) = refl
 
   pub on_return : (at : ℕ) (e : Option Expr) (f : Option ExprNoted) (y : Made) (t : Scope)
-      → MaybeWorth numbering e f s t → y ≡ alone (return_node x.returned e) []
+      → MaybeWorth numbering e f s t → y ≡ bare (return_node x.returned e)
       → IsMade numbering x s (statements.return_of at f) y t
   on_return at None None y t h is =
-      one_made (statements.return_of at None) y (code.Return None) [] t is
-      (λ a r. bare_return_code numbering at (context_in x s a)) (λ a r. refl) (λ a r. h)
+      one_made (statements.return_of at None) y (code.Return None) [] [] t is
+      (λ a r. bare_return_code numbering at (context_in x s a)) (λ a r. refl) (λ a r. none_set numbering) (λ a r. h)
   on_return at None (Some f) y t h is = absurd h
   on_return at (Some e) None y t h is = absurd h
   on_return at (Some e) (Some f) y t h is =
-      one_made (statements.return_of at (Some f)) y (code.Return (Some (expr.Convert x.returned e))) [] t is
+      one_made (statements.return_of at (Some f)) y (code.Return (Some (expr.Convert x.returned e))) [] [] t is
       (λ a r. returned_code numbering at e x.returned (f s) (context_in x s a) r h.value) (λ a r. refl)
-      (λ a r. h.after)
+      (λ a r. none_set numbering) (λ a r. h.after)
 
-  pub on_goto : (at : ℕ) (name : Name) (y : Made) → y ≡ alone (code.Goto name) []
+  pub on_goto : (at : ℕ) (name : Name) (y : Made) → y ≡ bare (code.Goto name)
       → IsMade numbering x s (statements.goto_of at name) y s
   on_goto at name y is =
-      one_made (statements.goto_of at name) y (code.Goto name) [] s is
+      one_made (statements.goto_of at name) y (code.Goto name) [] [] s is
       (λ a r. goto_code numbering at name (context_in x s a)) (λ a r. refl)
-      (λ a r. refl)
+      (λ a r. none_set numbering) (λ a r. refl)
 
-  pub on_continue : (at : ℕ) (y : Made) → y ≡ alone code.Continue []
+  pub on_continue : (at : ℕ) (y : Made) → y ≡ bare code.Continue
       → IsMade numbering x s (statements.continue_of at) y s
   on_continue at y is =
-      one_made (statements.continue_of at) y code.Continue [] s is
+      one_made (statements.continue_of at) y code.Continue [] [] s is
       (λ a r. continue_code numbering at (context_in x s a)) (λ a r. refl)
-      (λ a r. refl)
+      (λ a r. none_set numbering) (λ a r. refl)
 
-  pub on_break : (at : ℕ) (y : Made) → y ≡ alone code.Break [] → IsMade numbering x s (statements.break_of at) y s
+  pub on_break : (at : ℕ) (y : Made) → y ≡ bare code.Break → IsMade numbering x s (statements.break_of at) y s
   on_break at y is =
-      one_made (statements.break_of at) y code.Break [] s is
+      one_made (statements.break_of at) y code.Break [] [] s is
       (λ a r. break_code numbering at (context_in x s a)) (λ a r. refl)
-      (λ a r. refl)
+      (λ a r. none_set numbering) (λ a r. refl)
 
   -- ---- labeled statements
 
   -- the one code of a statement
-  the_one : (f : runs.Context → Item) (c : Code) (zs : List ℤ) (t : Scope) → IsMade numbering x s f (alone c zs) t
-      → (a : Around) → Returns x a → IsCodeOf numbering c (f (context_in x s a))
-  the_one f c zs t h a r = only_code numbering c (f (context_in x s a)) (h.codes a r)
+  the_one : (f : runs.Context → Item) (c : Code) (zs : List ℤ) (xs : List LastingSetting) (t : Scope)
+      → IsMade numbering x s f (alone c zs xs) t → (a : Around) → Returns x a
+      → IsCodeOf numbering c (f (context_in x s a))
+  the_one f c zs xs t h a r = only_code numbering c (f (context_in x s a)) (h.codes a r)
 
   pub on_label : (at : ℕ) (name : Name) (b : runs.Code) (body y : Made) (t : Scope)
       → IsMade numbering x s b.here body t → Wraps (code.Label name) same_cases body y
       → IsMade numbering x s (statements.labeled at name b).here y t
   on_label at name b body y t h w =
       let g = subst (λ m. IsMade numbering x s b.here m t) w.is_one h in
-      one_made (statements.labeled at name b).here y (code.Label name w.inner) w.given t w.is
+      one_made (statements.labeled at name b).here y (code.Label name w.inner) w.given w.settings t w.is
       (λ a r. let c = label_code numbering at name [] w.inner (b.here (context_in x s a))
-      (the_one b.here w.inner w.given t g a r) in
+      (the_one b.here w.inner w.given w.settings t g a r) in
       record { size = c.size; room = c.room; objects = c.objects; runs = c.runs })
-      g.cases g.after
+      g.cases g.lasting g.after
 
   pub on_default : (at : ℕ) (b : runs.Code) (body y : Made) (t : Scope) → IsMade numbering x s b.here body t
       → Wraps code.Default same_cases body y → IsMade numbering x s (statements.default_labeled at b).here y t
   on_default at b body y t h w =
       let g = subst (λ m. IsMade numbering x s b.here m t) w.is_one h in
-      one_made (statements.default_labeled at b).here y (code.Default w.inner) w.given t w.is
+      one_made (statements.default_labeled at b).here y (code.Default w.inner) w.given w.settings t w.is
       (λ a r. let c = default_code numbering at [] w.inner (b.here (context_in x s a))
-      (the_one b.here w.inner w.given t g a r) in
+      (the_one b.here w.inner w.given w.settings t g a r) in
       record { size = c.size; room = c.room; objects = c.objects; runs = c.runs })
-      g.cases g.after
+      g.cases g.lasting g.after
 
   -- a case, by its value as the `switch` compares it
   abbrev case_with : ℕ → Noted → Option ℤ → runs.Code → runs.Context → Item
@@ -206,11 +241,11 @@ module _ (numbering : Numbering) (x : Context) (s : Scope) where
       → Wraps (code.Case z e) (and_case z) body y → IsMade numbering x s (case_with at n (Some z) b) y t
   valued_case at n z e b body y t g h w =
       let m = subst (λ m. IsMade numbering x n.part.typed.after b.here m t) w.is_one h in
-      one_made (case_with at n (Some z) b) y (code.Case z e w.inner) (z ∷ w.given) t w.is
+      one_made (case_with at n (Some z) b) y (code.Case z e w.inner) (z ∷ w.given) w.settings t w.is
       (λ a r. case_as a
       (case_code numbering z e n.part w.inner (b.here (context_in x n.part.typed.after a)) g
       (only_code numbering w.inner (b.here (context_in x n.part.typed.after a)) (m.codes a r))))
-      (λ a r. ap (λ zs. z ∷ zs) (m.cases a r)) m.after
+      (λ a r. ap (λ zs. z ∷ zs) (m.cases a r)) m.lasting m.after
     where
       case_as : (a : Around) → IsCodeOf numbering (code.Case z e w.inner)
           (record (statements.arrived (at_case (Some z)) (b.here (context_in x n.part.typed.after a))) {
@@ -228,45 +263,58 @@ module _ (numbering : Numbering) (x : Context) (s : Scope) where
       let m = subst (λ o. IsMade numbering x s (case_with at (f s) o b) y u) compared
       (valued_case at (f s) z v.value b body y u g.value
       (subst (λ t. IsMade numbering x t b.here body u) g.after h) w) in
-      record { codes = m.codes; cases = m.cases; after = m.after }
+      record { codes = m.codes; cases = m.cases; lasting = m.lasting; after = m.after }
 
   -- ---- selection
 
   pub on_if : (at : ℕ) (f : ExprNoted) (b : runs.Code) (g : IfBegun) (y : Made) (u : Scope)
-      → IsIfBegun numbering x s f b g u → y ≡ alone (code.If at g.condition g.positive (negative_node None)) []
+      → IsIfBegun numbering x s f b g u
+      → y ≡ alone (code.If at g.condition g.positive.code (negative_node None)) [] (g.positive.settings ++ [])
       → IsMade numbering x s (statements.if_of at f b None).here y (leave u)
   on_if at f b g y u h is =
       let n = f (enter s) in
       let k = subst (λ t. IsSub numbering x t (runs.sub b) g.positive u) h.tests.after h.positive in
-      one_made (statements.if_of at f b None).here y (code.If at g.condition g.positive (negative_node None)) []
-      (leave u) is
-      (λ a r. bare_if_code numbering at g.condition g.positive n (runs.sub b (context_in x n.part.typed.after a))
+      one_made (statements.if_of at f b None).here y (code.If at g.condition g.positive.code (negative_node None)) []
+      (g.positive.settings ++ []) (leave u) is
+      (λ a r. bare_if_code numbering at g.condition g.positive.code n
+      (runs.sub b (context_in x n.part.typed.after a))
       (runs.sub b (context_in x n.part.typed.after a)).after h.tests.value (k.code a r))
-      (λ a r. refl) (λ a r. ap leave (k.after a r))
+      (λ a r. refl)
+      (λ a r. both_set numbering g.positive.settings [] (runs.sub b (context_in x n.part.typed.after a)).lasting []
+      (k.lasting a r) (none_set numbering))
+      (λ a r. ap leave (k.after a r))
 
-  pub on_if_else : (at : ℕ) (f : ExprNoted) (b : runs.Code) (g : IfBegun) (u : Scope) (b' : runs.Code) (c : Code)
+  pub on_if_else : (at : ℕ) (f : ExprNoted) (b : runs.Code) (g : IfBegun) (u : Scope) (b' : runs.Code) (c : SubBlock)
       (y : Made) (w : Scope) → IsIfBegun numbering x s f b g u → IsSub numbering x u (runs.sub b') c w
-      → y ≡ alone (code.If at g.condition g.positive (negative_node (Some c))) []
+      → y ≡ alone (code.If at g.condition g.positive.code (negative_node (Some c.code))) []
+      (g.positive.settings ++ c.settings)
       → IsMade numbering x s (statements.if_of at f b (Some b')).here y (leave w)
   on_if_else at f b g u b' c y w h h' is =
       let n = f (enter s) in
       let k = subst (λ t. IsSub numbering x t (runs.sub b) g.positive u) h.tests.after h.positive in
-      one_made (statements.if_of at f b (Some b')).here y (code.If at g.condition g.positive c) [] (leave w) is
+      one_made (statements.if_of at f b (Some b')).here y (code.If at g.condition g.positive.code c.code) []
+      (g.positive.settings ++ c.settings) (leave w) is
       (λ a r. let first = runs.sub b (context_in x n.part.typed.after a) in
-      if_code numbering at g.condition g.positive c n first (runs.sub b' (context_in x first.after a)) h.tests.value
-      (k.code a r) (subst (λ u. IsCodeOf numbering c (runs.sub b' (context_in x u a))) (k.after a r) (h'.code a r)))
+      if_code numbering at g.condition g.positive.code c.code n first (runs.sub b' (context_in x first.after a))
+      h.tests.value (k.code a r)
+      (subst (λ u. IsCodeOf numbering c.code (runs.sub b' (context_in x u a))) (k.after a r) (h'.code a r)))
       (λ a r. refl)
+      (λ a r. let first = runs.sub b (context_in x n.part.typed.after a) in
+      both_set numbering g.positive.settings c.settings first.lasting
+      (runs.sub b' (context_in x first.after a)).lasting (k.lasting a r)
+      (subst (λ u. AreAllSet numbering c.settings (runs.sub b' (context_in x u a)).lasting) (k.after a r)
+      (h'.lasting a r)))
       (λ a r. ap leave (h'.after a r ∙ ap (λ u. (runs.sub b' (context_in x u a)).after) (k.after a r)))
 
   -- the block of a `switch` that compares in this type
   abbrev choosing : IntegerKind → Context
   choosing kind = record x { compared = Some kind }
 
-  pub on_switch : (at : ℕ) (f : ExprNoted) (v : Valued) (t : Scope) (kind : IntegerKind) (b : runs.Code) (z : Content)
+  pub on_switch : (at : ℕ) (f : ExprNoted) (v : Valued) (t : Scope) (kind : IntegerKind) (b : runs.Code) (z : Body)
       (y : Made) (u : Scope) → IsValued numbering v (f (enter s)) t
       → kind ≡ statements.compared_in (kind_in (type_in (used_told t.tables v.told).shown))
       → IsContent numbering (choosing kind) (enter t) b.content z u
-      → y ≡ alone (code.Switch at (word_type kind) z.cases v.value z.is_compound z.items) []
+      → y ≡ alone (switch_node at kind v z) [] z.settings
       → IsMade numbering x s (statements.switch_of at f b).here y (leave (leave u))
   on_switch at f v t kind b z y u g q h is =
       let n = f (enter s) in
@@ -275,43 +323,49 @@ module _ (numbering : Numbering) (x : Context) (s : Scope) where
       let k = subst (λ kind. IsContent numbering (choosing kind) (enter n.part.typed.after) b.content z u) compares
       (subst (λ t. IsContent numbering (choosing kind) (enter t) b.content z u) g.after h) in
       one_made (statements.switch_of at f b).here y
-      (code.Switch at (word_type (statements.switch_kind n)) z.cases v.value z.is_compound z.items) [] (leave (leave u))
-      (is ∙ ap (λ kind. alone (code.Switch at (word_type kind) z.cases v.value z.is_compound z.items) []) compares)
-      (λ a r. switch_content numbering at v.value n z
+      (switch_node at (statements.switch_kind n) v z) [] z.settings (leave (leave u))
+      (is ∙ ap (λ kind. alone (switch_node at kind v z) [] z.settings) compares)
+      (λ a r. switch_content numbering at v.value n z.content
       (b.content (context_in (choosing (statements.switch_kind n)) (enter n.part.typed.after)
       (with_labels b.own (in_a_switch a)))) g.value (k.content (with_labels b.own (in_a_switch a)) r))
-      (λ a r. refl) (λ a r. ap (λ u. leave (leave u)) (k.after (with_labels b.own (in_a_switch a)) r))
+      (λ a r. refl) (λ a r. k.lasting (with_labels b.own (in_a_switch a)) r)
+      (λ a r. ap (λ u. leave (leave u)) (k.after (with_labels b.own (in_a_switch a)) r))
 
   -- ---- iteration
 
-  pub on_while : (at : ℕ) (f : ExprNoted) (v : Valued) (t : Scope) (b : runs.Code) (c : Code) (y : Made) (u : Scope)
-      → IsValued numbering v (f (enter s)) t → IsSub numbering x t (runs.sub b) c u
-      → y ≡ alone (code.Loop at (Some v.value) None c) []
+  pub on_while : (at : ℕ) (f : ExprNoted) (v : Valued) (t : Scope) (b : runs.Code) (c : SubBlock) (y : Made)
+      (u : Scope) → IsValued numbering v (f (enter s)) t → IsSub numbering x t (runs.sub b) c u
+      → y ≡ alone (code.Loop at (Some v.value) None c.code) [] c.settings
       → IsMade numbering x s (statements.while_of at f b).here y (leave u)
   on_while at f v t b c y u g h is =
       let n = f (enter s) in
       let k = subst (λ t. IsSub numbering x t (runs.sub b) c u) g.after h in
-      one_made (statements.while_of at f b).here y (code.Loop at (Some v.value) None c) [] (leave u) is
+      one_made (statements.while_of at f b).here y (code.Loop at (Some v.value) None c.code) [] c.settings (leave u) is
       (λ a r. let inside = runs.sub b (context_in x n.part.typed.after (in_a_loop a)) in
-      while_code numbering at v.value n c inside inside.after g.value (k.code (in_a_loop a) r))
-      (λ a r. refl) (λ a r. ap leave (k.after (in_a_loop a) r))
+      while_code numbering at v.value n c.code inside inside.after g.value (k.code (in_a_loop a) r))
+      (λ a r. refl)
+      (λ a r. set_alone numbering c.settings (runs.sub b (context_in x n.part.typed.after (in_a_loop a))).lasting
+      (k.lasting (in_a_loop a) r))
+      (λ a r. ap leave (k.after (in_a_loop a) r))
 
-  pub on_do : (at : ℕ) (b : runs.Code) (c : Code) (t : Scope) (f : ExprNoted) (v : Valued) (y : Made) (u : Scope)
+  pub on_do : (at : ℕ) (b : runs.Code) (c : SubBlock) (t : Scope) (f : ExprNoted) (v : Valued) (y : Made) (u : Scope)
       → IsSub numbering x (enter s) (runs.sub b) c t → IsValued numbering v (f t) u
-      → y ≡ alone (code.Repeat at v.value c) []
+      → y ≡ alone (code.Repeat at v.value c.code) [] c.settings
       → IsMade numbering x s (statements.do_of at b f).here y (leave u)
   on_do at b c t f v y u h g is =
-      one_made (statements.do_of at b f).here y (code.Repeat at v.value c) [] (leave u) is
+      one_made (statements.do_of at b f).here y (code.Repeat at v.value c.code) [] c.settings (leave u) is
       (λ a r. let inside = runs.sub b (context_in x (enter s) (in_a_loop a)) in
-      do_code numbering at v.value (f inside.after) c inside
+      do_code numbering at v.value (f inside.after) c.code inside
       (subst (λ t. IsValued numbering v (f t) u) (h.after (in_a_loop a) r) g).value (h.code (in_a_loop a) r))
       (λ a r. refl)
+      (λ a r. set_alone numbering c.settings (runs.sub b (context_in x (enter s) (in_a_loop a))).lasting
+      (h.lasting (in_a_loop a) r))
       (λ a r. ap leave (subst (λ t. IsValued numbering v (f t) u) (h.after (in_a_loop a) r) g).after)
 
   pub on_for : (at : ℕ) (begins : Scope → Item) (f f' : Option ExprNoted) (g : ForBegun) (t : Scope) (b : runs.Code)
-      (c : Code) (y : Made) (u : Scope) → IsForBegun numbering (enter s) begins f f' g t
+      (c : SubBlock) (y : Made) (u : Scope) → IsForBegun numbering (enter s) begins f f' g t
       → (begins (enter s)).cases ≡ [] → IsSub numbering x t (runs.sub b) c u
-      → y ≡ alone (code.Block false (g.first ++ code.Loop at g.condition g.step c ∷ [])) []
+      → y ≡ alone (for_node at g c) [] (g.first.settings ++ c.settings)
       → IsMade numbering x s (statements.for_of at begins f f' b).here y (leave u)
   on_for at begins f f' g t b c y u h none k is =
       let i = begins (enter s) in
@@ -322,14 +376,17 @@ module _ (numbering : Numbering) (x : Context) (s : Scope) where
       (subst (λ v. MaybeDone numbering g.step f' v t) test.after h.steps) in
       let m = statements.maybe_value f' j.item.after in
       let l = subst (λ v. IsSub numbering x v (runs.sub b) c u) step.after k in
-      one_made (statements.for_of at begins f f' b).here y
-      (code.Block false (g.first ++ code.Loop at g.condition g.step c ∷ [])) [] (leave u) is
+      one_made (statements.for_of at begins f f' b).here y (for_node at g c) [] (g.first.settings ++ c.settings)
+      (leave u) is
       (λ a r. let inside = runs.sub b (context_in x m.after (in_a_loop a)) in
-      for_code numbering g.first (code.Loop at g.condition g.step c) i
+      for_code numbering g.first.codes (code.Loop at g.condition g.step c.code) i
       (record (statements.looped at j inside m) { after = inside.after }) h.begun.codes
-      (turns_code numbering at g.condition j g.step m c inside inside.after test.tests step.steps
+      (turns_code numbering at g.condition j g.step m c.code inside inside.after test.tests step.steps
       (l.code (in_a_loop a) r)))
       (λ a r. ap (λ ks. case_values (ks ++ [])) (sym none))
+      (λ a r. loop_set numbering g.first.settings c.settings i.lasting j.item.lasting
+      (runs.sub b (context_in x m.after (in_a_loop a))).lasting m.lasting (test_has_none at f i.after)
+      (value_has_none f' j.item.after) h.begun.lasting (l.lasting (in_a_loop a) r))
       (λ a r. ap leave (l.after (in_a_loop a) r))
 
   -- ---- one behind the other
@@ -354,6 +411,11 @@ module _ (numbering : Numbering) (x : Context) (s : Scope) where
         ap₂ (λ (zs ws : List ℤ). zs ++ ws) (h.cases a r)
         (subst (λ t. more.cases ≡ case_values (runs.in_turn bs (context_in x t a)).cases) (h.after a r) (g.cases a r))
         ∙ sym (values_joined i.cases (runs.in_turn bs (context_in x i.after a)).cases);
+    lasting = λ a r. let i = b.here (context_in x s a) in
+        both_set numbering first.settings more.settings i.lasting (runs.in_turn bs (context_in x i.after a)).lasting
+        (h.lasting a r)
+        (subst (λ t. AreAllSet numbering more.settings (runs.in_turn bs (context_in x t a)).lasting) (h.after a r)
+        (g.lasting a r));
     after = λ a r. let i = b.here (context_in x s a) in
         subst (λ t. u ≡ (runs.in_turn bs (context_in x t a)).after) (h.after a r) (g.after a r);
   }

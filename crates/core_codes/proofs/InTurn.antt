@@ -1,5 +1,5 @@
 -- The items of a block, one after the other: what is left leads to the whole.
-use Rattle.std.proofs.Common.{◌≡◌, ℕ, suc, add-one, ◌+◌, ◌<◌, ◌≤◌, ℤ, List, [], ◌∷◌, ◌++◌, map, length, drop, get_or}
+use Rattle.std.proofs.Common.{◌≡◌, ℕ, suc, add-one, ◌+◌, ◌<◌, ◌≤◌, ℤ, List, [], ◌∷◌, map, length, drop, get_or}
 use Rattle.std.proofs.Common.{drop-cons, refl, sym, ap, ap₂, ◌∙◌, subst}
 use Rattle.std.proofs.lemmas.List.{drop_all}
 use Rattle.c_tree.specs.declared.unit.Stmt.{Stmt}
@@ -7,25 +7,34 @@ use Rattle.c_runs.specs.Statements.{stmt}
 use Rattle.c_says.specs.Scopes.{Scope}
 use Rattle.c_runs.specs.Items as runs
 use Rattle.core_tree.specs.declared.code.Code.{Code}
+use Rattle.core_tree.specs.declared.program.LastingSetting.{LastingSetting}
 use Rattle.elaborate.specs.Means.{Numbering}
 use Rattle.core_codes.specs.declared.context.Context.{Context}
 use Rattle.core_codes.specs.declared.made.Made.{Made}
 use Rattle.core_codes.specs.Made.{IsMade, joined}
 use Rattle.core_codes.proofs.Forms.{on_items, on_nothing}
+use Rattle.core_codes.proofs.Settings.{grouped, none_behind}
 
 abbrev nothing : Made
-nothing = record { codes = []; cases = [] }
+nothing = record { codes = []; cases = []; settings = [] }
 
-grouped : {A : Type 0} (xs ys zs : List A) → xs ++ (ys ++ zs) ≡ (xs ++ ys) ++ zs
-grouped [] ys zs = refl
-grouped (x ∷ xs) ys zs = ap (λ l. x ∷ l) (grouped xs ys zs)
+abbrev made_of : List Code → List ℤ → List LastingSetting → Made
+made_of cs zs xs = record { codes = cs; cases = zs; settings = xs }
 
-alone : {A : Type 0} (xs : List A) → xs ++ [] ≡ xs
-alone [] = refl
-alone (x ∷ xs) = ap (λ l. x ∷ l) (alone xs)
+same : (cs cs' : List Code) (zs zs' : List ℤ) (xs xs' : List LastingSetting) → cs ≡ cs' → zs ≡ zs' → xs ≡ xs'
+    → made_of cs zs xs ≡ made_of cs' zs' xs'
+same cs cs' zs zs' xs xs' e f g =
+    ap₂ (λ (cs : List Code) (zs : List ℤ). made_of cs zs xs) e f
+    ∙ ap (λ (xs : List LastingSetting). made_of cs' zs' xs) g
 
-abbrev made_of : List Code → List ℤ → Made
-made_of cs zs = record { codes = cs; cases = zs }
+-- those behind both, put behind the second first
+regrouped : (x y z : Made) → joined x (joined y z) ≡ joined (joined x y) z
+regrouped x y z =
+    same _ _ _ _ _ _ (grouped x.codes y.codes z.codes) (grouped x.cases y.cases z.cases)
+    (grouped x.settings y.settings z.settings)
+
+nothing_more : (x : Made) → joined x nothing ≡ x
+nothing_more x = same _ _ _ _ _ _ (none_behind x.codes) (none_behind x.cases) (none_behind x.settings)
 
 -- what was made leads to the whole block, once what is made of the items that are left is put behind it
 abbrev pub Leads : Numbering → Context → Scope → List runs.Code → List runs.Code → Made → Scope → Type 0
@@ -42,15 +51,13 @@ module _ (numbering : Numbering) (x : Context) (s : Scope) (bs : List runs.Code)
       → Leads numbering x s bs cs y u
   goes_on b cs made item y t u leads h is =
       subst (λ y. Leads numbering x s bs cs y u) (sym is) (λ more w g. subst
-      (λ m. IsMade numbering x s (runs.in_turn bs) m w)
-      (ap₂ made_of (grouped made.codes item.codes more.codes) (grouped made.cases item.cases more.cases))
+      (λ m. IsMade numbering x s (runs.in_turn bs) m w) (regrouped made item more)
       (leads (joined item more) w (on_items numbering x t b cs item more u w h g)))
 
   pub ends : (cs : List runs.Code) (made : Made) (t : Scope) → cs ≡ [] → Leads numbering x s bs cs made t
       → IsMade numbering x s (runs.in_turn bs) made t
   ends cs made t e leads =
-      subst (λ m. IsMade numbering x s (runs.in_turn bs) m t)
-      (ap₂ made_of (alone made.codes) (alone made.cases))
+      subst (λ m. IsMade numbering x s (runs.in_turn bs) m t) (nothing_more made)
       (leads nothing t (subst (λ cs. IsMade numbering x t (runs.in_turn cs) nothing t) (sym e)
       (on_nothing numbering x t nothing refl)))
 

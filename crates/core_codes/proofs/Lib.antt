@@ -1,3 +1,4 @@
+pub mod Settings
 pub mod LoopParts
 pub mod Forms
 pub mod InTurn

@@ -1,4 +1,5 @@
--- The parts of statements: tests, steps and first parts of loops, and declarations, which give no case.
+-- The parts of statements: tests, steps and first parts of loops, and declarations, which give no case. What lives
+-- throughout the run is declared by declarations alone.
 use Rattle.std.proofs.Common.{◌≡◌, ℕ, Bool, false, List, [], ◌∷◌, ◌++◌, map, Option, Some, None, refl, sym}
 use Rattle.std.proofs.Common.{ap₂, subst}
 use Rattle.std.specs.Prelude.{option_map}
@@ -15,12 +16,11 @@ use Rattle.c_says.specs.Declares.{Said, said_by}
 use Rattle.c_says.specs.Declarations.{declares}
 use Rattle.c_runs.specs.Notes.{ExprNoted, noted, specifier_noted}
 use Rattle.c_runs.specs.Initials.{Initial, initialising_if, said_if}
-use Rattle.c_runs.specs.Items.{Item, Case}
+use Rattle.c_runs.specs.Items.{Item, Case, Lasting}
 use Rattle.c_runs.specs.Items as runs
 use Rattle.c_runs.specs.Statements.{Declaring, declared_means, declared_entry, declares_formed, declares_all}
 use Rattle.c_runs.specs.Statements.{declaration, type_in_entry, name_offset, defines, maybe_value, begun_by}
 use Rattle.c_runs.specs.Statements as statements
-use Rattle.core_tree.specs.declared.code.Code.{Code}
 use Rattle.core_tree.specs.declared.code.Code.TheVariants as code
 use Rattle.core_tree.specs.declared.expr.Expr.{Expr}
 use Rattle.elaborate.specs.Means.{Numbering, IsCodeOf}
@@ -29,7 +29,9 @@ use Rattle.core_tree.proofs.Equations as eq
 use Rattle.code_forms.specs.Contents.{AreCodesOf}
 use Rattle.code_forms.proofs.Statements.{IsStepOf, no_step, a_step}
 use Rattle.code_forms.proofs.Turns.{alone_codes}
-use Rattle.core_codes.specs.Parts.{IsBegun, MaybeWorth, MaybeDone, first_codes, effect_node}
+use Rattle.core_codes.specs.declared.parts.Begun.{Begun}
+use Rattle.core_codes.specs.Parts.{IsBegun, MaybeWorth, MaybeDone, first_codes, first_begun, effect_node}
+use Rattle.core_codes.proofs.Settings.{none_set_of}
 
 -- ---- declarations give no case
 
@@ -75,6 +77,20 @@ begun_gives_none (start_.Value e) s = value_gives_none (option_map noted e) s wh
   value_gives_none (Some f) s = refl
 begun_gives_none (start_.Declared d) s = declaration_gives_none d s
 
+-- ---- expressions declare nothing that lives throughout the run
+
+abbrev no_lasting : List Lasting
+no_lasting = []
+
+pub value_has_none : (f : Option ExprNoted) (s : Scope) → (maybe_value f s).lasting ≡ no_lasting
+value_has_none None s = refl
+value_has_none (Some f) s = refl
+
+pub test_has_none : (at : ℕ) (f : Option ExprNoted) (s : Scope)
+    → (statements.maybe_test at f s).item.lasting ≡ no_lasting
+test_has_none at None s = refl
+test_has_none at (Some f) s = refl
+
 module _ (numbering : Numbering) where
   -- ---- tests and steps of loops
 
@@ -119,15 +135,17 @@ module _ (numbering : Numbering) where
   first_after (Some e) None s t h = absurd h
   first_after (Some e) (Some f) s t h = h.after
 
-  pub begun_value : (x : ForStart) (o : Option CExpr) (e : Option Expr) (xs : List Code) (s t : Scope)
-      → x ≡ start_.Value o → MaybeDone numbering e (option_map noted o) s t → xs ≡ first_codes e
-      → IsBegun numbering xs (begun_by x s) t
-  begun_value x o e xs s t is h made =
+  pub begun_value : (x : ForStart) (o : Option CExpr) (e : Option Expr) (y : Begun) (s t : Scope)
+      → x ≡ start_.Value o → MaybeDone numbering e (option_map noted o) s t → y ≡ first_begun e
+      → IsBegun numbering y (begun_by x s) t
+  begun_value x o e y s t is h made =
       let f = option_map noted o in
-      subst (λ x. IsBegun numbering xs (begun_by x s) t) (sym is) (record {
-        codes = subst (λ xs. AreCodesOf numbering xs (maybe_value f s)) (sym made) (first_done e f s t h);
+      subst (λ x. IsBegun numbering y (begun_by x s) t) (sym is)
+      (subst (λ y. IsBegun numbering y (maybe_value f s) t) (sym made) (record {
+        codes = first_done e f s t h;
+        lasting = none_set_of numbering (maybe_value f s).lasting (value_has_none f s);
         after = first_after e f s t h;
-      })
+      }))
 
   -- ---- expression statements
 

@@ -7,15 +7,16 @@ use Rattle.c_means.specs.Values as values
 use Rattle.c_runs.specs.Notes.{ExprNoted}
 use Rattle.c_runs.specs.Items.{Item, Label}
 use Rattle.c_runs.specs.Items as runs
-use Rattle.core_tree.specs.declared.code.Code.{Code}
 use Rattle.core_tree.specs.Numbers as numbers
 use Rattle.elaborate.specs.Means.{Numbering, IsCodeOf}
-use Rattle.code_forms.specs.declared.blocks.Content.{Content}
 use Rattle.code_forms.specs.Contents.{AreCodesOf, IsContentOf, case_values}
 use Rattle.core_codes.specs.declared.context.Context.{Context}
+use Rattle.core_codes.specs.declared.made.Body.{Body}
 use Rattle.core_codes.specs.declared.made.Made.{Made}
+use Rattle.core_codes.specs.declared.made.SubBlock.{SubBlock}
 use Rattle.core_codes.specs.declared.pieces.IfBegun.{IfBegun}
 use Rattle.core_codes.specs.Parts.{IsWorth}
+use Rattle.core_codes.specs.Settings.{AreAllSet}
 
 -- what else a statement stands in
 pub record Around : Type 0 where
@@ -42,7 +43,11 @@ Returns x a = (z : ℤ) → numbers.converted_to x.returned z ≡ values.convert
 
 -- one behind the other
 abbrev pub joined : Made → Made → Made
-joined x y = record { codes = x.codes ++ y.codes; cases = x.cases ++ y.cases }
+joined x y = record {
+  codes = x.codes ++ y.codes;
+  cases = x.cases ++ y.cases;
+  settings = x.settings ++ y.settings;
+}
 
 -- items of a block, in front of which one scope is in force and behind which the other
 pub record IsMade (numbering : Numbering) (x : Context) (s : Scope) (f : runs.Context → Item) (y : Made) (t : Scope) :
@@ -50,24 +55,27 @@ pub record IsMade (numbering : Numbering) (x : Context) (s : Scope) (f : runs.Co
   where
     pub codes : (a : Around) → Returns x a → AreCodesOf numbering y.codes (f (context_in x s a))
     pub cases : (a : Around) → Returns x a → y.cases ≡ case_values (f (context_in x s a)).cases
+    pub lasting : (a : Around) → Returns x a → AreAllSet numbering y.settings (f (context_in x s a)).lasting
     pub after : (a : Around) → Returns x a → t ≡ (f (context_in x s a)).after
 
 -- what stands in the block that a statement is
-pub record IsContent (numbering : Numbering) (x : Context) (s : Scope) (f : runs.Context → Item) (y : Content)
+pub record IsContent (numbering : Numbering) (x : Context) (s : Scope) (f : runs.Context → Item) (y : Body)
     (t : Scope) : Type 0
   where
-    pub content : (a : Around) → Returns x a → IsContentOf numbering y (f (context_in x s a))
+    pub content : (a : Around) → Returns x a → IsContentOf numbering y.content (f (context_in x s a))
+    pub lasting : (a : Around) → Returns x a → AreAllSet numbering y.settings (f (context_in x s a)).lasting
     pub after : (a : Around) → Returns x a → t ≡ (f (context_in x s a)).after
 
 -- the block that a substatement is
-pub record IsSub (numbering : Numbering) (x : Context) (s : Scope) (f : runs.Context → Item) (y : Code) (t : Scope) :
-    Type 0
+pub record IsSub (numbering : Numbering) (x : Context) (s : Scope) (f : runs.Context → Item) (y : SubBlock)
+    (t : Scope) : Type 0
   where
-    pub code : (a : Around) → Returns x a → IsCodeOf numbering y (f (context_in x s a))
+    pub code : (a : Around) → Returns x a → IsCodeOf numbering y.code (f (context_in x s a))
+    pub lasting : (a : Around) → Returns x a → AreAllSet numbering y.settings (f (context_in x s a)).lasting
     pub after : (a : Around) → Returns x a → t ≡ (f (context_in x s a)).after
 
 -- an `else`, where there is one
-abbrev pub MaybeSub : Numbering → Context → Scope → Option runs.Code → Option Code → Scope → Type 0
+abbrev pub MaybeSub : Numbering → Context → Scope → Option runs.Code → Option SubBlock → Scope → Type 0
 MaybeSub numbering x s None None t = t ≡ s
 MaybeSub numbering x s (Some b) (Some c) t = IsSub numbering x s (runs.sub b) c t
 MaybeSub numbering x s _ _ t = ⊥

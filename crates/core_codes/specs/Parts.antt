@@ -9,12 +9,16 @@ use Rattle.core_tree.specs.declared.code.Code.{Code}
 use Rattle.core_tree.specs.declared.code.Code.TheVariants as code
 use Rattle.core_tree.specs.declared.expr.Expr.{Expr}
 use Rattle.core_tree.specs.declared.expr.Expr.TheVariants as expr
+use Rattle.core_tree.specs.declared.program.LastingSetting.{LastingSetting}
 use Rattle.core_tree.specs.declared.types.ValueType.{ValueType}
 use Rattle.elaborate.specs.Means.{Numbering, IsValueOf, IsEffectOf}
 use Rattle.code_forms.specs.Contents.{AreCodesOf}
 use Rattle.core_codes.specs.declared.made.Made.{Made}
+use Rattle.core_codes.specs.declared.made.SubBlock.{SubBlock}
+use Rattle.core_codes.specs.declared.parts.Begun.{Begun}
 use Rattle.core_codes.specs.declared.parts.Valued.{Valued}
 use Rattle.core_codes.specs.declared.pieces.ForBegun.{ForBegun}
+use Rattle.core_codes.specs.Settings.{AreAllSet}
 
 -- ---- expressions and declarations, behind which these names are in force
 
@@ -45,8 +49,9 @@ MaybeDone numbering (Some e) (Some f) s t = IsDone numbering e (f s) t
 MaybeDone numbering _ _ s t = ⊥
 
 -- a declaration, or what a `for` begins with
-pub record IsBegun (numbering : Numbering) (xs : List Code) (i : Item) (t : Scope) : Type 0 where
-  pub codes : AreCodesOf numbering xs i
+pub record IsBegun (numbering : Numbering) (y : Begun) (i : Item) (t : Scope) : Type 0 where
+  pub codes : AreCodesOf numbering y.codes i
+  pub lasting : AreAllSet numbering y.settings i.lasting
   pub after : t ≡ i.after
 
 -- what stands in front of the body of a `for`: each part with the names in force behind it
@@ -61,13 +66,30 @@ pub record IsForBegun (numbering : Numbering) (s : Scope) (begins : Scope → It
 
 -- ---- what is made of parts
 
-abbrev pub alone : Code → List ℤ → Made
-alone c zs = record { codes = c ∷ []; cases = zs }
+-- one item, with the cases that it gives, and what is set in it
+abbrev pub alone : Code → List ℤ → List LastingSetting → Made
+alone c zs xs = record { codes = c ∷ []; cases = zs; settings = xs }
+
+-- one that has neither
+abbrev pub bare : Code → Made
+bare c = alone c [] []
 
 -- an expression that a `for` begins with
 abbrev pub first_codes : Option Expr → List Code
 first_codes None = []
 first_codes (Some e) = code.Value false e ∷ []
+
+abbrev pub first_begun : Option Expr → Begun
+first_begun e = record { codes = first_codes e; settings = [] }
+
+-- of an `else`, where there is one: its block, and what is set in it
+abbrev pub code_if : Option SubBlock → Option Code
+code_if None = None
+code_if (Some x) = Some x.code
+
+abbrev pub settings_if : Option SubBlock → List LastingSetting
+settings_if None = []
+settings_if (Some x) = x.settings
 
 -- an expression statement
 abbrev pub effect_node : Option Expr → Code
@@ -83,8 +105,9 @@ return_node t (Some e) = code.Return (Some (expr.Convert t e))
 pub record Wraps (f : Code → Code) (g : List ℤ → List ℤ) (body y : Made) : Type 0 where
   pub inner : Code
   pub given : List ℤ
-  pub is_one : body ≡ alone inner given
-  pub is : y ≡ alone (f inner) (g given)
+  pub settings : List LastingSetting
+  pub is_one : body ≡ alone inner given settings
+  pub is : y ≡ alone (f inner) (g given) settings
 
 abbrev pub same_cases : List ℤ → List ℤ
 same_cases zs = zs

@@ -8,6 +8,6 @@ mod pieces;
 mod statements;
 
 pub use context::Context;
-pub use made::Made;
-pub use parts::{Parts, Valued};
+pub use made::{Body, Made};
+pub use parts::{Begun, Parts, Valued};
 pub use statements::{content, statement};

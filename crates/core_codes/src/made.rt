@@ -1,50 +1,93 @@
 //! What is made of a statement.
 ghost use Rattle.std.specs.Prelude.{◌≡◌, [], ◌∷◌, IfOk, IfSome};
+ghost use Rattle.core_tree.specs.declared.code.Code.TheVariants as core_code;
 ghost use Rattle.core_codes.specs.Made.{joined};
-ghost use Rattle.core_codes.specs.Parts.{alone};
+ghost use Rattle.core_codes.specs.Parts.{alone, bare};
 
-use code_forms::Content;
-use core_tree::Code;
+use code_forms::{Content, substatement};
+use core_tree::{Code, LastingSetting};
 use plain_data::{Items, Shared};
 use std::alloc::{AllocError, Global};
 
-/// The core of a statement or declaration, or of several: the codes of its items, in order, and the values of the
-/// cases that it gives to the `switch` whose block it is in.
+/// The core of a statement or declaration, or of several: the codes of its items, in order; the values of the cases
+/// that it gives to the `switch` whose block it is in; and what the initializers of the objects in it that live
+/// throughout the run set before `main` is called (C99 6.2.4p3), in order.
 #[derive(Drop)]
 pub struct Made {
     pub codes: Items<Shared<Code>>,
     pub cases: Items<i128>,
+    pub settings: Items<LastingSetting>,
+}
+
+/// What stands in the block that a statement is, as the body of a function, and what the initializers of the objects in
+/// it that live throughout the run set.
+#[derive(Drop)]
+pub struct Body {
+    pub content: Content,
+    pub settings: Items<LastingSetting>,
+}
+
+/// The block that a substatement is, and what the initializers of the objects in it that live throughout the run set.
+#[derive(Drop)]
+pub(crate) struct SubBlock {
+    pub code: Shared<Code>,
+    pub settings: Items<LastingSetting>,
+}
+
+/// One item, as a statement is: its code, the cases that it gives, and what is set in it.
+#[derive(Drop)]
+pub(crate) struct Single {
+    pub code: Shared<Code>,
+    pub cases: Items<i128>,
+    pub settings: Items<LastingSetting>,
 }
 
 impl Made {
     /// Nothing so far. It takes no memory.
     pub(crate) fn nothing(alloc: Global) -> Made
-        ensures { result ≡ record { codes = []; cases = [] } }
+        ensures { result ≡ record { codes = []; cases = []; settings = [] } }
     {
         Made {
             codes: Items::new(alloc),
             cases: Items::new(alloc),
+            settings: Items::new(alloc),
         }
     }
 
-    /// One item, that gives no case. It fails for want of memory alone.
+    /// One item, that gives no case, and in which nothing is set. It fails for want of memory alone.
     pub(crate) fn one(alloc: Global, code: Shared<Code>) -> Result<Made, AllocError>
-        ensures { IfOk result (λ y. y ≡ alone code []) }
+        ensures { IfOk result (λ y. y ≡ bare code) }
     {
-        Made::with_cases(alloc, code, Items::new(alloc))
+        Made::with_settings(alloc, code, Items::new(alloc))
     }
 
-    /// One item, with the cases that it gives. It fails for want of memory alone.
+    /// One item, that gives no case, with what is set in it. It fails for want of memory alone.
+    pub(crate) fn with_settings(
+        alloc: Global,
+        code: Shared<Code>,
+        settings: Items<LastingSetting>,
+    ) -> Result<Made, AllocError>
+        ensures { IfOk result (λ y. y ≡ alone code [] settings) }
+    {
+        Made::with_cases(alloc, code, Items::new(alloc), settings)
+    }
+
+    /// One item, with the cases that it gives, and what is set in it. It fails for want of memory alone.
     pub(crate) fn with_cases(
         alloc: Global,
         code: Shared<Code>,
         cases: Items<i128>,
+        settings: Items<LastingSetting>,
     ) -> Result<Made, AllocError>
-        ensures { IfOk result (λ y. y ≡ alone code cases) }
+        ensures { IfOk result (λ y. y ≡ alone code cases settings) }
     {
         let mut codes = Items::new(alloc);
         codes.push(code)?;
-        Ok(Made { codes, cases })
+        Ok(Made {
+            codes,
+            cases,
+            settings,
+        })
     }
 
     /// These, and others behind them. It fails for want of memory alone.
@@ -54,33 +97,63 @@ impl Made {
         let Made {
             mut codes,
             mut cases,
+            mut settings,
         } = self;
         codes.append(more.codes)?;
         cases.append(more.cases)?;
-        Ok(Made { codes, cases })
+        settings.append(more.settings)?;
+        Ok(Made {
+            codes,
+            cases,
+            settings,
+        })
     }
 
     /// What stands in the block that a statement is, which is a compound one or not.
-    pub(crate) fn content(self, is_compound: bool) -> Content
-        ensures { result ≡ record { is_compound = is_compound; items = self.codes; cases = self.cases } }
+    pub(crate) fn content(self, is_compound: bool) -> Body
+        ensures { result ≡ record { content = record { is_compound = is_compound; items = self.codes; cases = self.cases }; settings = self.settings } }
     {
-        let Made { codes, cases } = self;
-        Content {
+        let Made {
+            codes,
+            cases,
+            settings,
+        } = self;
+        let content = Content {
             is_compound,
             items: codes,
             cases,
-        }
+        };
+        Body { content, settings }
     }
 
-    /// The only item, with its cases: a statement is one.
-    pub(crate) fn only(self) -> Option<(Shared<Code>, Items<i128>)>
-        ensures { IfSome result (λ x. self ≡ alone x.0 x.1) }
+    /// The only item: a statement is one.
+    pub(crate) fn only(self) -> Option<Single>
+        ensures { IfSome result (λ x. self ≡ alone x.code x.cases x.settings) }
     {
-        let Made { mut codes, cases } = self;
+        let Made {
+            mut codes,
+            cases,
+            settings,
+        } = self;
         match codes.pop() {
-            Some(code) if codes.is_empty() => Some((code, cases)),
+            Some(code) if codes.is_empty() => Some(Single {
+                code,
+                cases,
+                settings,
+            }),
             _ => None,
         }
+    }
+}
+
+impl SubBlock {
+    /// The block in which this stands. It fails for want of memory alone.
+    pub(crate) fn around(alloc: Global, inside: Body) -> Result<SubBlock, AllocError>
+        ensures { IfOk result (λ y. y ≡ record { code = core_code.Block inside.content.is_compound inside.content.items; settings = inside.settings }) }
+    {
+        let Body { content, settings } = inside;
+        let code = substatement(alloc, content)?;
+        Ok(SubBlock { code, settings })
     }
 }
 

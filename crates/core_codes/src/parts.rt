@@ -8,7 +8,7 @@ use c_says::Told;
 use c_tree as tree;
 use c_type_scope::Scope;
 use core_forms::NoCore;
-use core_tree::{Code, Expr};
+use core_tree::{Code, Expr, LastingSetting};
 use plain_data::{Items, Shared};
 use std::alloc::Global;
 
@@ -17,6 +17,14 @@ use std::alloc::Global;
 pub struct Valued {
     pub told: Told,
     pub value: Shared<Expr>,
+}
+
+/// A declaration in the core: the codes of its items in a block, in order, and what the initializers of the objects in
+/// it that live throughout the run set before `main` is called (C99 6.2.4p3), in order.
+#[derive(Drop)]
+pub struct Begun {
+    pub codes: Items<Shared<Code>>,
+    pub settings: Items<LastingSetting>,
 }
 
 /// What makes the cores of the expressions and declarations in a function. Each call takes the names in force in front
@@ -45,6 +53,6 @@ pub trait Parts {
         alloc: Global,
         declaration: &tree::Declaration,
         scope: &mut Scope,
-    ) -> Result<Items<Shared<Code>>, NoCore>
+    ) -> Result<Begun, NoCore>
         ensures { IfOk result (λ y. spec.IsBegun (numbering self.now) y (form.declaration declaration.now scope.old) scope.new) };
 }

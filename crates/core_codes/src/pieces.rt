@@ -8,11 +8,11 @@ ghost use Rattle.core_tree.specs.declared.code.Code.TheVariants as code;
 ghost use Rattle.elaborate.specs.Types.{word_type};
 ghost use Rattle.code_forms.specs.Nodes.{negative_node};
 ghost use Rattle.core_codes.specs.Parts as spec;
-ghost use Rattle.core_codes.specs.Parts.{alone};
+ghost use Rattle.core_codes.specs.Parts.{alone, bare};
 
 use crate::context::Context;
-use crate::made::{Made, in_front};
-use crate::parts::{Parts, Valued};
+use crate::made::{Body, Made, SubBlock, in_front};
+use crate::parts::{Begun, Parts, Valued};
 use c_lexer::Name;
 use c_says::Told;
 use c_tree as tree;
@@ -20,9 +20,8 @@ use c_tree::ForStart;
 use c_type_forms as forms;
 use c_type_scope::Scope;
 use c_type_terms::{IntegerKind, Tables};
-use code_forms::Content;
 use core_forms::NoCore;
-use core_tree::{Code, Expr};
+use core_tree::{Code, Expr, LastingSetting};
 use plain_data::{Items, Shared};
 use std::alloc::{AllocError, Global};
 
@@ -60,14 +59,15 @@ pub(crate) fn maybe_effect<P: Parts>(
 }
 
 /// The first part of a `for` that is an expression.
-fn first_value(alloc: Global, value: Option<Shared<Expr>>) -> Result<Items<Shared<Code>>, NoCore>
-    ensures { IfOk result (λ y. y ≡ spec.first_codes value) }
+fn first_value(alloc: Global, value: Option<Shared<Expr>>) -> Result<Begun, NoCore>
+    ensures { IfOk result (λ y. y ≡ spec.first_begun value) }
 {
     let mut codes = Items::new(alloc);
     if let Some(value) = value {
         codes.push(code_forms::first_part(alloc, value)?)?;
     }
-    Ok(codes)
+    let settings = Items::new(alloc);
+    Ok(Begun { codes, settings })
 }
 
 /// What a `for` begins with (C99 6.8.5.3).
@@ -76,7 +76,7 @@ fn begun_by<P: Parts>(
     parts: &P,
     start: &ForStart,
     scope: &mut Scope,
-) -> Result<Items<Shared<Code>>, NoCore>
+) -> Result<Begun, NoCore>
     ensures { IfOk result (λ y. spec.IsBegun (P.numbering parts.now) y (form.begun_by start.now scope.old) scope.new) }
 {
     match start {
@@ -91,7 +91,7 @@ fn begun_by<P: Parts>(
 /// The parts of a `for` that stand in front of its body.
 #[derive(Drop)]
 pub(crate) struct ForBegun {
-    first: Items<Shared<Code>>,
+    first: Begun,
     condition: Option<Shared<Expr>>,
     step: Option<Shared<Expr>>,
 }
@@ -121,22 +121,24 @@ pub(crate) fn for_begun<P: Parts>(
 #[derive(Drop)]
 pub(crate) struct IfBegun {
     pub condition: Shared<Expr>,
-    pub positive: Shared<Code>,
+    pub positive: SubBlock,
 }
 
 /// A declaration, of these items. It takes no memory.
-pub(crate) fn declared_made(alloc: Global, codes: Items<Shared<Code>>) -> Result<Made, NoCore>
-    ensures { IfOk result (λ y. y ≡ record { codes = codes; cases = [] }) }
+pub(crate) fn declared_made(alloc: Global, begun: Begun) -> Result<Made, NoCore>
+    ensures { IfOk result (λ y. y ≡ record { codes = begun.codes; cases = []; settings = begun.settings }) }
 {
+    let Begun { codes, settings } = begun;
     Ok(Made {
         codes,
         cases: Items::new(alloc),
+        settings,
     })
 }
 
 /// `value;`, and `;` alone.
 pub(crate) fn effect_made(alloc: Global, value: Option<Shared<Expr>>) -> Result<Made, NoCore>
-    ensures { IfOk result (λ y. y ≡ alone (spec.effect_node value) []) }
+    ensures { IfOk result (λ y. y ≡ bare (spec.effect_node value)) }
 {
     let code = match value {
         Some(value) => code_forms::effect(alloc, value)?,
@@ -151,7 +153,7 @@ pub(crate) fn return_made(
     x: Context,
     value: Option<Shared<Expr>>,
 ) -> Result<Made, NoCore>
-    ensures { IfOk result (λ y. y ≡ alone (spec.return_node x.returned value) []) }
+    ensures { IfOk result (λ y. y ≡ bare (spec.return_node x.returned value)) }
 {
     let code = match value {
         Some(value) => code_forms::value_return(alloc, x.returned, value)?,
@@ -161,21 +163,21 @@ pub(crate) fn return_made(
 }
 
 pub(crate) fn goto_made(alloc: Global, name: &Name) -> Result<Made, NoCore>
-    ensures { IfOk result (λ y. y ≡ alone (code.Goto name.now) []) }
+    ensures { IfOk result (λ y. y ≡ bare (code.Goto name.now)) }
 {
     let code = code_forms::goto_label(alloc, name.clone()?)?;
     Ok(Made::one(alloc, code)?)
 }
 
 pub(crate) fn continue_made(alloc: Global) -> Result<Made, NoCore>
-    ensures { IfOk result (λ y. y ≡ alone code.Continue []) }
+    ensures { IfOk result (λ y. y ≡ bare code.Continue) }
 {
     let code = code_forms::continue_loop(alloc)?;
     Ok(Made::one(alloc, code)?)
 }
 
 pub(crate) fn break_made(alloc: Global) -> Result<Made, NoCore>
-    ensures { IfOk result (λ y. y ≡ alone code.Break []) }
+    ensures { IfOk result (λ y. y ≡ bare code.Break) }
 {
     let code = code_forms::break_out(alloc)?;
     Ok(Made::one(alloc, code)?)
@@ -183,11 +185,10 @@ pub(crate) fn break_made(alloc: Global) -> Result<Made, NoCore>
 
 /// A compound statement of these items.
 pub(crate) fn compound_made(alloc: Global, items: Made) -> Result<Made, NoCore>
-    ensures { IfOk result (λ y. y ≡ alone (code.Block true items.codes) []) }
+    ensures { IfOk result (λ y. y ≡ alone (code.Block true items.codes) [] items.settings) }
 {
-    let Made { codes, .. } = items;
-    let code = code_forms::compound(alloc, codes)?;
-    Ok(Made::one(alloc, code)?)
+    let code = code_forms::compound(alloc, items.codes)?;
+    Ok(Made::with_settings(alloc, code, items.settings)?)
 }
 
 /// A label, in front of a statement. What has several items is no statement, and has no core behind a label.
@@ -195,9 +196,9 @@ pub(crate) fn label_made(alloc: Global, name: &Name, body: Made) -> Result<Made,
     ensures { IfOk result (λ y. spec.Wraps (code.Label name.now) spec.same_cases body y) }
 {
     match body.only() {
-        Some((body, cases)) => {
-            let code = code_forms::label(alloc, name.clone()?, body)?;
-            Ok(Made::with_cases(alloc, code, cases)?)
+        Some(body) => {
+            let code = code_forms::label(alloc, name.clone()?, body.code)?;
+            Ok(Made::with_cases(alloc, code, body.cases, body.settings)?)
         }
         None => Err(NoCore::Outside),
     }
@@ -208,9 +209,9 @@ pub(crate) fn default_made(alloc: Global, body: Made) -> Result<Made, NoCore>
     ensures { IfOk result (λ y. spec.Wraps code.Default spec.same_cases body y) }
 {
     match body.only() {
-        Some((body, cases)) => {
-            let code = code_forms::default_label(alloc, body)?;
-            Ok(Made::with_cases(alloc, code, cases)?)
+        Some(body) => {
+            let code = code_forms::default_label(alloc, body.code)?;
+            Ok(Made::with_cases(alloc, code, body.cases, body.settings)?)
         }
         None => Err(NoCore::Outside),
     }
@@ -238,10 +239,10 @@ fn valued_case(alloc: Global, value: i128, label: Shared<Expr>, body: Made) -> R
     ensures { IfOk result (λ y. spec.Wraps (code.Case value label) (spec.and_case value) body y) }
 {
     match body.only() {
-        Some((body, cases)) => {
-            let code = code_forms::case_label(alloc, value, label, body)?;
-            let cases = in_front(alloc, value, cases)?;
-            Ok(Made::with_cases(alloc, code, cases)?)
+        Some(body) => {
+            let code = code_forms::case_label(alloc, value, label, body.code)?;
+            let cases = in_front(alloc, value, body.cases)?;
+            Ok(Made::with_cases(alloc, code, cases, body.settings)?)
         }
         None => Err(NoCore::Outside),
     }
@@ -262,20 +263,36 @@ pub(crate) fn case_made(
     }
 }
 
+/// The block of an `else`, where there is one, and what is set in it. It takes no memory.
+fn else_parts(
+    alloc: Global,
+    negative: Option<SubBlock>,
+) -> (Option<Shared<Code>>, Items<LastingSetting>)
+    ensures { result ≡ (spec.code_if negative, spec.settings_if negative) }
+{
+    match negative {
+        Some(SubBlock { code, settings }) => (Some(code), settings),
+        None => (None, Items::new(alloc)),
+    }
+}
+
 pub(crate) fn if_made(
     alloc: Global,
     at: u32,
     begun: IfBegun,
-    negative: Option<Shared<Code>>,
+    negative: Option<SubBlock>,
 ) -> Result<Made, NoCore>
-    ensures { IfOk result (λ y. y ≡ alone (code.If at begun.condition begun.positive (negative_node negative)) []) }
+    ensures { IfOk result (λ y. y ≡ alone (code.If at begun.condition begun.positive.code (negative_node (spec.code_if negative))) [] (begun.positive.settings ++ spec.settings_if negative)) }
 {
     let IfBegun {
         condition,
         positive,
     } = begun;
-    let code = code_forms::if_else(alloc, at, condition, positive, negative)?;
-    Ok(Made::one(alloc, code)?)
+    let SubBlock { code, mut settings } = positive;
+    let (negative, more) = else_parts(alloc, negative);
+    settings.append(more)?;
+    let code = code_forms::if_else(alloc, at, condition, code, negative)?;
+    Ok(Made::with_settings(alloc, code, settings)?)
 }
 
 /// The type in which a `switch` compares (C99 6.8.4.2p5).
@@ -295,52 +312,60 @@ pub(crate) fn switch_made(
     at: u32,
     compared: IntegerKind,
     value: Shared<Expr>,
-    body: Content,
+    body: Body,
 ) -> Result<Made, NoCore>
-    ensures { IfOk result (λ y. y ≡ alone (code.Switch at (word_type compared) body.cases value body.is_compound body.items) []) }
+    ensures { IfOk result (λ y. y ≡ alone (code.Switch at (word_type compared) body.content.cases value body.content.is_compound body.content.items) [] body.settings) }
 {
-    let code = code_forms::switch(alloc, at, compared, value, body)?;
-    Ok(Made::one(alloc, code)?)
+    let Body { content, settings } = body;
+    let code = code_forms::switch(alloc, at, compared, value, content)?;
+    Ok(Made::with_settings(alloc, code, settings)?)
 }
 
 pub(crate) fn while_made(
     alloc: Global,
     at: u32,
     condition: Shared<Expr>,
-    body: Shared<Code>,
+    body: SubBlock,
 ) -> Result<Made, NoCore>
-    ensures { IfOk result (λ y. y ≡ alone (code.Loop at (Some condition) None body) []) }
+    ensures { IfOk result (λ y. y ≡ alone (code.Loop at (Some condition) None body.code) [] body.settings) }
 {
-    let code = code_forms::while_loop(alloc, at, condition, body)?;
-    Ok(Made::one(alloc, code)?)
+    let SubBlock { code, settings } = body;
+    let code = code_forms::while_loop(alloc, at, condition, code)?;
+    Ok(Made::with_settings(alloc, code, settings)?)
 }
 
 pub(crate) fn do_made(
     alloc: Global,
     at: u32,
-    body: Shared<Code>,
+    body: SubBlock,
     condition: Shared<Expr>,
 ) -> Result<Made, NoCore>
-    ensures { IfOk result (λ y. y ≡ alone (code.Repeat at condition body) []) }
+    ensures { IfOk result (λ y. y ≡ alone (code.Repeat at condition body.code) [] body.settings) }
 {
-    let code = code_forms::do_loop(alloc, at, body, condition)?;
-    Ok(Made::one(alloc, code)?)
+    let SubBlock { code, settings } = body;
+    let code = code_forms::do_loop(alloc, at, code, condition)?;
+    Ok(Made::with_settings(alloc, code, settings)?)
 }
 
 pub(crate) fn for_made(
     alloc: Global,
     at: u32,
     begun: ForBegun,
-    body: Shared<Code>,
+    body: SubBlock,
 ) -> Result<Made, NoCore>
-    ensures { IfOk result (λ y. y ≡ alone (code.Block false (begun.first ++ code.Loop at begun.condition begun.step body ∷ [])) []) }
+    ensures { IfOk result (λ y. y ≡ alone (code.Block false (begun.first.codes ++ code.Loop at begun.condition begun.step body.code ∷ [])) [] (begun.first.settings ++ body.settings)) }
 {
     let ForBegun {
         first,
         condition,
         step,
     } = begun;
-    let turns = code_forms::for_turns(alloc, at, condition, step, body)?;
-    let code = code_forms::for_block(alloc, first, turns)?;
-    Ok(Made::one(alloc, code)?)
+    let Begun {
+        codes,
+        mut settings,
+    } = first;
+    settings.append(body.settings)?;
+    let turns = code_forms::for_turns(alloc, at, condition, step, body.code)?;
+    let code = code_forms::for_block(alloc, codes, turns)?;
+    Ok(Made::with_settings(alloc, code, settings)?)
 }

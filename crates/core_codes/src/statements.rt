@@ -7,7 +7,7 @@ ghost use Rattle.c_runs.specs.Statements.{stmt};
 ghost use Rattle.core_codes.specs.Made as spec;
 
 use crate::context::Context;
-use crate::made::Made;
+use crate::made::{Body, Made, SubBlock};
 use crate::parts::{Parts, Valued};
 use crate::pieces::{
     IfBegun, break_made, case_constant, case_made, compared_in, compound_made, continue_made,
@@ -17,9 +17,7 @@ use crate::pieces::{
 use c_tree as tree;
 use c_tree::Stmt;
 use c_type_scope::Scope;
-use code_forms::{Content, substatement};
 use core_forms::NoCore;
-use core_tree::Code;
 use plain_data::Shared;
 use std::alloc::Global;
 
@@ -38,8 +36,8 @@ pub fn statement<P: Parts>(
     match node {
         Stmt::Block { items, .. } => block(alloc, parts, x, items.as_slice(), scope),
         Stmt::Declared { declaration } => {
-            let codes = parts.declaration(alloc, declaration, scope)?;
-            declared_made(alloc, codes)
+            let begun = parts.declaration(alloc, declaration, scope)?;
+            declared_made(alloc, begun)
         }
         Stmt::Value { value, .. } => {
             let value = maybe_effect(alloc, parts, value, scope)?;
@@ -139,7 +137,8 @@ fn all_items<P: Parts>(
     Ok(made)
 }
 
-/// What stands in the block that a statement is, in which these names are in force.
+/// What stands in the block that a statement is, in which these names are in force, as the body of a function with its
+/// parameters; and what the initializers of the objects in it that live throughout the run set.
 #[cycle(statements)]
 pub fn content<P: Parts>(
     alloc: Global,
@@ -147,7 +146,7 @@ pub fn content<P: Parts>(
     x: Context,
     node: &Stmt,
     scope: &mut Scope,
-) -> Result<Content, NoCore>
+) -> Result<Body, NoCore>
     ensures { IfOk result (λ y. spec.IsContent (P.numbering parts.now) x scope.old (stmt node.now).content y scope.new) }
 {
     match node {
@@ -170,13 +169,13 @@ fn sub_block<P: Parts>(
     x: Context,
     node: &Stmt,
     scope: &mut Scope,
-) -> Result<Shared<Code>, NoCore>
+) -> Result<SubBlock, NoCore>
     ensures { IfOk result (λ y. spec.IsSub (P.numbering parts.now) x scope.old (sub (stmt node.now)) y scope.new) }
 {
     scope.enter()?;
     let inside = content(alloc, parts, x.within(), node, scope)?;
     scope.leave();
-    let block = substatement(alloc, inside)?;
+    let block = SubBlock::around(alloc, inside)?;
     Ok(block)
 }
 
@@ -229,7 +228,7 @@ fn else_block<P: Parts>(
     x: Context,
     negative: &Option<Shared<Stmt>>,
     scope: &mut Scope,
-) -> Result<Option<Shared<Code>>, NoCore>
+) -> Result<Option<SubBlock>, NoCore>
     ensures { IfOk result (λ y. spec.MaybeSub (P.numbering parts.now) x scope.old (option_map stmt negative.now) y scope.new) }
 {
     match negative {

@@ -12,9 +12,9 @@ pub statement-returns-in-Block : goal.statement-returns-in-Block
 statement-returns-in-Block g t c =
     IfOk-weaker c.block.result (λ y. IsMade (g.P.Parts.numbering c.args.parts.now) c.args.x c.args.scope.now (form.compound (map stmt c.as_slice.result.now)).here y c.block.new.scope) _ (λ y h. arm.of_block (g.P.Parts.numbering c.args.parts.now) c.args.x c.args.scope.now c.args.node.now _ _ c.as_slice.result.now y c.block.new.scope c.in-Block.is c.as_slice.ensures h) c.block.ensures
 
-pub statement-returns-in_ok-codes-in-Declared : goal.statement-returns-in_ok-codes-in-Declared
-statement-returns-in_ok-codes-in-Declared g t c =
-    IfOk-weaker c.declared_made.result _ _ (λ y h. arm.of_declared (g.P.Parts.numbering c.args.parts.now) c.args.x c.args.scope.now c.args.node.now _ c.in_ok-codes-in-Declared.codes y c.declaration.new.scope c.in-Declared.is c.in_ok-codes-in-Declared.ensures h) c.declared_made.ensures
+pub statement-returns-in_ok-begun-in-Declared : goal.statement-returns-in_ok-begun-in-Declared
+statement-returns-in_ok-begun-in-Declared g t c =
+    IfOk-weaker c.declared_made.result _ _ (λ y h. arm.of_declared (g.P.Parts.numbering c.args.parts.now) c.args.x c.args.scope.now c.args.node.now _ c.in_ok-begun-in-Declared.begun y c.declaration.new.scope c.in-Declared.is c.in_ok-begun-in-Declared.ensures h) c.declared_made.ensures
 
 pub statement-returns-in_ok-value-in-Value : goal.statement-returns-in_ok-value-in-Value
 statement-returns-in_ok-value-in-Value g t c =
