@@ -1,0 +1,5 @@
+pub mod Kept
+pub mod Needs
+pub mod Parting
+pub mod Trees
+pub mod Working
