@@ -63,7 +63,7 @@ both_nothing x =
 -- ---- declared names
 
 means_are : (j : Judged) (at : ℕ) (e : Entry) (k : Means) (defined : Bool) (x : Initial) (s : Scope) →
-    summed j (declared_means at e k defined x s) ≡ summed_in (means_notes at e k defined (initial_notes j x)) s
+    summed j (declared_means at e k defined x s) ≡ summed_in (means_notes at s.tables e k defined (initial_notes j x)) s
 means_are j at e (means.Object t duration.Automatic l) defined x s = refl
 means_are j at e (means.Object t duration.Static l) defined x s = refl
 means_are j at e (means.Function t l) defined x s = refl
@@ -72,7 +72,7 @@ means_are j at e (means.Constant z) defined x s = refl
 means_are j at e means.Faulty defined x s = refl
 
 entry_is : (j : Judged) (at : ℕ) (e : Option Entry) (defined : Bool) (x : Initial) (s : Scope) →
-    summed j (declared_entry at e defined x s) ≡ summed_in (entry_notes at e defined (initial_notes j x)) s
+    summed j (declared_entry at e defined x s) ≡ summed_in (entry_notes at s.tables e defined (initial_notes j x)) s
 entry_is j at None defined x s = refl
 entry_is j at (Some e) defined x s = means_are j at e e.means defined x s
 

@@ -2,6 +2,7 @@
 use Rattle.std.specs.Prelude.{ℕ, Bool, true, not, ◌||◌, List, [], ◌∷◌, ◌++◌, Option, Some, None, is_some}
 use Rattle.c_tree.specs.declared.expr.StorageClass.{StorageClass}
 use Rattle.c_type_terms.specs.declared.ctype.CType.{CType}
+use Rattle.c_type_terms.specs.declared.tables.Tables.{Tables}
 use Rattle.c_says.specs.declared.scope.Duration.TheVariants as duration
 use Rattle.c_says.specs.declared.scope.Entry.{Entry}
 use Rattle.c_says.specs.declared.scope.Means.{Means}
@@ -12,6 +13,7 @@ use Rattle.c_says.specs.Declarations.{Declared, is_extern}
 use Rattle.c_says.specs.Units.{initialises}
 use Rattle.c_declarations.specs.Beginnings.{Begins, filled_by, object_of}
 use Rattle.c_declarations.specs.Views.{declares_as}
+use Rattle.c_means.specs.Values.{bytes_of}
 use Rattle.c_runs.specs.declared.breach.Breach.{Breach}
 use Rattle.c_runs.specs.Items.{Item, Lasting, typing, with_breaches}
 use Rattle.c_runs.specs.Initials.{Initially, initialising_if, said_if}
@@ -24,7 +26,7 @@ use Rattle.c_item_notes.specs.declared.items.LastingNote.{LastingNote}
 use Rattle.c_item_notes.specs.Levels.{Judged, level_in}
 
 abbrev pub lasting_note : Lasting → LastingNote
-lasting_note x = record { at = x.at; name = x.entry.name; first = x.entry.at; is_defined = x.is_defined }
+lasting_note x = record { at = x.at; entry = x.entry; size = x.size; is_defined = x.is_defined }
 
 abbrev pub lasting_notes : List Lasting → List LastingNote
 lasting_notes [] = []
@@ -72,26 +74,27 @@ breaking b x = record x { breach = lesser b x.breach }
 -- ---- declarations
 
 -- of a declared name, by what it means
-abbrev pub means_notes : ℕ → Entry → Means → Bool → InitialNotes → ItemNotes
-means_notes at e (means.Object t duration.Automatic l) defined n =
+abbrev pub means_notes : ℕ → Tables → Entry → Means → Bool → InitialNotes → ItemNotes
+means_notes at ts e (means.Object t duration.Automatic l) defined n =
     record nothing_noted { calls = n.calls; called = n.called }
-means_notes at e (means.Object t duration.Static l) defined n = record nothing_noted {
+means_notes at ts e (means.Object t duration.Static l) defined n = record nothing_noted {
   breach = n.constant;
   calls = n.calls;
-  lasting = record { at = at; name = e.name; first = e.at; is_defined = defined } ∷ [];
+  lasting = record { at = at; entry = e; size = bytes_of ts (Some t); is_defined = defined } ∷ [];
   links = link e.name l;
 }
-means_notes at e (means.Function t l) defined n = record nothing_noted { links = e.name ∷ [] }
-means_notes at e (means.Typedef t) defined n = nothing_noted
-means_notes at e (means.Constant z) defined n = nothing_noted
-means_notes at e means.Faulty defined n = nothing_noted
+means_notes at ts e (means.Function t l) defined n = record nothing_noted { links = e.name ∷ [] }
+means_notes at ts e (means.Typedef t) defined n = nothing_noted
+means_notes at ts e (means.Constant z) defined n = nothing_noted
+means_notes at ts e means.Faulty defined n = nothing_noted
 
-abbrev pub entry_notes : ℕ → Option Entry → Bool → InitialNotes → ItemNotes
-entry_notes at None defined n = nothing_noted
-entry_notes at (Some e) defined n = means_notes at e e.means defined n
+abbrev pub entry_notes : ℕ → Tables → Option Entry → Bool → InitialNotes → ItemNotes
+entry_notes at ts None defined n = nothing_noted
+entry_notes at ts (Some e) defined n = means_notes at ts e e.means defined n
 
 abbrev pub declared_notes : ℕ → Bool → Declared → InitialNotes → Summed
-declared_notes at defined w n = summed_in (breaking (least_of (typing w.faults)) (entry_notes at w.entry defined n)) w.after
+declared_notes at defined w n =
+    summed_in (breaking (least_of (typing w.faults)) (entry_notes at w.after.tables w.entry defined n)) w.after
 
 -- a declarator with its initializer, behind specifiers of this storage class and type
 abbrev pub item_as : Option StorageClass → Option CType → Formed → Option Initially → Item

@@ -18,6 +18,7 @@ ghost use Rattle.c_item_notes.specs.ItemTellings as spec;
 use crate::hearing::Source;
 use crate::initials::{FilledNotes, InitialNotes, filled_notes, no_notes};
 use crate::items::{ItemNotes, LastingNote, both, breaking, nothing_noted};
+use crate::sizes::bytes_of;
 use c_checks::least_fault;
 use c_declarations::{
     Begun, Declared, declared_filled, declared_first, declared_plainly, declared_unfilled,
@@ -29,7 +30,7 @@ use c_lexer::Name;
 use c_says::{Duration, Entry, Linkage, Means};
 use c_tree::{Declaration, InitDeclarator, Initializer, StorageClass};
 use c_type_scope::Scope;
-use c_type_terms::CType;
+use c_type_terms::{CType, Tables};
 use c_typing::{declarator, specifiers};
 use plain_data::{Items, Shared};
 use std::alloc::{AllocError, Global};
@@ -73,19 +74,20 @@ fn automatic(alloc: Global, initial: InitialNotes) -> ItemNotes
 fn lasting(
     alloc: Global,
     at: u32,
-    entry: &Entry,
+    entry: &Shared<Entry>,
+    size: u64,
     linkage: Linkage,
     is_defined: bool,
     initial: InitialNotes,
 ) -> Result<ItemNotes, AllocError>
-    ensures { IfOk result (λ n. n ≡ record spec.nothing_noted { breach = initial.constant; calls = initial.calls; lasting = record { at = at; name = entry.now.name; first = entry.now.at; is_defined = is_defined } ∷ []; links = statements.link entry.now.name linkage }) }
+    ensures { IfOk result (λ n. n ≡ record spec.nothing_noted { breach = initial.constant; calls = initial.calls; lasting = record { at = at; entry = entry.now; size = size; is_defined = is_defined } ∷ []; links = statements.link entry.now.name linkage }) }
 {
-    let links = link(alloc, &entry.name, linkage)?;
+    let links = link(alloc, &entry.get().name, linkage)?;
     let mut lasting = Items::new(alloc);
     lasting.push(LastingNote {
         at,
-        name: entry.name.clone()?,
-        first: entry.at,
+        entry: entry.clone()?,
+        size,
         is_defined,
     })?;
     let InitialNotes {
@@ -125,25 +127,31 @@ fn linked(alloc: Global, name: &Name) -> Result<ItemNotes, AllocError>
     })
 }
 
+/// What is noted of a name that means this.
 fn means_notes(
     alloc: Global,
+    tables: &Tables,
     at: u32,
-    entry: &Entry,
+    entry: &Shared<Entry>,
+    means: &Means,
     is_defined: bool,
     initial: InitialNotes,
 ) -> Result<ItemNotes, AllocError>
-    ensures { IfOk result (λ n. n ≡ spec.means_notes at entry.now entry.now.means is_defined initial) }
+    ensures { IfOk result (λ n. n ≡ spec.means_notes at tables.now entry.now means.now is_defined initial) }
 {
-    match &entry.means {
+    match means {
         Means::Object {
+            ctype,
             duration,
             linkage,
-            ..
         } => match *duration {
             Duration::Automatic => Ok(automatic(alloc, initial)),
-            Duration::Static => lasting(alloc, at, entry, *linkage, is_defined, initial),
+            Duration::Static => {
+                let size = bytes_of(tables, ctype.get());
+                lasting(alloc, at, entry, size, *linkage, is_defined, initial)
+            }
         },
-        Means::Function { .. } => linked(alloc, &entry.name),
+        Means::Function { .. } => linked(alloc, &entry.get().name),
         Means::Typedef { .. } => Ok(nothing_noted(alloc)),
         Means::Constant { .. } => Ok(nothing_noted(alloc)),
         Means::Faulty => Ok(nothing_noted(alloc)),
@@ -152,16 +160,20 @@ fn means_notes(
 
 fn entry_notes(
     alloc: Global,
+    tables: &Tables,
     at: u32,
     entry: &Option<Shared<Entry>>,
     is_defined: bool,
     initial: InitialNotes,
 ) -> Result<ItemNotes, AllocError>
-    ensures { IfOk result (λ n. n ≡ spec.entry_notes at entry.now is_defined initial) }
+    ensures { IfOk result (λ n. n ≡ spec.entry_notes at tables.now entry.now is_defined initial) }
 {
     match entry {
         None => Ok(nothing_noted(alloc)),
-        Some(entry) => means_notes(alloc, at, entry.get(), is_defined, initial),
+        Some(entry) => {
+            let means = &entry.get().means;
+            means_notes(alloc, tables, at, entry, means, is_defined, initial)
+        }
     }
 }
 
@@ -177,7 +189,7 @@ fn declared_notes(
     ensures { IfOk result (λ n. spec.summed_in n scope.now ≡ spec.declared_notes at is_defined (declared_in declared scope.now) initial) }
 {
     let Declared { entry, faults } = declared;
-    let notes = entry_notes(alloc, at, &entry, is_defined, initial)?;
+    let notes = entry_notes(alloc, scope.tables(), at, &entry, is_defined, initial)?;
     Ok(breaking(least_fault(faults.as_slice()), notes))
 }
 

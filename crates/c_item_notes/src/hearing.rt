@@ -12,6 +12,7 @@ use plain_data::Shared;
 use std::alloc::{AllocError, Global};
 
 /// The external declarations of a source, and what is known of functions besides.
+#[derive(Clone, Copy)]
 pub struct Source<'a> {
     pub externals: &'a [Shared<External>],
     pub profile: &'a Profile,

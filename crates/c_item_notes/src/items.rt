@@ -7,16 +7,17 @@ use c_checks::{Case, lesser};
 use c_lexer::Name;
 use c_notes::CallNote;
 use c_runs::Breach;
-use plain_data::Items;
+use c_says::Entry;
+use plain_data::{Items, Shared};
 use std::alloc::{AllocError, Global};
 
-/// An object that lives throughout the run: the offset of its declarator, its name, the offset of the first declaration,
-/// and whether it is defined here.
+/// An object that lives throughout the run (C99 6.2.4p3): the offset of its declarator, what its name stands for, its
+/// size in bytes (0 where it isn't known), and whether it is defined here.
 #[derive(Drop)]
 pub struct LastingNote {
     pub at: u32,
-    pub name: Name,
-    pub first: u32,
+    pub entry: Shared<Entry>,
+    pub size: u64,
     pub is_defined: bool,
 }
 

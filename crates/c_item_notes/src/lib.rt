@@ -7,6 +7,7 @@ mod declarations;
 mod hearing;
 mod initials;
 mod items;
+mod sizes;
 
 pub use declarations::declaration_notes;
 pub use hearing::{Source, heard};
