@@ -1,2 +1,1 @@
 pub mod SameAsDefined
-pub mod Stacks

@@ -22,7 +22,7 @@ abbrev pub run_body : Profile → List FunctionNotes → Name → Option Functio
 run_body p fs name = cond (is_some (log_of p name) || is_some (identity_index p name)) None (named_in fs name)
 
 abbrev pub gone_to : FunctionNotes → Reaching → Reaching
-gone_to f z = cond (has_at f.at z.found) z (record { todo = f.called ++ z.todo; found = f ∷ z.found })
+gone_to f z = cond (has_at f.at z.found) z (record { todo = f.body.called ++ z.todo; found = f ∷ z.found })
 
 abbrev pub gone_on : Option FunctionNotes → Reaching → Reaching
 gone_on None z = z
@@ -41,7 +41,7 @@ steps p fs (suc n) z = steps p fs n (step p fs z)
 
 abbrev pub all_called : List FunctionNotes → ℕ
 all_called [] = 0
-all_called (f ∷ fs) = length f.called + all_called fs
+all_called (f ∷ fs) = length f.body.called + all_called fs
 
 abbrev pub begun : Reaching
 begun = record { todo = main' ∷ []; found = [] }

@@ -1,20 +1,19 @@
 -- What summaries of function definitions have, as functions of what `c_runs` says of them.
-use Rattle.std.specs.Prelude.{◌∷◌, ◌++◌, length}
-use Rattle.c_means.specs.Parts.{Level}
-use Rattle.c_runs.specs.declared.profile.Profile.{Profile}
-use Rattle.c_runs.specs.Programs.{Function, ordinaries}
-use Rattle.c_checks.specs.Refusals.{least_of}
-use Rattle.c_notes.specs.CallsTold.{told_calls}
+use Rattle.std.specs.Prelude.{length}
+use Rattle.c_runs.specs.Checks.{is_main_means}
+use Rattle.c_runs.specs.Programs.{Function}
+use Rattle.c_item_notes.specs.ItemTellings.{item_notes}
+use Rattle.c_item_notes.specs.Levels.{Judged}
+use Rattle.c_names.specs.Kept.{kept}
 use Rattle.c_reach.specs.declared.summaries.FunctionNotes.{FunctionNotes}
 
-abbrev pub function_notes : Profile → Level → Function → FunctionNotes
-function_notes p l f = record {
+abbrev pub function_notes : Judged → Function → FunctionNotes
+function_notes j f = record {
   at = f.at;
   name = f.name;
   parameters = length f.parameters;
   unread = f.unread;
-  uses = f.names.uses ++ ordinaries (f.name ∷ f.body.links);
-  breach = least_of f.body.breaches;
-  calls = told_calls p l f.body.calls;
-  called = f.body.called;
+  is_main = is_main_means f.inside.tables f.means;
+  body = item_notes j f.body;
+  names = kept f.names;
 }

@@ -2,11 +2,8 @@
 #![tactic(auto)]
 
 mod search;
-mod stack;
 mod summaries;
-mod words;
 
+pub use c_names::{Stack, Word, has_word};
 pub use search::{Reaching, named_functions, reached};
-pub use stack::Stack;
 pub use summaries::FunctionNotes;
-pub use words::{Word, has_word};

@@ -4,11 +4,11 @@ ghost use Rattle.std.specs.Prelude.{◌≡◌, ◌++◌, length, IfOk, OnOk, rev
 ghost use Rattle.std.specs.Option.{option_copied};
 ghost use Rattle.c_reach.specs.Reaching as spec;
 
-use crate::stack::Stack;
 use crate::summaries::FunctionNotes;
 use bit_words::Bytes;
 use c_checks::runs_body;
 use c_lexer::Name;
+use c_names::Stack;
 use c_runs::Profile;
 use c_type_scope::Named;
 use plain_data::Shared;
@@ -88,7 +88,7 @@ fn go_to(function: &Shared<FunctionNotes>, state: &mut Reaching) -> Result<(), A
     if is_found(function.get().at, &state.found) {
         return Ok(());
     }
-    put_on(&mut state.todo, function.get().called.as_slice())?;
+    put_on(&mut state.todo, function.get().body.called.as_slice())?;
     state.found.push(function.clone()?)
 }
 
@@ -152,7 +152,12 @@ pub fn reached(
     step(profile, named, &mut state)?;
     step(profile, named, &mut state)?;
     for function in functions {
-        step_for_each(profile, named, function.get().called.as_slice(), &mut state)?;
+        step_for_each(
+            profile,
+            named,
+            function.get().body.called.as_slice(),
+            &mut state,
+        )?;
     }
     Ok(state.found)
 }

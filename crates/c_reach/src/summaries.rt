@@ -2,26 +2,23 @@
 
 ghost use Rattle.std.specs.Prelude.{◌≡◌};
 
-use crate::words::Word;
+use c_item_notes::ItemNotes;
 use c_lexer::Name;
-use c_notes::CallNote;
-use c_runs::Breach;
+use c_names::Names;
 use c_type_scope::HasName;
-use plain_data::Items;
 
-/// A function definition: the offset of its name's first declaration, how many parameters it has, the `{` of a body that
-/// couldn't be read, the words that it uses, the rule that its body breaks first apart from those of calls, all calls in
-/// it, and the functions that are called where it runs.
+/// A function definition (C99 6.9.1): the offset of its name's first declaration, how many parameters it has, the `{` of a
+/// body that couldn't be read, whether its type is one that `main` may have (C99 5.1.2.2.1p1), what is noted of its body,
+/// and the names that it uses, declares and binds, with its string literals.
 #[derive(Drop)]
 pub struct FunctionNotes {
     pub at: u32,
     pub name: Name,
     pub parameters: usize,
     pub unread: Option<u32>,
-    pub uses: Items<Word>,
-    pub breach: Option<Breach>,
-    pub calls: Items<CallNote>,
-    pub called: Items<Name>,
+    pub is_main: bool,
+    pub body: ItemNotes,
+    pub names: Names,
 }
 
 impl HasName for FunctionNotes {
