@@ -1,0 +1,18 @@
+-- What it is that the core of an expression was found, with what the types say of it as it stands.
+use Rattle.std.specs.Prelude.{◌≡◌}
+use Rattle.c_says.specs.Scopes.{Scope}
+use Rattle.c_says.specs.Typing.{told_of}
+use Rattle.c_means.specs.Parts.{Level, Part}
+use Rattle.c_runs.specs.Notes.{Noted}
+use Rattle.elaborate.specs.Means.{Numbering, IsValueOf}
+use Rattle.core_declarations.specs.declared.hearing.Heard.{Heard}
+
+-- a part, behind which these names are in force
+pub record IsHeardOf (numbering : Numbering) (x : Heard) (p : Part) (t : Scope) : Type 0 where
+  pub told : x.told ≡ told_of p.typed
+  pub value : IsValueOf numbering x.value p
+  pub text : (l : Level) → l.identity ≡ numbering.identity → x.text ≡ p.text l
+  pub after : t ≡ p.typed.after
+
+abbrev pub IsHeard : Numbering → Heard → Noted → Scope → Type 0
+IsHeard numbering x n t = IsHeardOf numbering x n.part t

@@ -1,0 +1,15 @@
+use Rattle.std.proofs.Common.{[], ◌∷◌, ◌++◌, sym, ap, ◌∙◌}
+use Rattle.core_objects.specs.Given.{lasting_setting}
+use Rattle.core_objects.proofs.Quietness.{quiet_more}
+use Rattle.core_objects.proofs.Settling.{set_more}
+use Rattle.core_objects.proofs.quiet.lasting_settings.Goals as goal
+
+pub loop-setting-preserved : goal.loop-setting-preserved
+loop-setting-preserved c =
+    let place = c.args.place in
+    let xs = c.loop-setting.yielded in
+    let x = c.in-Some.setting in (
+      c.in_ok-push.ensures.ok ∙ ap (λ ys. ys ++ lasting_setting place x ∷ []) c.loop-setting.invariant.0
+          ∙ sym (set_more place xs x),
+      quiet_more xs x c.loop-setting.invariant.1 (c.sets_quietly.ensures c.if-not-sets_quietly.false),
+    )
