@@ -1,0 +1,204 @@
+-- What is chosen for a call does what the rule of the call says.
+use Rattle.std.proofs.Common.{◌≡◌, ℕ, ◌*◌, ℤ, Bool, true, false, List, Option, Some, None, refl, ap, sym, ◌∙◌, subst}
+use Rattle.std.specs.Prelude.{option_map}
+use Rattle.c_type_terms.specs.declared.class.Class.{Class}
+use Rattle.c_type_terms.specs.declared.class.Class.TheVariants as class
+use Rattle.c_store.specs.Store.{Store}
+use Rattle.c_means.specs.Parts.{State, Env}
+use Rattle.c_means.specs.Parts as c
+use Rattle.c_means.specs.Values as values
+use Rattle.c_runs.specs.declared.profile.LogFunction.{LogFunction}
+use Rattle.c_runs.specs.declared.profile.LogText.{LogText}
+use Rattle.c_runs.specs.declared.profile.LogText.TheVariants as text_
+use Rattle.c_runs.specs.Calls as calls
+use Rattle.c_runs.specs.Rules.{Rules, LogCall, IdentityCall, BodyCall, LibraryCall, PreludeCall, OutsideCall, Library, Exit, Abort, Malloc, Calloc, Free}
+use Rattle.c_runs.specs.Rules as rules
+use Rattle.core_tree.specs.declared.expr.Callee.{Callee}
+use Rattle.core_tree.specs.declared.expr.Callee.TheVariants as callee
+use Rattle.core_tree.specs.declared.expr.Watched.{Watched}
+use Rattle.core_tree.specs.declared.types.ValueType.{ValueType}
+use Rattle.core_tree.specs.Callees as core
+use Rattle.core_tree.specs.Numbers as numbers
+use Rattle.core_tree.specs.States.{Output, Level}
+use Rattle.elaborate.specs.Callees.{answer_in, answer_of, fill_of, word_types}
+use Rattle.elaborate.specs.Means.{Numbering, Like, IsCallOf, as_done}
+use Rattle.elaborate.proofs.Calls.{body_call_of, rule_call_of}
+use Rattle.elaborate.proofs.Rules.{told_by, is_told, answers_same, heap_same, freed_same, outside_same, log_same}
+use Rattle.core_forms.proofs.KindLaws.{some_same, none_some}
+use Rattle.core_calls.specs.Calling.{answer_by, callee_of, library_in, log_pieces_of}
+use Rattle.core_callees.specs.Known.{Known, rule_in, number_in, ruling_in, bare_in, numbering_in, is_never_null}
+use Rattle.core_callees.specs.Watching.{all_watched}
+use Rattle.core_callees.specs.Choices as spec
+use Rattle.core_callees.proofs.WatchingLaws.{all_seen}
+
+-- ---- the same in other words
+
+pieces_same : (text : LogText) (g : c.Site) → log_pieces_of text g.texts ≡ calls.log_pieces text g
+pieces_same (text_.Format i newline) g = refl
+pieces_same (text_.Text format) g = refl
+
+answer_same : (cl : Class) (never_null : Bool) (g : c.Site) → answer_by cl g.scope.tables g.ctype never_null
+    ≡ answer_in cl never_null g
+answer_same class.Pointer never_null g = refl
+answer_same class.Array never_null g = refl
+answer_same class.Function never_null g = refl
+answer_same class.Void never_null g = refl
+answer_same (class.Integer kind) never_null g = refl
+answer_same class.Floating never_null g = refl
+answer_same (class.Aggregate n) never_null g = refl
+answer_same class.Opaque never_null g = refl
+
+module _ (x : Known) (g : c.Site) (t : ValueType)
+    (same : (z : ℤ) → numbers.converted_to t z ≡ values.converted_to (values.class_in g.ctype) z) where
+  abbrev numbering : Numbering
+  numbering = numbering_in x
+
+  abbrev Calls_ : Callee → Type 0
+  Calls_ y = IsCallOf numbering y g.at t (λ l. g)
+
+  abbrev bare : c.Level → c.Level
+  bare l = bare_in x l.world l.limits
+
+  -- ---- each rule
+
+  -- what is done where the level tells what that of C tells
+  told : (y : Callee) (l : c.Level) (k : Level Output) → Like numbering l k → (env : Env) (vs : List ℤ) (base : ℕ)
+      (s : Store) (o : Output)
+      → core.called k y g.at t env vs base s o ≡ core.called (told_by l k) y g.at t env vs base s o
+  told y l k like env vs base s o = ap (λ k. core.called k y g.at t env vs base s o) (is_told numbering l k like)
+
+  body_is : (n : ℕ) (rule : Rules (Option ℕ)) → rule_in x g ≡ rule → number_in rule ≡ Some n → Calls_ (callee.Body n)
+  body_is n rule is e = body_call_of numbering g.at t (λ l. g) n (λ l. ap number_in is ∙ e) (λ l. refl)
+
+  log_is : (text : LogText) (watched : List Watched) → rule_in x g ≡ LogCall text
+      → all_watched x.place (calls.watched x.watched g) ≡ Some watched
+      → Calls_ (callee.Log (calls.log_pieces text g) (calls.before_format text) (word_types g.types) watched)
+  log_is text watched is shows =
+      let y = callee.Log (calls.log_pieces text g) (calls.before_format text) (word_types g.types) watched in
+      rule_call_of numbering y g.at t (λ l. g) _ (λ l. ap (ruling_in x g) is) (λ k. refl) (λ k. refl)
+      (λ l k like env vs base s o. told y l k like env vs base s o
+      ∙ log_same (bare l) k t g same x.watched text watched env vs base (c.entered s o.count)
+      (λ s. all_seen x.place (bare l) refl env s (calls.watched x.watched g) watched shows))
+
+  -- the other rules: what a callee does, from a state in which a function begins
+  by_rule : (y : Callee) (rule : Rules (Option ℕ))
+      (acts : c.World → c.Limits → Env → List ℤ → ℕ → State → State)
+      → ((k : Level Output) → core.callee_size y k.measures ≡ 0) → ((k : Level Output) → core.callee_room y k.measures ≡ 4)
+      → rule_in x g ≡ rule → ruling_in x g rule ≡ Some (record { room = 4; acts = acts })
+      → ((l : c.Level) (k : Level Output) (env : Env) (vs : List ℤ) (base : ℕ) (s : Store) (o : Output)
+      → core.called (told_by l k) y g.at t env vs base s o
+      ≡ Some (as_done (acts l.world l.limits env vs base (c.entered s o.count))))
+      → Calls_ y
+  by_rule y rule acts size room is ruling runs =
+      rule_call_of numbering y g.at t (λ l. g) (record { room = 4; acts = acts })
+      (λ l. ap (ruling_in x g) is ∙ ruling) size room
+      (λ l k like env vs base s o. told y l k like env vs base s o ∙ runs l k env vs base s o)
+
+  identity_is : (i : ℕ) → rule_in x g ≡ IdentityCall i → Calls_ (callee.Identity i)
+  identity_is i is =
+      by_rule (callee.Identity i) (IdentityCall i) (λ world limits env vs base d. calls.identity_call i g vs d)
+      (λ k. refl) (λ k. refl) is refl
+      (λ l k env vs base s o. ap (λ d. Some d) (answers_same (bare l) k t g same (calls.value_or_zero vs i)
+      (c.entered s o.count)))
+
+  library_acts : Library → c.World → c.Limits → Env → List ℤ → ℕ → State → State
+  library_acts f world limits env vs base d = calls.library_call (bare_in x world limits) f g vs base d
+
+  library_is : (f : Library) → rule_in x g ≡ LibraryCall f → Calls_ (callee_of f)
+  unfolding library_acts
+  library_is Exit is =
+      by_rule callee.Exit (LibraryCall Exit) (library_acts Exit) (λ k. refl) (λ k. refl) is refl
+      (λ l k env vs base s o. refl)
+  library_is Abort is =
+      by_rule callee.Abort (LibraryCall Abort) (library_acts Abort) (λ k. refl) (λ k. refl) is refl
+      (λ l k env vs base s o. refl)
+  library_is Malloc is =
+      by_rule callee.Malloc (LibraryCall Malloc) (library_acts Malloc) (λ k. refl) (λ k. refl) is refl
+      (λ l k env vs base s o. ap (λ d. Some d) (heap_same (bare l) k t g same
+      (calls.as_number (calls.value_or_zero vs 0)) base false (c.entered s o.count)))
+  library_is Calloc is =
+      by_rule callee.Calloc (LibraryCall Calloc) (library_acts Calloc) (λ k. refl) (λ k. refl) is refl
+      (λ l k env vs base s o. ap (λ d. Some d) (heap_same (bare l) k t g same
+      (calls.as_number (calls.value_or_zero vs 0) * calls.as_number (calls.value_or_zero vs 1)) base true
+      (c.entered s o.count)))
+  library_is Free is =
+      by_rule callee.Free (LibraryCall Free) (library_acts Free) (λ k. refl) (λ k. refl) is refl
+      (λ l k env vs base s o. ap (λ d. Some d) (freed_same (bare l) k t g same
+      (calls.as_number (calls.value_or_zero vs 0)) (c.entered s o.count)))
+
+  outside_is : rule_in x g ≡ OutsideCall → Calls_ (callee.Outside (answer_of (is_never_null x g) g)
+      (option_map fill_of (rules.fill_of x.profile g.callee.name)))
+  outside_is is =
+      by_rule (callee.Outside (answer_of (is_never_null x g) g)
+      (option_map fill_of (rules.fill_of x.profile g.callee.name))) OutsideCall
+      (λ world limits env vs base d. calls.outside_call (bare_in x world limits)
+      (rules.fill_of x.profile g.callee.name) (is_never_null x g) g vs base d)
+      (λ k. refl) (λ k. refl) is refl
+      (λ l k env vs base s o. ap (λ d. Some d) (outside_same (bare l) k t g same
+      (rules.fill_of x.profile g.callee.name) (is_never_null x g) vs base (c.entered s o.count)))
+
+  -- ---- the callee of a rule
+
+  abbrev callee_by : Rules (Option ℕ) → Option Callee
+  callee_by (LogCall text) = spec.log_callee x text g
+  callee_by (IdentityCall i) = Some (callee.Identity i)
+  callee_by (BodyCall n) = spec.body_callee n
+  callee_by (LibraryCall f) = Some (callee_of f)
+  callee_by (PreludeCall n) = spec.body_callee n
+  callee_by OutsideCall = Some (spec.outside_callee x g)
+
+  abbrev the_prelude : Option (Option ℕ)
+  the_prelude = x.prelude (rules.callee_taking g) g.callee.name
+
+  prelude_case : (p : Option (Option ℕ)) → spec.by_prelude x g p ≡ callee_by (rules.prelude_or_outside p)
+  prelude_case None = refl
+  prelude_case (Some n) = refl
+
+  library_case : (l : Option Library) (p : Option (Option ℕ))
+      → spec.by_library x g (library_in l) p ≡ callee_by (rules.library_or l p)
+  library_case None p = prelude_case p
+  library_case (Some f) p = refl
+
+  source_case : (b : Option (Option ℕ)) → spec.by_source x g b
+      ≡ callee_by (rules.body_or b (rules.library_of g) the_prelude)
+  source_case None = library_case (rules.library_of g) the_prelude
+  source_case (Some n) = refl
+
+  identity_case : (i : Option ℕ) → spec.by_identity x g i
+      ≡ callee_by (rules.identity_or i (x.source g.callee.name) (rules.library_of g) the_prelude)
+  identity_case None = source_case (x.source g.callee.name)
+  identity_case (Some i) = refl
+
+  log_case : (f : Option LogFunction) → spec.by_log x g f
+      ≡ callee_by (rules.rule_by f (rules.identity_index x.profile g.callee.name) (x.source g.callee.name)
+      (rules.library_of g) the_prelude)
+  log_case None = identity_case (rules.identity_index x.profile g.callee.name)
+  log_case (Some f) = refl
+
+  by_log : (text : LogText) (shown : Option (List Watched)) (y : Callee) → rule_in x g ≡ LogCall text
+      → all_watched x.place (calls.watched x.watched g) ≡ shown → spec.log_with text g shown ≡ Some y → Calls_ y
+  by_log text None y is shows e = absurd (none_some e)
+  by_log text (Some ws) y is shows e =
+      subst Calls_ (ap (λ ps. callee.Log ps (calls.before_format text) (word_types g.types) ws) (sym (pieces_same text g))
+      ∙ some_same (callee.Log (log_pieces_of text g.texts) (calls.before_format text) (word_types g.types) ws) y e)
+      (log_is text ws is shows)
+
+  by_body : (n : Option ℕ) (rule : Rules (Option ℕ)) (y : Callee) → rule_in x g ≡ rule → number_in rule ≡ n
+      → spec.body_callee n ≡ Some y → Calls_ y
+  by_body None rule y is e h = absurd (none_some h)
+  by_body (Some n) rule y is e h = subst Calls_ (some_same (callee.Body n) y h) (body_is n rule is e)
+
+  by_rules : (rule : Rules (Option ℕ)) (y : Callee) → rule_in x g ≡ rule → callee_by rule ≡ Some y → Calls_ y
+  by_rules (LogCall text) y is e = by_log text (all_watched x.place (calls.watched x.watched g)) y is refl e
+  by_rules (IdentityCall i) y is e = subst Calls_ (some_same (callee.Identity i) y e) (identity_is i is)
+  by_rules (BodyCall n) y is e = by_body n (BodyCall n) y is refl e
+  by_rules (LibraryCall f) y is e = subst Calls_ (some_same (callee_of f) y e) (library_is f is)
+  by_rules (PreludeCall n) y is e = by_body n (PreludeCall n) y is refl e
+  by_rules OutsideCall y is e =
+      subst Calls_ (ap (λ a. callee.Outside a (option_map fill_of (rules.fill_of x.profile g.callee.name)))
+      (sym (answer_same (values.class_in g.ctype) (is_never_null x g) g))
+      ∙ some_same (spec.outside_callee x g) y e) (outside_is is)
+
+  pub chosen : (y : Callee) → spec.callee_in x g ≡ Some y → Calls_ y
+  chosen y e = by_rules (rule_in x g) y refl
+      (sym (log_case (rules.log_of x.profile g.callee.name)) ∙ e)

@@ -1,0 +1,4 @@
+pub mod AutomaticLaws
+pub mod WatchingLaws
+pub mod CallLaws
+pub mod Programs

@@ -1,0 +1,81 @@
+-- What the calls of a function depend on, and what they are by that.
+use Rattle.std.specs.Prelude.{ℕ, ◌+◌, Bool, Option, Some, None, List}
+use Rattle.c_says.specs.declared.scope.Entry.{Entry}
+use Rattle.c_says.specs.Scopes.{Name}
+use Rattle.c_means.specs.Parts.{Level, Limits, Site, World, entered}
+use Rattle.c_runs.specs.declared.profile.Profile.{Profile}
+use Rattle.c_runs.specs.Calls.{log_call, log_pieces, pointers_in, identity_call, library_call, outside_call}
+use Rattle.c_runs.specs.Rules.{Taking, Rules, LogCall, IdentityCall, BodyCall, LibraryCall, PreludeCall, OutsideCall}
+use Rattle.c_runs.specs.Rules.{rule_by, log_of, identity_index, fill_of, library_of, callee_taking, is_among}
+use Rattle.elaborate.specs.Means.{Numbering, Ruling}
+
+-- What is known of functions besides their source; the places of what lives throughout the run, by offset; whether a
+-- name has a body in the source, with the number of its core where it has one; the same of a name that is declared
+-- with a type, in the prelude; and the variables that live throughout the run that the function names.
+pub record Known : Type 0 where
+  pub profile : Profile
+  pub place : ℕ → ℕ
+  pub source : Name → Option (Option ℕ)
+  pub prelude : Option Taking → Name → Option (Option ℕ)
+  pub watched : List Entry
+
+-- the rule of a call, where a function with a body is the number of its core
+abbrev pub rule_in : Known → Site → Rules (Option ℕ)
+rule_in x g =
+    let name = g.callee.name in
+    rule_by (log_of x.profile name) (identity_index x.profile name) (x.source name) (library_of g)
+    (x.prelude (callee_taking g) name)
+
+abbrev pub number_in : Rules (Option ℕ) → Option ℕ
+number_in (LogCall text) = None
+number_in (IdentityCall i) = None
+number_in (BodyCall n) = n
+number_in (LibraryCall f) = None
+number_in (PreludeCall n) = n
+number_in OutsideCall = None
+
+abbrev pub is_never_null : Known → Site → Bool
+is_never_null x g = is_among g.callee.name x.profile.never_null
+
+-- where a call by rule runs
+abbrev pub bare_in : Known → World → Limits → Level
+bare_in x world limits = record {
+  world = world;
+  limits = limits;
+  turns = 0;
+  static = x.place;
+  identity = identity_index x.profile;
+  size = λ g. 0;
+  room = λ g. 0;
+  call = λ g env vs base s count. entered s count;
+}
+
+-- what a call by rule does
+abbrev pub ruling_in : Known → Site → Rules (Option ℕ) → Option Ruling
+ruling_in x g (LogCall text) = Some (record {
+  room = 4 + pointers_in (log_pieces text g);
+  acts = λ world limits env vs base d. log_call (bare_in x world limits) x.watched text g env vs base d;
+})
+ruling_in x g (IdentityCall i) = Some (record {
+  room = 4;
+  acts = λ world limits env vs base d. identity_call i g vs d;
+})
+ruling_in x g (BodyCall n) = None
+ruling_in x g (LibraryCall f) = Some (record {
+  room = 4;
+  acts = λ world limits env vs base d. library_call (bare_in x world limits) f g vs base d;
+})
+ruling_in x g (PreludeCall n) = None
+ruling_in x g OutsideCall = Some (record {
+  room = 4;
+  acts = λ world limits env vs base d. outside_call (bare_in x world limits) (fill_of x.profile g.callee.name)
+      (is_never_null x g) g vs base d;
+})
+
+abbrev pub numbering_in : Known → Numbering
+numbering_in x = record {
+  place = x.place;
+  identity = identity_index x.profile;
+  body = λ g. number_in (rule_in x g);
+  rule = λ g. ruling_in x g (rule_in x g);
+}
