@@ -1,0 +1,4 @@
+pub mod InOrder
+pub mod Objects
+pub mod Making
+pub mod Uncalled

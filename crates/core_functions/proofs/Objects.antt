@@ -1,0 +1,106 @@
+-- Parameters are objects in which arguments are stored (C99 6.9.1p9).
+use Rattle.std.proofs.Common.{◌≡◌, ℕ, ◌+◌, ◌<◌, ◌≤◌, ℤ, List, [], ◌∷◌, ◌++◌, length, drop, get_or, Some, refl, sym}
+use Rattle.std.proofs.Common.{ap, ◌∙◌, subst}
+use Rattle.std.proofs.lemmas.List.{drop_all}
+use Rattle.c_store.specs.Store.{write}
+use Rattle.c_type_terms.specs.declared.ctype.CType.{CType}
+use Rattle.c_type_terms.specs.declared.tables.Tables.{Tables}
+use Rattle.c_says.specs.declared.scope.Duration.{Duration}
+use Rattle.c_says.specs.declared.scope.Entry.{Entry}
+use Rattle.c_says.specs.declared.scope.Linkage.{Linkage}
+use Rattle.c_says.specs.declared.scope.Means.{Means}
+use Rattle.c_says.specs.declared.scope.Means.TheVariants as means
+use Rattle.c_says.specs.Declarations.{object_type}
+use Rattle.c_says.specs.Scopes.{Scope}
+use Rattle.c_means.specs.Parts.{State}
+use Rattle.c_means.specs.Values.{class_in, bytes_of}
+use Rattle.c_means.specs.Values as values
+use Rattle.c_runs.specs.Runs.{passes_as}
+use Rattle.core_tree.specs.declared.program.Parameter.{Parameter}
+use Rattle.core_tree.specs.declared.types.ValueType.{ValueType}
+use Rattle.core_tree.specs.Memory.{stored}
+use Rattle.core_tree.specs.Numbers as numbers
+use Rattle.core_tree.specs.States.{with_store}
+use Rattle.elaborate.specs.Means.{as_done, IsParameter, AreParameters, SameType}
+use Rattle.core_forms.specs.Nodes.{stored_in}
+use Rattle.core_forms.proofs.KindLaws.{stored_same}
+use Rattle.core_functions.proofs.InOrder.{grouped, ended, cut}
+
+-- ---- one parameter
+
+stores_same : (tables : Tables) (t : CType) (x : ValueType) → SameType (class_in (Some t)) (bytes_of tables (Some t)) x
+    → (a : ℕ) (z : ℤ) (d : State)
+    → stored x a z (as_done d)
+    ≡ as_done (record d {
+      store = write (bytes_of tables (Some t)) a
+          (values.bytes_of_value (class_in (Some t)) (values.converted_to (class_in (Some t)) z)) d.store;
+    })
+stores_same tables t x h a z d =
+    ap (λ n. with_store (write n a (numbers.bytes_of_value x (numbers.converted_to x z)) d.store) (as_done d)) h.size
+    ∙ ap (λ b. with_store (write (bytes_of tables (Some t)) a b d.store) (as_done d))
+    (h.bytes (numbers.converted_to x z) ∙ ap (values.bytes_of_value (class_in (Some t))) (h.converted z))
+
+meant : (s : Scope) (e : Entry) (m : Means) (t : CType) (x : ValueType) → e.means ≡ m
+    → numbers.size_of x ≡ bytes_of s.tables (object_type m)
+    → ((a : ℕ) (z : ℤ) (d : State) → stored x a z (as_done d) ≡ as_done (passes_as s.tables m a z d))
+    → IsParameter s (record { at = e.at; stored = x }) e
+meant s e m t x is sized passed = record {
+  at = refl;
+  size = sized ∙ ap (λ m. bytes_of s.tables (object_type m)) (sym is);
+  stores = λ a z d. passed a z d ∙ ap (λ m. as_done (passes_as s.tables m a z d)) (sym is);
+}
+
+pub object : (s : Scope) (e : Entry) (t t' : CType) (d : Duration) (l : Linkage) (tables : Tables) (x : ValueType)
+    (p : Parameter) → tables ≡ s.tables → e.means ≡ means.Object t d l → t' ≡ t
+    → Some x ≡ stored_in (class_in (Some t')) (bytes_of tables (Some t')) → p ≡ record { at = e.at; stored = x }
+    → IsParameter s p e
+object s e t t' d l tables x p tabled is c found made =
+    let same = stored_same s.tables (Some t) x
+    (sym (found ∙ ap (λ t. stored_in (class_in (Some t)) (bytes_of tables (Some t))) c
+    ∙ ap (λ ts. stored_in (class_in (Some t)) (bytes_of ts (Some t))) tabled)) in
+    subst (λ p. IsParameter s p e) (sym made)
+    (meant s e (means.Object t d l) t x is same.size (stores_same s.tables t x same))
+
+-- ---- parameters in order
+
+-- those that were made lead to all, once those that are left stand behind them
+abbrev pub Leads : Scope → List Entry → List Entry → List Parameter → Type 0
+Leads s es rest ps = (more : List Parameter) → AreParameters s more rest → AreParameters s (ps ++ more) es
+
+pub begins : (s : Scope) (es : List Entry) (ps : List Parameter) → ps ≡ [] → Leads s es es ps
+begins s es ps is = subst (λ ps. Leads s es es ps) (sym is) (λ more h. h)
+
+pub goes_on : (s : Scope) (es : List Entry) (i : ℕ) (e e' : Entry) (ps qs : List Parameter) (p : Parameter)
+    → i < length es → e ≡ get_or es i e → e' ≡ e → Leads s es (drop i es) ps → IsParameter s p e'
+    → qs ≡ ps ++ p ∷ [] → Leads s es (drop (i + 1) es) qs
+goes_on s es i e e' ps qs p within is c leads h made =
+    subst (λ qs. Leads s es (drop (i + 1) es) qs) (sym made)
+    (λ more k. subst (λ xs. AreParameters s xs es) (grouped ps (p ∷ []) more)
+    (leads (p ∷ more) (subst (λ rest. AreParameters s (p ∷ more) rest) (sym (cut es i e within is))
+    (subst (λ e. IsParameter s p e) c h, k))))
+
+pub ends : (s : Scope) (es : List Entry) (i : ℕ) (ps : List Parameter) → length es ≤ i → Leads s es (drop i es) ps
+    → AreParameters s ps es
+ends s es i ps over leads =
+    subst (λ xs. AreParameters s xs es) (ended ps)
+    (leads [] (subst (λ rest. AreParameters s [] rest) (sym (drop_all i es over)) unit))
+  where
+    unit : AreParameters s [] []
+    unit = tt
+
+-- ---- in the body
+
+-- their types are those in front of it
+pub inside : (s t : Scope) (ps : List Parameter) (es : List Entry) → t.tables ≡ s.tables → AreParameters s ps es
+    → AreParameters t ps es
+inside s t [] [] e h = tt
+inside s t [] (x ∷ es) e h = absurd h
+inside s t (p ∷ ps) [] e h = absurd h
+inside s t (p ∷ ps) (x ∷ es) e h = (
+  record {
+    at = h.0.at;
+    size = h.0.size ∙ ap (λ ts. bytes_of ts (object_type x.means)) (sym e);
+    stores = λ a z d. h.0.stores a z d ∙ ap (λ ts. as_done (passes_as ts x.means a z d)) (sym e);
+  },
+  inside s t ps es e h.1,
+)

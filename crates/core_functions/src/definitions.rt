@@ -1,0 +1,116 @@
+//! Function definitions (C99 6.9.1).
+ghost use Rattle.std.specs.Prelude.{◌≡◌, ◌↔◌, IsTrue, IfOk};
+ghost use Rattle.c_tree.specs.declared.unit.Body.TheVariants as body_;
+ghost use Rattle.c_tree.specs.declared.unit.External.TheVariants as external;
+ghost use Rattle.c_runs.specs.Programs.{outer};
+ghost use Rattle.core_functions.specs.Definitions as spec;
+
+use crate::heads::{Head, entered};
+use c_declarations::function_says;
+use c_lexer::Name;
+use c_tree::{Declarator, Specifier, Stmt};
+use c_type_scope::Scope;
+use code_forms::Content;
+use core_codes::{Body, Context, Parts, content};
+use core_forms::NoCore;
+use core_tree::{Code, Function, LastingSetting};
+use plain_data::{Items, Shared};
+use std::alloc::{AllocError, Global};
+
+/// A function in the core, and what the initializers of the objects in it that live throughout the run set before
+/// `main` is called (C99 6.2.4p3), in order.
+#[derive(Drop)]
+pub struct Definition {
+    pub function: Function,
+    pub settings: Items<LastingSetting>,
+}
+
+/// The name of the function whose body this is in, where it is in one. It fails for want of memory alone.
+fn function_around(scope: &Scope) -> Result<Option<Name>, AllocError>
+    ensures { IfOk result (λ name. name ≡ scope.now.function) }
+{
+    match scope.function() {
+        Some(name) => Ok(Some(name.clone()?)),
+        None => Ok(None),
+    }
+}
+
+fn is_return(code: &Code) -> bool
+    ensures { IsTrue result ↔ spec.IsReturn code.now }
+{
+    match code {
+        Code::Return { .. } => true,
+        _ => false,
+    }
+}
+
+/// Whether the last of these items is a `return`.
+fn ends_in_return(items: &[Shared<Code>]) -> bool
+    ensures { IsTrue result ↔ spec.EndsInReturn items.now }
+{
+    match items.split_last() {
+        Some((last, _)) => is_return(last.get()),
+        None => false,
+    }
+}
+
+/// Whether a value can be missing where a function is used whose block has these items, and which gives a value or not.
+fn may_miss(has_value: bool, items: &[Shared<Code>]) -> bool
+    ensures { IsTrue result ↔ spec.MayMiss has_value items.now }
+{
+    if has_value {
+        !ends_in_return(items)
+    } else {
+        false
+    }
+}
+
+/// The function of a head and of what stands in its body, which is a block.
+fn with_body(head: Head, is_prelude: bool, body: Body) -> Result<Definition, NoCore>
+    ensures { IfOk result (λ x. spec.IsMadeOf head is_prelude body x) }
+{
+    let Body { content, settings } = body;
+    if !content.is_compound {
+        return Err(NoCore::Outside);
+    }
+    let Content { items, .. } = content;
+    let may_miss = may_miss(head.has_value, items.as_slice());
+    let Head {
+        at,
+        name,
+        parameters,
+        ..
+    } = head;
+    let function = Function {
+        at,
+        name,
+        is_prelude,
+        may_miss,
+        parameters,
+        items,
+    };
+    Ok(Definition { function, settings })
+}
+
+/// The core of a function definition (C99 6.9.1), in front of which these names are in force; behind it are those that
+/// it leaves. A body that is no block, a function without a name, and a parameter without a value's type have none.
+pub fn define<P: Parts>(
+    alloc: Global,
+    parts: &P,
+    specifiers: &[Shared<Specifier>],
+    declarator: &Declarator,
+    body: &Stmt,
+    is_prelude: bool,
+    scope: &mut Scope,
+) -> Result<Definition, NoCore>
+    ensures made { IfOk result (λ x. spec.IsDefinitionOf (P.numbering parts.now) x is_prelude (outer (external.Function specifiers.now declarator.now (body_.Read body.now)) scope.old)) }
+    ensures after { IfOk result (λ x. scope.new ≡ (outer (external.Function specifiers.now declarator.now (body_.Read body.now)) scope.old).after) }
+{
+    let around = function_around(scope)?;
+    let said = function_says(alloc, specifiers, declarator, scope)?;
+    let head = entered(alloc, said, scope)?;
+    let inside = content(alloc, parts, head.context(), body, scope)?;
+    scope.leave();
+    scope.set_function(around);
+    with_body(head, is_prelude, inside)
+}
