@@ -1,0 +1,3 @@
+mod ExprNodes
+mod CodeNodes
+mod Levels

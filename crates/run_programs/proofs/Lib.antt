@@ -1,0 +1,5 @@
+mod Levels
+mod Counts
+mod Running
+mod MainCall
+mod Machines
