@@ -1,0 +1,78 @@
+-- The parts together are the core of the source.
+use Rattle.std.proofs.Common.{◌≡◌, ℕ, Bool, true, false, List, [], ◌∷◌, ◌++◌, length, Option, Some, refl, sym, ap, ◌∙◌, subst}
+use Rattle.std.specs.Prelude.{slice_get, cond}
+use Rattle.c_tree.specs.declared.unit.External.{External}
+use Rattle.c_says.specs.Scopes.{Name}
+use Rattle.c_means.specs.Parts as c
+use Rattle.c_runs.specs.declared.profile.Profile.{Profile}
+use Rattle.c_runs.specs.Prelude.{prelude_functions}
+use Rattle.c_runs.specs.Programs.{Function, functions_of, function_named, main'}
+use Rattle.c_runs.specs.Runs as whole
+use Rattle.c_runs.specs.Units.{machine_of}
+use Rattle.core_tree.specs.declared.program.Core.{Core}
+use Rattle.core_tree.specs.declared.program.Function.{Function as CoreFunction}
+use Rattle.core_tree.specs.Programs.{maybe_body, body_of}
+use Rattle.core_programs.specs.Numberings.{IsFunctionOf, AreFunctions, numbering_of}
+use Rattle.core_programs.specs.Programs.{IsCoreOf, IsStartOf, IsMainOf, machine_for}
+use Rattle.core_programs.proofs.Machines.{is_machine}
+use Rattle.core_units.specs.Numbers.{reached_among, position_from}
+use Rattle.core_units.specs.Plans.{program_in, reached_in, numbers_in}
+use Rattle.core_units.specs.Units.{IsUnitCore, IsAssembled}
+use Rattle.core_units.specs.Walked.{IsCoreFunction}
+use Rattle.core_units.proofs.NumberLaws.{Stands, reached_stands, position_stands, same_length, with_more}
+
+module _ (xs : List External) (profile : Profile) (p : Core) (h : IsAssembled xs profile p) where
+  abbrev m : whole.Machine
+  m = program_in xs profile
+
+  -- where a function stands is its core
+  function_at : (is_prelude : Bool) (f : Function) (n : ℕ)
+      → Stands (IsCoreFunction m (numbers_in xs profile) is_prelude) f (h.all.sources ++ h.all.library) n
+      → IsFunctionOf m (numbers_in xs profile) p f n is_prelude
+  function_at is_prelude f n x = record {
+    function = x.core;
+    found = subst (λ fs. slice_get fs n ≡ Some x.core) (sym h.all.all) x.found;
+    kind = x.is.kind;
+    item = x.is.item;
+    is_body = x.is.is_body;
+  }
+
+  of_source : (name : Name) (f : Function) (n : ℕ) → function_named (functions_of m.program) name ≡ Some f
+      → (numbers_in xs profile).source name ≡ Some n → IsFunctionOf m (numbers_in xs profile) p f n false
+  of_source name f n named numbered =
+      function_at false f n (with_more (IsCoreFunction m (numbers_in xs profile) false) f h.all.sources h.all.library n
+      (reached_stands (IsCoreFunction m (numbers_in xs profile) false) (reached_in xs profile) (functions_of m.program)
+      name [] h.all.sources f n h.all.walk.cores named numbered))
+
+  of_prelude : (name : Name) (f : Function) (n : ℕ) → function_named prelude_functions name ≡ Some f
+      → (numbers_in xs profile).prelude name ≡ Some n → IsFunctionOf m (numbers_in xs profile) p f n true
+  of_prelude name f n named numbered =
+      function_at true f n (position_stands (IsCoreFunction m (numbers_in xs profile) true) prelude_functions name
+      h.all.sources h.all.library f n h.all.prelude named
+      (subst (λ k. position_from k prelude_functions name ≡ Some n)
+      (same_length (IsCoreFunction m (numbers_in xs profile) false)
+      (reached_among (reached_in xs profile) (functions_of m.program)) h.all.sources h.all.walk.cores) numbered))
+
+  pub are_functions : AreFunctions m (numbers_in xs profile) p
+  are_functions = record { source = of_source; prelude = of_prelude }
+
+  -- `main`
+  main_at : IsFunctionOf m (numbers_in xs profile) p h.function p.main false
+  main_at = of_source main' h.function p.main h.is_main h.number
+
+  pub is_unit_core : IsUnitCore xs profile p
+  is_unit_core world limits depth = record {
+    functions = is_machine m (numbers_in xs profile) p are_functions world limits depth;
+    start = record { met = h.met; objects = h.objects; settings = h.all.walk.set.each; are_set = h.all.walk.set.all; set = h.all.walk.set.set };
+    places = h.places;
+    main = record {
+      function = h.function;
+      is_main = h.is_main;
+      body = body_of main_at.function;
+      found = ap maybe_body main_at.found;
+      item = main_at.item;
+      is_body = main_at.is_body;
+      turns = ap (λ b. cond b limits.texts limits.turns) main_at.kind;
+      arguments = h.arguments;
+    };
+  }

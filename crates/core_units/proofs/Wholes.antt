@@ -1,0 +1,118 @@
+-- From what was noted of the source to its core.
+use Rattle.std.proofs.Common.{◌≡◌, ℕ, ◌+◌, Bool, List, [], ◌∷◌, ◌++◌, map, reverse, length, nat_eq, Option, Some, None}
+use Rattle.std.proofs.Common.{refl, sym, ap, ap₂, ◌∙◌, subst, arith}
+use Rattle.std.specs.Prelude.{option_map}
+use Rattle.c_tree.specs.declared.unit.External.{External}
+use Rattle.c_runs.specs.declared.profile.Profile.{Profile}
+use Rattle.c_runs.specs.Programs.{Function, functions_of, function_named, main', program_of}
+use Rattle.c_runs.specs.Runs as whole
+use Rattle.c_item_notes.specs.Levels.{Judged}
+use Rattle.c_program_notes.specs.declared.whole.Overview.{Overview}
+use Rattle.c_program_notes.specs.Wholes.{machine, needs_in, overview}
+use Rattle.core_callees.specs.declared.numbered.FunctionNumber.{FunctionNumber}
+use Rattle.core_callees.specs.Numbered as table
+use Rattle.core_programs.specs.Programs.{HasArguments, met_by, objects_of}
+use Rattle.core_tree.specs.declared.program.Core.{Core}
+use Rattle.core_units.specs.declared.plan.Plan.{Plan}
+use Rattle.core_units.specs.declared.unit.Parts.{Parts}
+use Rattle.core_units.specs.declared.walk.Around.{Around}
+use Rattle.core_units.specs.Numbers.{reached_among, number_from}
+use Rattle.core_units.specs.Overviews as spec
+use Rattle.core_units.specs.Plans.{program_in, reached_in, numbers_in}
+use Rattle.core_units.specs.Surroundings.{IsAround, plan_in, outers_of, numbered_from, externals_of, profile_of}
+use Rattle.core_units.specs.Units.{IsUnitCore, AreParts, AreAll}
+use Rattle.core_units.proofs.Assembly.{is_unit_core}
+use Rattle.core_units.proofs.OverviewLaws.{plans_same, numbers_same, count_same, main_same, has_arguments}
+use Rattle.core_units.proofs.Tables.{table_tells}
+
+abbrev told : List External → Profile → Judged
+told xs profile = record { externals = xs; profile = profile }
+
+-- the plans are those of the external declarations
+pub plans_given : (x : Around) (v : Overview) (ps : List Plan) → v ≡ overview (told (externals_of x) (profile_of x))
+    → ps ≡ map (spec.plan_noted v) v.program.outers → ps ≡ map (plan_in x) (outers_of x)
+unfolding overview
+plans_given x v ps is planned =
+    planned ∙ ap (λ (v : Overview). map (spec.plan_noted v) v.program.outers) is
+    ∙ plans_same (told (externals_of x) (profile_of x)) (program_of (externals_of x)) (outers_of x)
+
+zero_plus : (n : ℕ) → 0 + n ≡ n
+zero_plus n = omega arith
+
+module _ (xs : List External) (profile : Profile) (v : Overview) (is : v ≡ overview (told xs profile)) where
+  abbrev found : List Function
+  found = reached_in xs profile
+
+  abbrev all : List Function
+  all = functions_of (program_in xs profile).program
+
+  -- the tables tell of the program
+  pub around_is : (fs entries : List FunctionNumber) (n : ℕ) → fs ≡ spec.numbers_noted v.reached 0 v.program.outers
+      → entries ≡ reverse fs → n ≡ spec.count_noted v.reached 0 v.program.outers → IsAround xs profile v.places entries n
+  unfolding overview
+  around_is fs entries n numbered turned counted = record {
+    places = ap whole.place_in (sym (ap (λ (v : Overview). v.places) is));
+    functions_are = λ name.
+        ap (λ fs. table.numbers_in fs name)
+        (turned ∙ ap reverse (numbered ∙ ap (λ (v : Overview). spec.numbers_noted v.reached 0 v.program.outers) is
+        ∙ numbers_same (told xs profile) found (program_in xs profile).program.outers 0))
+        ∙ table_tells found 0 all name;
+    first_is = counted ∙ ap (λ (v : Overview). spec.count_noted v.reached 0 v.program.outers) is
+        ∙ count_same (told xs profile) found (program_in xs profile).program.outers 0
+        ∙ zero_plus (length (reached_among found all));
+  }
+
+  -- the number of `main`
+  numbered_main : (o : Option Function) (n : ℕ) (k : Option ℕ) → option_map (λ h. k) o ≡ Some (Some n) → k ≡ Some n
+  numbered_main None n k h = cc
+  numbered_main (Some f) n k h = cc
+
+  pub main_number : (entries : List FunctionNumber) (first n : ℕ) → IsAround xs profile v.places entries first
+      → table.numbers_in entries main' ≡ Some (Some n) → (numbers_in xs profile).source main' ≡ Some n
+  main_number entries first n h named =
+      numbered_main (function_named all main') n ((numbers_in xs profile).source main')
+      (sym (h.functions_are main') ∙ named)
+
+  -- `main` and its parameters
+  record Main (b : Bool) : Type 0 where
+    pub function : Function
+    pub is_main : whole.main_of (program_in xs profile) ≡ Some function
+    pub arguments : HasArguments b function.parameters
+
+  main_in : (o : Option Function) (b : Bool) → o ≡ function_named all main'
+      → option_map (λ f. nat_eq (length f.parameters) 2) o ≡ Some b → Main b
+  main_in None b named h = cc
+  main_in (Some f) b named h = record {
+    function = f;
+    is_main = sym named;
+    arguments = subst (λ c. HasArguments c f.parameters) (some_same _ b h) (has_arguments f.parameters);
+  }
+    where
+      some_same : (x y : Bool) → Some x ≡ Some y → x ≡ y
+      some_same x y e = cc
+
+  main_told : (b : Bool) → spec.main_takes_two v.program.outers ≡ Some b → Main b
+  unfolding overview
+  main_told b h =
+      main_in (function_named all main') b refl
+      (sym (ap (λ (v : Overview). spec.main_takes_two v.program.outers) is
+      ∙ main_same (told xs profile) (program_in xs profile).program.outers) ∙ h)
+
+  pub unit_core : (p : Core) (x : Parts) → AreParts xs profile x → p.functions ≡ x.functions → p.settings ≡ x.settings
+      → p.main ≡ x.main → p.places ≡ length v.places → spec.main_takes_two v.program.outers ≡ Some p.has_arguments
+      → p.met ≡ met_by (machine (told xs profile)) (needs_in (told xs profile))
+      → p.objects ≡ objects_of (machine (told xs profile)) (needs_in (told xs profile)) → IsUnitCore xs profile p
+  unfolding overview machine needs_in
+  unit_core p x parts functions settings main places two met objects =
+      let taken = main_told p.has_arguments two in
+      is_unit_core xs profile p (record {
+        all = subst (λ fs. AreAll xs profile fs p.settings) (sym functions)
+            (subst (λ ss. AreAll xs profile x.functions ss) (sym settings) parts.all);
+        met = met;
+        objects = objects;
+        places = places ∙ ap (λ (v : Overview). length v.places) is;
+        function = taken.function;
+        is_main = taken.is_main;
+        number = parts.number ∙ ap (λ n. Some n) (sym main);
+        arguments = taken.arguments;
+      })

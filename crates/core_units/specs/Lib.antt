@@ -1,0 +1,6 @@
+pub mod Numbers
+pub mod Plans
+pub mod Walked
+pub mod Units
+pub mod Surroundings
+pub mod Overviews

@@ -1,0 +1,36 @@
+-- A source with its profile: its program, which functions are reached and which words are needed, how its functions are
+-- numbered; and what is to be made of an external declaration.
+use Rattle.std.specs.Prelude.{Bool, cond, List, Option, Some, None}
+use Rattle.c_tree.specs.declared.unit.External.{External}
+use Rattle.c_says.specs.declared.scope.Entry.{Entry}
+use Rattle.c_runs.specs.declared.profile.Profile.{Profile}
+use Rattle.c_runs.specs.Names.{Word}
+use Rattle.c_runs.specs.Prelude.{prelude_functions}
+use Rattle.c_runs.specs.Programs.{Function, Outer, Program, program_of, has_function, reached, needed_words, is_needed}
+use Rattle.c_runs.specs.Programs.{watched_lasting}
+use Rattle.c_runs.specs.Runs as whole
+use Rattle.c_runs.specs.Units.{machine_of, silent, least}
+use Rattle.core_programs.specs.Numberings.{Numbers}
+use Rattle.core_units.specs.declared.plan.Plan.{Plan}
+use Rattle.core_units.specs.Numbers.{numbers_of}
+
+-- no core depends on the world and the bounds
+abbrev pub program_in : List External → Profile → whole.Machine
+program_in xs profile = machine_of xs profile silent least 1
+
+abbrev pub reached_in : List External → Profile → List Function
+reached_in xs profile = reached profile (program_of xs)
+
+abbrev pub words_in : List External → Profile → List Word
+words_in xs profile = needed_words profile (program_of xs)
+
+abbrev pub numbers_in : List External → Profile → Numbers
+numbers_in xs profile = numbers_of (reached_in xs profile) (program_of xs) prelude_functions
+
+-- the variables that live throughout the run that a function names, where it is reached
+abbrev pub watched_if : Program → List Function → Option Function → Option (List Entry)
+watched_if p found None = None
+watched_if p found (Some f) = cond (has_function f found) (Some (watched_lasting p.scope f)) None
+
+abbrev pub plan_of : Program → List Word → List Function → Outer → Plan
+plan_of p ws found x = record { is_needed = is_needed ws x; watched = watched_if p found x.function }

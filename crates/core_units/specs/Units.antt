@@ -1,0 +1,49 @@
+-- What it is to be the core of a whole source: in every world and bounds it is the core of the program.
+use Rattle.std.specs.Prelude.{◌≡◌, ℕ, Bool, true, List, ◌++◌, length, Some}
+use Rattle.c_tree.specs.declared.unit.External.{External}
+use Rattle.c_means.specs.Parts as c
+use Rattle.c_runs.specs.declared.profile.Profile.{Profile}
+use Rattle.c_runs.specs.Prelude.{prelude_functions}
+use Rattle.c_runs.specs.Programs.{Function, needs_of, main'}
+use Rattle.c_runs.specs.Runs as whole
+use Rattle.c_runs.specs.Units.{machine_of}
+use Rattle.core_tree.specs.declared.program.Core.{Core}
+use Rattle.core_tree.specs.declared.program.Function.{Function as CoreFunction}
+use Rattle.core_tree.specs.declared.program.LastingSetting.{LastingSetting}
+use Rattle.core_programs.specs.Numberings.{numbering_of}
+use Rattle.core_programs.specs.Programs.{HasArguments, IsCoreOf, met_by, objects_of}
+use Rattle.core_units.specs.declared.unit.Parts.{Parts}
+use Rattle.core_units.specs.Plans.{program_in, reached_in, words_in, numbers_in}
+use Rattle.core_units.specs.Walked.{AllAre, IsCoreFunction, IsWalkOf}
+
+abbrev pub IsUnitCore : List External → Profile → Core → Type 0
+IsUnitCore xs profile p =
+    (world : c.World) (limits : c.Limits) (depth : ℕ)
+    → IsCoreOf (numbering_of (program_in xs profile) (numbers_in xs profile)) (machine_of xs profile world limits depth) p
+
+-- its functions, those of the prelude behind the ones that are reached, and what is set
+pub record AreAll (xs : List External) (profile : Profile) (functions : List CoreFunction)
+    (settings : List LastingSetting) : Type 0 where
+  pub sources : List CoreFunction
+  pub library : List CoreFunction
+  pub all : functions ≡ sources ++ library
+  pub walk : IsWalkOf (program_in xs profile) (numbers_in xs profile) (words_in xs profile) (reached_in xs profile)
+      (program_in xs profile).program.outers sources settings
+  pub prelude : AllAre (IsCoreFunction (program_in xs profile) (numbers_in xs profile) true) prelude_functions library
+
+-- The core of a source in parts: its functions, what is met, made and set before `main` is called, and the number of
+-- `main`.
+pub record IsAssembled (xs : List External) (profile : Profile) (p : Core) : Type 0 where
+  pub all : AreAll xs profile p.functions p.settings
+  pub met : p.met ≡ met_by (program_in xs profile) (needs_of profile (program_in xs profile).program)
+  pub objects : p.objects ≡ objects_of (program_in xs profile) (needs_of profile (program_in xs profile).program)
+  pub places : p.places ≡ length (whole.offsets_of (program_in xs profile).program)
+  pub function : Function
+  pub is_main : whole.main_of (program_in xs profile) ≡ Some function
+  pub number : (numbers_in xs profile).source main' ≡ Some p.main
+  pub arguments : HasArguments p.has_arguments function.parameters
+
+-- the functions, what is set, and the number of `main`
+pub record AreParts (xs : List External) (profile : Profile) (x : Parts) : Type 0 where
+  pub all : AreAll xs profile x.functions x.settings
+  pub number : (numbers_in xs profile).source main' ≡ Some x.main
