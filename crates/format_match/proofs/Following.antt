@@ -23,12 +23,12 @@ use Rattle.format_match.specs.Splits.{begins, meets, meet_all, is_between, IsMet
 use Rattle.format_match.specs.Ways.{met_ends, Describes, here, upto, ends_of, piece_marks, followed, AddsAfter, Moves, Follows, kept_ends, kept_here, next_literal}
 use Rattle.format_match.specs.declared.split.Constraint.{Constraint}
 use Rattle.format_match.specs.declared.split.Split.{Split}
-use Rattle.format_match.proofs.Ends.{both, met_ends-append, upto_only, upto_below}
+use Rattle.format_match.proofs.MetEnds.{both, met_ends-append, upto_only, upto_below}
 use Rattle.format_match.proofs.Printing.{same_bytes}
 
 -- ---- texts along a log
 
-begins_append : (s t rest : List ℕ) → begins (s ++ t) rest ≡ (begins s rest && begins t (drop (length s) rest))
+pub begins_append : (s t rest : List ℕ) → begins (s ++ t) rest ≡ (begins s rest && begins t (drop (length s) rest))
 begins_append [] t rest = refl
 begins_append (x ∷ s) t [] = refl
 begins_append (x ∷ s) t (y ∷ rest) = by (eqb x y) _ _ _ (begins_append s t rest)
@@ -109,21 +109,21 @@ meet_append (c ∷ cs) ds (x ∷ xs) ys h = by (meets c x) _ _ _ (meet_append cs
     by true p q r e = e
     by false p q r e = refl
 
-record IsParted (K L : List Kind) (args : List Arg) : Type 0 where
-  front : List Arg
-  back : List Arg
-  is : args ≡ front ++ back
-  front_have : HaveKinds K front
-  back_have : HaveKinds L back
+pub record IsParted (K L : List Kind) (args : List Arg) : Type 0 where
+  pub front : List Arg
+  pub back : List Arg
+  pub is : args ≡ front ++ back
+  pub front_have : HaveKinds K front
+  pub back_have : HaveKinds L back
 
-parted : (K L : List Kind) (args : List Arg) → HaveKinds (K ++ L) args → IsParted K L args
+pub parted : (K L : List Kind) (args : List Arg) → HaveKinds (K ++ L) args → IsParted K L args
 parted [] L args h = record { front = []; back = args; is = refl; front_have = tt; back_have = h }
 parted (k ∷ K) L [] h = absurd h
 parted (k ∷ K) L (a ∷ args) h =
     let r = parted K L args h.1 in
     record { front = a ∷ r.front; back = r.back; is = ap (λ x. a ∷ x) r.is; front_have = (h.0, r.front_have); back_have = r.back_have }
 
-have_append : (K L : List Kind) (xs ys : List Arg) → HaveKinds K xs → HaveKinds L ys → HaveKinds (K ++ L) (xs ++ ys)
+pub have_append : (K L : List Kind) (xs ys : List Arg) → HaveKinds K xs → HaveKinds L ys → HaveKinds (K ++ L) (xs ++ ys)
 have_append [] L [] ys h k = k
 have_append [] L (x ∷ xs) ys h k = absurd h
 have_append (k ∷ K) L [] ys h g = absurd h
@@ -197,7 +197,7 @@ module _ (next : List ℕ) (piece : Piece) (log : List ℕ) (K : List Kind) (M :
 
 -- ---- pieces
 
-kinds_append : (ps : List Piece) (p : Piece) → kinds (ps ++ p ∷ []) ≡ kinds ps ++ piece_kinds p
+pub kinds_append : (ps : List Piece) (p : Piece) → kinds (ps ++ p ∷ []) ≡ kinds ps ++ piece_kinds p
 kinds_append [] p = append-nil (piece_kinds p)
 kinds_append (q ∷ ps) p = ap (λ k. piece_kinds q ++ k) (kinds_append ps p) ∙ sym (append_assoc (piece_kinds q) (kinds ps) (piece_kinds p))
 
@@ -243,7 +243,7 @@ piece_front (Converted c) K xs ys h = size_front c.flags c.form c.width c.precis
 have_length : (K L : List Kind) (xs : List Arg) → HaveKinds (K ++ L) xs → length K ≤ length xs
 have_length K L xs h = omega (arith, HaveKinds-length (K ++ L) xs h, length-append K L)
 
-text_append : (ps : List Piece) (p : Piece) (xs ys : List Arg) → HaveKinds (kinds ps) xs → text_of (ps ++ p ∷ []) (xs ++ ys) ≡ text_of ps xs ++ piece_text p ys
+pub text_append : (ps : List Piece) (p : Piece) (xs ys : List Arg) → HaveKinds (kinds ps) xs → text_of (ps ++ p ∷ []) (xs ++ ys) ≡ text_of ps xs ++ piece_text p ys
 text_append [] p [] ys h = append-nil (piece_text p ys)
 text_append [] p (x ∷ xs) ys h = absurd h
 text_append (q ∷ ps) p xs ys h =

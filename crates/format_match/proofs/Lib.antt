@@ -1,5 +1,5 @@
 pub mod Numbers
-pub mod Ends
+pub mod MetEnds
 pub mod Fields
 pub mod Printing
 pub mod Padding
@@ -7,3 +7,5 @@ pub mod StarLaws
 pub mod Following
 pub mod Exact
 pub mod Lines
+pub mod Reached
+pub mod PlainTexts

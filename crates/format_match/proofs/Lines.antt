@@ -1,5 +1,5 @@
 -- Texts of numbers and pointers hold no newline.
-use Rattle.std.proofs.Common.{◌≡◌, ◌≢◌, ℕ, zero, suc, ◌+◌, ◌-◌, ◌<◌, ◌≤◌, Bool, true, false, not, cond, ◌&&◌, ◌||◌, eqb, ltb, ℤ, pos, negsuc, List, [], ◌∷◌, ◌++◌, length, get_or, map, replicate, refl, sym, ap, ◌∙◌, arith}
+use Rattle.std.proofs.Common.{◌≡◌, ◌≢◌, ℕ, zero, suc, ◌-◌, ◌≤◌, Bool, true, false, not, cond, ◌&&◌, ◌||◌, eqb, ℤ, pos, negsuc, List, [], ◌∷◌, ◌++◌, length, get_or, map, replicate, refl, ◌∙◌, arith}
 use Rattle.std.specs.List.{list_any}
 use Rattle.std.specs.Int.{is_negative}
 use Rattle.std.specs.Int.RustNames.{unsigned_abs}
@@ -7,7 +7,7 @@ use Rattle.std.specs.Int.Digits.{digits_of}
 use Rattle.std.proofs.lemmas.Bool.{or_from, or_parts, and_parts, ne_eqb, eqb-true, eqb-false}
 use Rattle.std.proofs.lemmas.Bool.Decides.{nat_tests}
 use Rattle.bit_words.specs.Words.{word, signed}
-use Rattle.printf_text.specs.Texts.{Parts, formed, in_field, parts, fills_zeros, number_of, signed_parts, unsigned_parts, pointer_parts, plain, base, digit, digits, digits_wanted, sign_of, prefix_of, marked, with_zero}
+use Rattle.printf_text.specs.Texts.{Parts, formed, in_field, fills_zeros, number_of, signed_parts, unsigned_parts, pointer_parts, base, digit, digits, digits_wanted, sign_of, prefix_of, marked, with_zero}
 use Rattle.printf_text.specs.declared.piece.Arg.{Arg}
 use Rattle.printf_text.specs.declared.piece.Arg.TheVariants as arg
 use Rattle.printf_text.specs.declared.piece.Flags.{Flags}

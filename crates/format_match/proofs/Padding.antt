@@ -23,7 +23,7 @@ use Rattle.format_match.specs.Splits.{begins, meets}
 use Rattle.format_match.specs.declared.split.Constraint.TheVariants.{Text}
 use Rattle.format_match.specs.Reading.{pads_right}
 use Rattle.format_match.specs.Ways.{here, upto, formed_end, fill_byte, unpadded, text_ended, padded_end}
-use Rattle.format_match.proofs.Ends.{both, upto_none, upto_one}
+use Rattle.format_match.proofs.MetEnds.{both, upto_none, upto_one}
 use Rattle.format_match.proofs.Printing.{same_bytes, here_false}
 
 -- a text is at least as long as its field

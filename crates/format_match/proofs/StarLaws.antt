@@ -29,7 +29,7 @@ use Rattle.format_match.specs.Splits.{star_marks}
 use Rattle.format_match.specs.Ways.{Adds, IsHeld, IsInt, is_star, range_kinds, range_marks, ranged, here, upto, precision_end, no_precision_end, precision_at_end, short_precisions_end, long_precisions_end, star_precision_end, thin_widths_end, exact_width_end, star_width_end, width_kinds}
 use Rattle.format_match.specs.declared.split.Split.{Split}
 use Rattle.format_match.specs.declared.way.Range.{Range}
-use Rattle.format_match.proofs.Ends.{both, upto_one, upto_none, upto_below}
+use Rattle.format_match.proofs.MetEnds.{both, upto_one, upto_none, upto_below}
 use Rattle.format_match.proofs.Printing.{same_bytes}
 
 -- ---- values of `int`

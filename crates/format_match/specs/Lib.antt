@@ -1,3 +1,4 @@
 pub mod Splits
 pub mod Ways
 pub mod Reading
+pub mod Spelled

@@ -11,7 +11,7 @@ use Rattle.printf_text.specs.declared.piece.Arg.{Arg}
 use Rattle.printf_text.specs.declared.piece.Arg.TheVariants as arg
 use Rattle.printf_text.specs.declared.piece.Flags.{Flags}
 use Rattle.printf_text.specs.declared.piece.Form.{Form}
-use Rattle.printf_text.specs.declared.piece.Form.TheVariants.{Signed, Unsigned, Char, Text, Pointer}
+use Rattle.printf_text.specs.declared.piece.Form.TheVariants.{Char, Text, Pointer}
 use Rattle.printf_text.specs.declared.piece.Size.{Size}
 use Rattle.printf_text.specs.declared.piece.Size.TheVariants.{Omitted, Written, Star}
 use Rattle.printf_text.specs.declared.piece.Conversion.{Conversion}

@@ -2,6 +2,7 @@
 //! arguments (C99 7.19.6.1 read backwards).
 #![tactic(auto)]
 
+mod ending;
 mod forms;
 mod matching;
 mod reading;
@@ -9,6 +10,7 @@ mod split;
 mod stars;
 mod way;
 
+pub use ending::ends;
 pub use matching::{MatchFault, splits};
 pub use split::{Constraint, Constraints, Split, SplitList};
 

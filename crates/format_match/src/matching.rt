@@ -22,7 +22,7 @@ pub enum MatchFault {
 }
 
 /// Whether the second text begins with the first.
-fn begins(text: &[u8], bytes: &[u8]) -> bool
+pub fn begins(text: &[u8], bytes: &[u8]) -> bool
     ensures { result ≡ begins text.now bytes.now }
 {
     if bytes.len() < text.len() {
@@ -90,7 +90,7 @@ fn push_length(
 }
 
 /// The splits of one conversion from a position on that the next bytes follow.
-fn conversion_splits(
+pub fn conversion_splits(
     alloc: Global,
     c: &Conversion,
     next: &[u8],

@@ -4,7 +4,7 @@ use Rattle.printf_text.specs.declared.piece.Arg.TheVariants as arg
 use Rattle.format_match.specs.Ways.{formed_end}
 use Rattle.format_match.specs.declared.split.Constraint.TheVariants.{Equal}
 use Rattle.format_match.proofs.Printing.{word_added, word_left_out, word_met, word_kind}
-use Rattle.format_match.proofs.Ends.{sized_split, sized_none, Adds-one, Adds-nothing}
+use Rattle.format_match.proofs.MetEnds.{sized_split, sized_none, Adds-one, Adds-nothing}
 use Rattle.format_match.proofs.forms.push_integer.Goals as goal
 
 pub prints-requires : goal.prints-requires

@@ -4,7 +4,7 @@ use Rattle.printf_text.specs.declared.piece.Arg.TheVariants as arg
 use Rattle.format_match.specs.Ways.{null_end}
 use Rattle.format_match.specs.declared.split.Constraint.TheVariants.{Null}
 use Rattle.format_match.proofs.Printing.{null_prints, null_not}
-use Rattle.format_match.proofs.Ends.{sized_split, sized_none, Adds-one, Adds-nothing}
+use Rattle.format_match.proofs.MetEnds.{sized_split, sized_none, Adds-one, Adds-nothing}
 use Rattle.format_match.proofs.forms.push_null.Goals as goal
 
 pub returns-in_ok-push_way : goal.returns-in_ok-push_way

@@ -3,7 +3,7 @@ use Rattle.printf_text.specs.declared.kind.Kind.TheVariants as kind
 use Rattle.printf_text.specs.declared.piece.Form.TheVariants as form
 use Rattle.format_match.specs.Ways.{formed_end, null_end, shown_end}
 use Rattle.format_match.proofs.Printing.{null_or_shown}
-use Rattle.format_match.proofs.Ends.{sized_same, sized_append, Adds-same, Adds-both}
+use Rattle.format_match.proofs.MetEnds.{sized_same, sized_append, Adds-same, Adds-both}
 use Rattle.format_match.proofs.forms.push_pointers.Goals as goal
 
 pub returns : goal.returns

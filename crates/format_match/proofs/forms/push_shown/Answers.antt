@@ -5,7 +5,7 @@ use Rattle.printf_text.specs.declared.piece.Arg.TheVariants as arg
 use Rattle.format_match.specs.Ways.{shown_end}
 use Rattle.format_match.specs.declared.split.Constraint.TheVariants.{Shown}
 use Rattle.format_match.proofs.Printing.{shown_prints, shown_not, shown_zero}
-use Rattle.format_match.proofs.Ends.{sized_split, sized_none, Adds-one, Adds-nothing}
+use Rattle.format_match.proofs.MetEnds.{sized_split, sized_none, Adds-one, Adds-nothing}
 use Rattle.format_match.proofs.forms.push_shown.Goals as goal
 
 pub returns-then-word-eq0 : goal.returns-then-word-eq0

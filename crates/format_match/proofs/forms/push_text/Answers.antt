@@ -5,7 +5,7 @@ use Rattle.printf_text.specs.declared.piece.Arg.TheVariants as arg
 use Rattle.format_match.specs.Ways.{padded_end, unpadded, text_ended}
 use Rattle.format_match.specs.declared.split.Constraint.TheVariants.{Text}
 use Rattle.format_match.proofs.Padding.{padded_prints, padded_cut, padded_not, unpadded_all, text_kind, text_met, ended_plain}
-use Rattle.format_match.proofs.Ends.{sized_split, sized_none, Adds-one, Adds-nothing}
+use Rattle.format_match.proofs.MetEnds.{sized_split, sized_none, Adds-one, Adds-nothing}
 use Rattle.format_match.proofs.forms.push_text.Goals as goal
 
 pub returns-in_default : goal.returns-in_default

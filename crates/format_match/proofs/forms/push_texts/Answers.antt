@@ -3,7 +3,7 @@ use Rattle.printf_text.specs.declared.kind.Kind.TheVariants as kind
 use Rattle.printf_text.specs.declared.piece.Form.TheVariants as form
 use Rattle.format_match.specs.Ways.{padded_end, formed_end, upto}
 use Rattle.format_match.proofs.Padding.{all_paddings}
-use Rattle.format_match.proofs.Ends.{sized_upto_none, sized_upto_more, sized_same, Adds-same}
+use Rattle.format_match.proofs.MetEnds.{sized_upto_none, sized_upto_more, sized_same, Adds-same}
 use Rattle.format_match.proofs.forms.push_texts.Goals as goal
 
 pub paddings-init : goal.paddings-init

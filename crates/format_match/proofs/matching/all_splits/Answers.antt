@@ -1,9 +1,9 @@
-use Rattle.std.proofs.Common.{◌≡◌, ◌∙◌, ◌+◌, ◌++◌, ◌∷◌, [], List, ℕ, take, drop, length, get_or, sym, ap, subst, arith}
+use Rattle.std.proofs.Common.{◌≡◌, ◌∙◌, ◌+◌, ◌++◌, ◌∷◌, [], take, drop, sym, ap, subst, arith}
 use Rattle.std.proofs.lemmas.List.{take_more, take_all}
 use Rattle.printf_text.specs.Texts.{kinds, text_of}
 use Rattle.format_match.specs.Splits.{marks}
 use Rattle.format_match.specs.Ways.{Describes, ends_of, kept_ends, next_literal}
-use Rattle.format_match.proofs.Ends.{Describes-same}
+use Rattle.format_match.proofs.MetEnds.{Describes-same}
 use Rattle.format_match.proofs.Following.{Describes-piece, splits_within, kept_all, next_at, next_past}
 use Rattle.format_match.proofs.matching.all_splits.Goals as goal
 

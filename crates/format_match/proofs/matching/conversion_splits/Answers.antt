@@ -1,9 +1,9 @@
-use Rattle.std.proofs.Common.{◌≡◌, ◌+◌, ◌≤◌, ◌∙◌, List, ℕ, ℤ, negsuc, pos, true, take, drop, length, refl, ap, sym, subst, arith}
+use Rattle.std.proofs.Common.{◌≡◌, ◌+◌, ◌≤◌, ◌∙◌, List, negsuc, pos, true, take, drop, length, ap, subst, arith}
 use Rattle.printf_text.specs.Texts.{conversion_text, size_of, size_kinds, first}
 use Rattle.printf_text.specs.declared.piece.Arg.{Arg}
 use Rattle.format_match.specs.Splits.{begins}
 use Rattle.format_match.specs.Ways.{upto, here, kept_here}
-use Rattle.format_match.proofs.Ends.{Describes-grown, Describes-same, upto_more}
+use Rattle.format_match.proofs.MetEnds.{Describes-grown, Describes-same, upto_more}
 use Rattle.format_match.proofs.Following.{upto_kept}
 use Rattle.format_match.proofs.matching.conversion_splits.Goals as goal
 

@@ -1,8 +1,8 @@
-use Rattle.std.proofs.Common.{◌≡◌, ◌∙◌, ◌+◌, false, true, List, ℕ, [], take, drop, ap, sym, cond}
+use Rattle.std.proofs.Common.{◌∙◌, ◌+◌, [], take, ap, sym, cond}
 use Rattle.printf_text.specs.Texts.{conversion_text}
 use Rattle.format_match.specs.Splits.{begins}
 use Rattle.format_match.specs.Ways.{here}
-use Rattle.format_match.proofs.Ends.{Adds-nothing}
+use Rattle.format_match.proofs.MetEnds.{Adds-nothing}
 use Rattle.format_match.proofs.matching.push_length.Goals as goal
 
 pub returns-then-not-begins : goal.returns-then-not-begins

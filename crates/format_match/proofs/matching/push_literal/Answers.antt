@@ -1,4 +1,4 @@
-use Rattle.std.proofs.Common.{◌≡◌, ◌≤◌, ◌∙◌, ◌+◌, ◌++◌, List, ℕ, true, false, length, drop, ap, sym, subst}
+use Rattle.std.proofs.Common.{◌≡◌, ◌≤◌, ◌∙◌, ◌+◌, true, length, drop, ap, sym, subst}
 use Rattle.format_match.specs.Splits.{begins}
 use Rattle.format_match.specs.Ways.{Moves}
 use Rattle.format_match.proofs.Following.{literal_none, literal_moves, literal_fits}

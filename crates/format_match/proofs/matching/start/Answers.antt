@@ -1,4 +1,4 @@
-use Rattle.std.proofs.Common.{◌≡◌, ◌∙◌, ◌++◌, ◌∷◌, [], List, true, false, ap, sym, subst}
+use Rattle.std.proofs.Common.{◌∙◌, ◌++◌, ◌∷◌, [], ap, sym, subst}
 use Rattle.format_match.specs.Splits.{begins}
 use Rattle.format_match.specs.Ways.{Describes, kept_ends, ends_of}
 use Rattle.format_match.proofs.Following.{start_none, start_one}

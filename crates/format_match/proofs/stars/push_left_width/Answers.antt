@@ -1,5 +1,5 @@
 use Rattle.std.proofs.Common.{arith}
-use Rattle.format_match.proofs.Ends.{Adds-nothing}
+use Rattle.format_match.proofs.MetEnds.{Adds-nothing}
 use Rattle.format_match.proofs.StarLaws.{left_past}
 use Rattle.format_match.proofs.stars.push_left_width.Goals as goal
 

@@ -2,7 +2,7 @@ use Rattle.std.proofs.Common.{◌≡◌, ◌∙◌, rules, w64, to_z, of_z, arit
 use Rattle.printf_text.specs.Texts.{form_kind}
 use Rattle.printf_text.specs.declared.kind.Kind.TheVariants as kind
 use Rattle.format_match.specs.Ways.{precision_at_end}
-use Rattle.format_match.proofs.Ends.{Adds-nothing, ranged_none}
+use Rattle.format_match.proofs.MetEnds.{Adds-nothing, ranged_none}
 use Rattle.format_match.proofs.StarLaws.{held_exact, int_pos, precision_added, precision_past}
 use Rattle.format_match.proofs.stars.push_precision.Goals as goal
 

@@ -1,5 +1,5 @@
 use Rattle.std.proofs.Common.{arith}
-use Rattle.format_match.proofs.Ends.{Adds-nothing}
+use Rattle.format_match.proofs.MetEnds.{Adds-nothing}
 use Rattle.format_match.proofs.StarLaws.{right_past}
 use Rattle.format_match.proofs.stars.push_right_width.Goals as goal
 

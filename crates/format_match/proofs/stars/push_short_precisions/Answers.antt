@@ -2,7 +2,7 @@ use Rattle.std.proofs.Common.{refl, arith, [], ◌∷◌, ◌+◌, ◌++◌, ◌
 use Rattle.printf_text.specs.Texts.{form_kind}
 use Rattle.printf_text.specs.declared.kind.Kind.TheVariants as kind
 use Rattle.format_match.specs.Ways.{short_precisions_end, precision_at_end, ranged}
-use Rattle.format_match.proofs.Ends.{Adds-nothing, Adds-both, Adds-same, ranged_none, ranged_append, ranged_same, upto_more}
+use Rattle.format_match.proofs.MetEnds.{Adds-nothing, Adds-both, Adds-same, ranged_none, ranged_append, ranged_same, upto_more}
 use Rattle.format_match.proofs.stars.push_short_precisions.Goals as goal
 
 pub precisions-init : goal.precisions-init

@@ -2,7 +2,7 @@ use Rattle.std.proofs.Common.{[], ◌∷◌, ◌+◌, ◌++◌, ◌∙◌, lengt
 use Rattle.printf_text.specs.Texts.{form_kind}
 use Rattle.printf_text.specs.declared.kind.Kind.TheVariants as kind
 use Rattle.format_match.specs.Ways.{no_precision_end, short_precisions_end, long_precisions_end, star_precision_end, ranged}
-use Rattle.format_match.proofs.Ends.{Adds-both, Adds-same, ranged_append, ranged_same}
+use Rattle.format_match.proofs.MetEnds.{Adds-both, Adds-same, ranged_append, ranged_same}
 use Rattle.format_match.proofs.StarLaws.{star_precisions}
 use Rattle.format_match.proofs.stars.push_star_precisions.Goals as goal
 

@@ -1,6 +1,6 @@
 use Rattle.std.proofs.Common.{sym, ◌∙◌, length, ◌≡◌}
 use Rattle.std.proofs.lemmas.Bool.{eqb-true, eqb-false}
-use Rattle.format_match.proofs.Ends.{Adds-both, Adds-same}
+use Rattle.format_match.proofs.MetEnds.{Adds-both, Adds-same}
 use Rattle.format_match.proofs.StarLaws.{star_widths, star_widths_empty, positive_length}
 use Rattle.format_match.proofs.stars.push_star_widths.Goals as goal
 

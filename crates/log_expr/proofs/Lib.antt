@@ -1,0 +1,10 @@
+pub mod TableLaws
+pub mod Outcomes
+pub mod ValueForms
+pub mod LogTexts
+pub mod Enough
+pub mod CallForms
+pub mod Growing
+pub mod ValueWalks
+pub mod TrailLaws
+pub mod ExprWalks

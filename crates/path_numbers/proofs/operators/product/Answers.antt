@@ -1,0 +1,8 @@
+use Rattle.path_states.specs.States.{number_in}
+use Rattle.path_numbers.proofs.Operated.{producing}
+use Rattle.path_numbers.proofs.operators.product.Goals as goal
+
+pub returns : goal.returns
+returns c =
+    producing c.args.bank.now c.operands.new.bank c.fitting.new.bank c.args.word c.in_ok-words.words c.in_ok-product.product
+    (λ v. number_in v c.args.left) (λ v. number_in v c.args.right) c.in_ok-words.ensures c.in_ok-product.ensures

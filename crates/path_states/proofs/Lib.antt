@@ -1,0 +1,4 @@
+pub mod Growth
+pub mod Paths
+pub mod Chosen
+pub mod Joined

@@ -1,0 +1,128 @@
+-- What states made of terms say of runs along a log.
+use Rattle.std.specs.Prelude.{◌≡◌, ◌+◌, ◌≤◌, ◌<◌, ◌^◌, ℕ, ℤ, List, [], ◌∷◌, cond, Option, Some, None}
+use Rattle.bit_words.specs.declared.run.Event.{Event}
+use Rattle.bit_words.specs.declared.run.Happening.{Happening}
+use Rattle.bit_words.specs.declared.run.Happening.TheVariants as happening
+use Rattle.c_store.specs.declared.object.Object.{Object}
+use Rattle.c_store.specs.Store.{Store}
+use Rattle.core_tree.specs.Numbers.{value_of_word}
+use Rattle.core_tree.specs.States.{Done}
+use Rattle.term_bank.specs.declared.sort.Sort.TheVariants.{Truth, Word, Memory}
+use Rattle.term_bank.specs.declared.sort.Node.{Node}
+use Rattle.term_bank.specs.declared.shape.Shape.{Shape}
+use Rattle.term_bank.specs.Terms.{IsTerm}
+use Rattle.term_bank.specs.Values.{Environment, Values}
+use Rattle.path_states.specs.declared.state.Number.{Number}
+use Rattle.path_states.specs.declared.state.Noted.{Noted}
+use Rattle.path_states.specs.declared.state.Noted.TheVariants as noted
+use Rattle.path_states.specs.declared.state.PathEvent.{PathEvent}
+use Rattle.path_states.specs.declared.state.State.{State}
+
+-- ---- what nodes say, by their values
+
+-- the number that a word is in its type
+abbrev pub number_in : Values → Number → ℤ
+number_in v x = value_of_word x.word (v x.node.index).word
+
+abbrev pub numbers_in : Values → List Number → List ℤ
+numbers_in v [] = []
+numbers_in v (x ∷ xs) = number_in v x ∷ numbers_in v xs
+
+abbrev pub maybe_number : Values → Option Number → Option ℤ
+maybe_number v None = None
+maybe_number v (Some x) = Some (number_in v x)
+
+-- numbers put on a stack, one behind the other
+abbrev pub onto : Values → List ℤ → List Number → List ℤ
+onto v zs [] = zs
+onto v zs (x ∷ xs) = onto v (number_in v x ∷ zs) xs
+
+abbrev pub happening_in : Values → Noted → Happening
+happening_in v (noted.Branch at side) = happening.Branch at side
+happening_in v (noted.Call at) = happening.Call at
+happening_in v (noted.Print at length seen) = happening.Print at length (numbers_in v seen)
+
+abbrev pub event_in : Values → PathEvent → Event
+event_in v x = record { what = happening_in v x.what; printed = x.position }
+
+-- the events whose truth is true
+abbrev pub seen : Values → List PathEvent → List Event
+seen v [] = []
+seen v (x ∷ xs) = cond (v x.truth.index).truth (event_in v x ∷ seen v xs) (seen v xs)
+
+-- ---- runs
+
+-- A run along a log that is inside an expression: the operands that wait, the last one on top, and the state.
+pub record Held : Type 0 where
+  pub operands : List ℤ
+  pub done : Done ℕ
+
+abbrev pub done_in : Values → State → Done ℕ
+done_in v s = record {
+  kind = s.kind;
+  value = maybe_number v s.value;
+  store = (v s.memory.index).store;
+  events = seen v s.events;
+  out = s.position;
+}
+
+-- what a state says of a run
+abbrev pub run_in : Values → State → Held
+run_in v s = record { operands = onto v [] s.operands; done = done_in v s }
+
+-- what the states with a true guard say
+abbrev pub standing : Values → List State → List Held
+standing v [] = []
+standing v (s ∷ ss) = cond (v s.guard.index).truth (run_in v s ∷ standing v ss) (standing v ss)
+
+-- ---- what states are made of
+
+pub record IsNumber (b : List Shape) (x : Number) : Type 0 where
+  pub term : IsTerm b (Word x.word.width) x.node
+
+abbrev pub AreNumbers : List Shape → List Number → Type 0
+AreNumbers b [] = Unit {0}
+AreNumbers b (x ∷ xs) = IsNumber b x × AreNumbers b xs
+
+abbrev pub IsMaybeNumber : List Shape → Option Number → Type 0
+IsMaybeNumber b None = Unit {0}
+IsMaybeNumber b (Some x) = IsNumber b x
+
+abbrev pub IsNoted : List Shape → Noted → Type 0
+IsNoted b (noted.Branch at side) = Unit {0}
+IsNoted b (noted.Call at) = Unit {0}
+IsNoted b (noted.Print at length seen) = AreNumbers b seen
+
+pub record IsEvent (b : List Shape) (x : PathEvent) : Type 0 where
+  pub what : IsNoted b x.what
+  pub truth : IsTerm b Truth x.truth
+
+abbrev pub AreEvents : List Shape → List PathEvent → Type 0
+AreEvents b [] = Unit {0}
+AreEvents b (x ∷ xs) = IsEvent b x × AreEvents b xs
+
+-- the state's nodes stand in the bank, each under its sort
+pub record IsState (b : List Shape) (s : State) : Type 0 where
+  pub guard : IsTerm b Truth s.guard
+  pub memory : IsTerm b Memory s.memory
+  pub value : IsMaybeNumber b s.value
+  pub events : AreEvents b s.events
+  pub operands : AreNumbers b s.operands
+
+abbrev pub AreStates : List Shape → List State → Type 0
+AreStates b [] = Unit {0}
+AreStates b (s ∷ ss) = IsState b s × AreStates b ss
+
+-- ---- of which environments and runs is spoken
+
+-- so many places from the base on have numbers below 2^32, as object numbers have
+pub record IsRoomy (room : ℕ) (e : Environment) : Type 0 where
+  pub places : e.base + room ≤ 2 ^ 32
+
+-- each live object has fewer than 2^32 bytes, so that none reaches into the next one's addresses
+pub record IsSized (s : Store) : Type 0 where
+  pub sizes : (p : ℕ) (o : Object) → s.objects p ≡ Some o → o.size < 2 ^ 32
+
+abbrev pub AllSized : Option Held → Type 0
+AllSized None = Unit {0}
+AllSized (Some h) = IsSized h.done.store

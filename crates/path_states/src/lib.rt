@@ -1,0 +1,12 @@
+//! Symbolic states: runs of the core along a log in all worlds at once, as guarded states whose parts are terms.
+#![tactic(auto)]
+
+mod guards;
+mod joining;
+mod kinds;
+mod state;
+
+pub use guards::{Sides, halve};
+pub use joining::join;
+pub use kinds::copy_kind;
+pub use state::{Noted, Number, PathEvent, State, Walked, alone, settled};

@@ -1,0 +1,5 @@
+pub mod Operands
+pub mod Exits
+pub mod Leaves
+pub mod Memories
+pub mod Branches
