@@ -1,0 +1,6 @@
+pub mod OperatorLemmas
+pub mod SignalLemmas
+pub mod WalkLemmas
+pub mod FormulaLemmas
+pub mod DecodeLemmas
+pub mod ReadLemmas

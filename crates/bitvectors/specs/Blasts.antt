@@ -1,0 +1,100 @@
+-- A formula for the values of roots.
+use Rattle.std.specs.Prelude.{◌≡◌, ◌&&◌, ℕ, true, List, [], ◌∷◌, length}
+use Rattle.bit_words.specs.Worlds.{WorldTables, value_at}
+use Rattle.cnf_core.specs.Literal.{Literal}
+use Rattle.cnf_core.specs.Truth.{Valuation, formula_holds}
+use Rattle.gates.specs.declared.bit.Bit.{Bit}
+use Rattle.gates.specs.Nets.{Net, bit_holds}
+use Rattle.word_gates.specs.Spelling.{spelled}
+use Rattle.input_tables.specs.declared.row.Row.{Row}
+use Rattle.input_tables.specs.declared.table.Table.{Table}
+use Rattle.input_tables.specs.Rows.{AreAlike, Member, all_hold}
+use Rattle.input_tables.specs.Tables.{rows_of}
+use Rattle.term_bank.specs.declared.sort.Node.{Node}
+use Rattle.term_bank.specs.declared.shape.Shape.{Shape}
+use Rattle.term_bank.specs.Shapes.{Each}
+use Rattle.term_bank.specs.Values.{Environment, Values, Models}
+use Rattle.flat_reads.specs.Flats.{IsHonest}
+use Rattle.bitvectors.specs.declared.inputs.Inputs.{Inputs}
+use Rattle.bitvectors.specs.declared.blasting.Blasted.{Blasted}
+use Rattle.bitvectors.specs.Amounts.{Signals, amount, bits_at}
+use Rattle.bitvectors.specs.Signals.{AreOf, Extends, IsSignalled}
+
+-- ---- the walk
+
+abbrev pub words_of : Signals → List Node → List (List Bit)
+words_of signals [] = []
+words_of signals (r ∷ rs) = bits_at signals r.index ∷ words_of signals rs
+
+-- each root has bits
+pub record Walked (shapes : List Shape) (roots : List Node) (old new : Net) (before after : Inputs) (signals : Signals) : Type 0 where
+  pub steps : Extends old new before after
+  pub rooted : Each (λ r. IsSignalled shapes new after signals r.index) roots
+
+-- ---- conditions
+
+-- the new clauses hold where the old ones do and the bit is true
+pub record Asserts (old new : List (List Literal)) (bit : Bit) : Type 0 where
+  pub is : (v : Valuation) → formula_holds v new ≡ (formula_holds v old && bit_holds v bit)
+
+pub record AssertsAll (old new : List (List Literal)) (bits : List Bit) : Type 0 where
+  pub is : (v : Valuation) → formula_holds v new ≡ (formula_holds v old && all_hold v bits)
+
+-- ---- the theorem
+
+-- each root's bits spell its value
+abbrev pub HaveValues : Valuation → Values → List Node → List (List Bit) → Type 0
+HaveValues v values [] [] = Unit {0}
+HaveValues v values [] (w ∷ ws) = ⊥
+HaveValues v values (r ∷ rs) [] = ⊥
+HaveValues v values (r ∷ rs) (w ∷ ws) = (spelled v w ≡ amount r.sort (values r.index)) × HaveValues v values rs ws
+
+-- a model in which each root's bits spell its value
+pub record HasModel (values : Values) (roots : List Node) (blasted : Blasted) : Type 0 where
+  pub model : Valuation
+  pub holds : formula_holds model blasted.formula ≡ true
+  pub are : HaveValues model values roots blasted.roots
+
+-- rows with one key have one value
+abbrev pub AllAlike : Valuation → List Row → Type 0
+AllAlike v rows = (x y : Row) → Member x rows → Member y rows → AreAlike v x y
+
+-- keys have 64 bits, and values n
+pub record HasWidths (n : ℕ) (row : Row) : Type 0 where
+  pub key : length row.key ≡ 64
+  pub value : length row.value ≡ n
+
+pub record HasWidth (n : ℕ) (table : Table) : Type 0 where
+  pub bits : table.bits ≡ n
+  pub rows : (row : Row) → Member row (rows_of table) → HasWidths n row
+
+-- Every environment has a model in which each root's bits spell its value. In each model the inputs are those of a
+-- world, and in whatever honest environment they are the inputs, the roots have the values that their bits spell.
+pub record IsBlasted (shapes : List Shape) (roots : List Node) (blasted : Blasted) : Type 0 where
+  pub models : (e : Environment) (values : Values) → IsHonest e → Models shapes e values → HasModel values roots blasted
+  pub values : (v : Valuation) (e : Environment) (values : Values) → formula_holds v blasted.formula ≡ true → AreOf v blasted.inputs e → IsHonest e → Models shapes e values → HaveValues v values roots blasted.roots
+  pub words : HasWidth 64 blasted.inputs.words
+  pub bytes : HasWidth 8 blasted.inputs.bytes
+  pub words_alike : (v : Valuation) → formula_holds v blasted.formula ≡ true → AllAlike v (rows_of blasted.inputs.words)
+  pub bytes_alike : (v : Valuation) → formula_holds v blasted.formula ≡ true → AllAlike v (rows_of blasted.inputs.bytes)
+
+-- ---- decoding
+
+-- the environment's words and initial bytes are the world's
+pub record IsOfWorld (world : WorldTables) (e : Environment) : Type 0 where
+  pub words : (place : ℕ) → e.words place ≡ value_at world.words place
+  pub bytes : (address : ℕ) → e.bytes address ≡ value_at world.bytes address
+  pub honest : IsHonest e
+
+-- on the world the roots have the values that their bits spell
+pub record Shows (shapes : List Shape) (roots : List Node) (blasted : Blasted) (v : Valuation) (world : WorldTables) : Type 0 where
+  pub are : (e : Environment) (values : Values) → IsOfWorld world e → Models shapes e values → HaveValues v values roots blasted.roots
+
+-- what a table gives at a row's key is the row's value
+pub record IsAt (v : Valuation) (table : List (ℕ × ℕ)) (row : Row) : Type 0 where
+  pub is : value_at table (spelled v row.key) ≡ spelled v row.value
+
+-- Rows were set: each has its value, and what had its own before has it still, where rows with one key have one value.
+pub record SetsRows (v : Valuation) (old new : List (ℕ × ℕ)) (rows : List Row) : Type 0 where
+  pub set : AllAlike v rows → (x : Row) → Member x rows → IsAt v new x
+  pub kept : (x : Row) → IsAt v old x → ((y : Row) → Member y rows → AreAlike v x y) → IsAt v new x

@@ -1,0 +1,5 @@
+pub mod Amounts
+pub mod Signals
+pub mod Leaves
+pub mod Blasts
+pub mod Reads

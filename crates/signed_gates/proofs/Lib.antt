@@ -1,0 +1,3 @@
+pub mod HalfLemmas
+pub mod WidthLemmas
+pub mod NetLemmas
