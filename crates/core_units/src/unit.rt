@@ -8,14 +8,12 @@ ghost use Rattle.core_units.specs.Units.{IsUnitCore, AreParts};
 use crate::plan::{Numbering, main_takes_two, numbered, plans_of};
 use crate::walk::{Around, Made, make_each};
 use c_item_notes::Source;
-use c_program_notes::{Overview, Preparation, prepare, read_source};
-use c_runs::Profile;
-use c_tree::External;
+use c_program_notes::{Overview, Preparation, prepare};
 use core_callees::{number_named, numbered_functions};
 use core_forms::NoCore;
 use core_library::prelude_functions;
 use core_tree::{Core, Function, LastingSetting};
-use plain_data::{Items, Shared};
+use plain_data::Items;
 use std::alloc::Global;
 
 /// The functions of a source in the core, those of the prelude behind its own; what is set before `main` is called; and
@@ -66,8 +64,9 @@ fn all_parts(alloc: Global, source: &Source<'_>, overview: &Overview) -> Result<
     })
 }
 
-/// The core of a source that was read.
-fn core_in(alloc: Global, source: &Source<'_>, overview: &Overview) -> Result<Core, NoCore>
+/// The core of a whole source that was read: in every world and bounds it has the program's run, room and size. It fails
+/// for want of memory, and where a part has no core: a source that breaks a rule may have none.
+pub fn core_of(alloc: Global, source: &Source<'_>, overview: &Overview) -> Result<Core, NoCore>
     requires { overview.now ≡ overview_in (judged source.now) }
     ensures { IfOk result (λ p. IsUnitCore source.now.externals.now source.now.profile.now p) }
 {
@@ -89,19 +88,4 @@ fn core_in(alloc: Global, source: &Source<'_>, overview: &Overview) -> Result<Co
         main,
         has_arguments,
     })
-}
-
-/// The core of a whole source, of the external declarations in order, with what is known of functions besides: in every
-/// world and bounds it has the program's run, room and size. It fails for want of memory, and where a part has no core: a
-/// source that breaks a rule may have none.
-pub fn core_of(
-    alloc: Global,
-    externals: &[Shared<External>],
-    profile: &Profile,
-) -> Result<Core, NoCore>
-    ensures { IfOk result (λ p. IsUnitCore externals.now profile.now p) }
-{
-    let source = Source { externals, profile };
-    let overview = read_source(alloc, &source)?;
-    core_in(alloc, &source, &overview)
 }

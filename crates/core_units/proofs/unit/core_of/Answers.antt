@@ -1,6 +1,6 @@
 use Rattle.std.proofs.Common.{◌∙◌, refl, sym}
 use Rattle.core_units.proofs.Wholes.{unit_core}
-use Rattle.core_units.proofs.unit.core_in.Goals as goal
+use Rattle.core_units.proofs.unit.core_of.Goals as goal
 
 pub returns : goal.returns
 returns c =

@@ -1,0 +1,18 @@
+-- What a core is to its source.
+use Rattle.std.specs.Prelude.{◌≡◌, List, Some}
+use Rattle.bit_words.specs.declared.bounds.Bounds.{Bounds}
+use Rattle.bit_words.specs.Worlds.{WorldTables}
+use Rattle.c_tree.specs.declared.unit.External.{External}
+use Rattle.c_runs.specs.declared.profile.Profile.{Profile}
+use Rattle.c_runs.specs.Units.{limits_of, silent, source_room, source_run, source_size, world_of}
+use Rattle.core_tree.specs.declared.program.Core.{Core}
+use Rattle.core_tree.specs.Programs.{machine, room_of, run_of, unrolled_size}
+use Rattle.core_tree.specs.States.{plain}
+
+-- In every world and bounds it has the source's run: what it prints, what happens, and how it ends. It takes as many
+-- places, and unrolls to as many nodes.
+pub record HasItsRuns (xs : List External) (profile : Profile) (p : Core) : Type 0 where
+  pub run : (w : WorldTables) (b : Bounds)
+      → run_of p (world_of w) (limits_of b) b.depth ≡ Some (source_run xs profile w b)
+  pub room : (b : Bounds) → room_of (machine plain p silent (limits_of b) b.depth) ≡ source_room xs profile b
+  pub size : (b : Bounds) → unrolled_size (machine plain p silent (limits_of b) b.depth) ≡ source_size xs profile b

@@ -1,0 +1,8 @@
+//! What a run shows along a stripped log: whether it fits, which facts hold on it, and what its prints saw. None of it
+//! takes memory.
+#![tactic(auto)]
+
+mod facts;
+mod tests_of;
+
+pub use facts::{fits, holds, value_is};
