@@ -1,47 +1,80 @@
 -- Causes of refusals over several gets.
-use Rattle.std.proofs.Common.{◌≡◌, ◌≤◌, ◌+◌, ◌∙◌, ℕ, List, Ok, Err, min, arith, subst, sym, ap, refl}
-use Rattle.sl_io.specs.ShelfStates.{ShelfState, CountsOn}
-use Rattle.first_runs.specs.declared.tree.Unit.{Unit as UnitType}
-use Rattle.command.specs.Sources.{IsUnit}
-use Rattle.command.specs.Words.{Names}
+use Rattle.std.proofs.Common.{◌≡◌, ◌≤◌, ◌+◌, ◌∙◌, ℕ, List, Option, Ok, Err, min, arith, subst, sym, ap, refl}
+use Rattle.config_text.specs.declared.config.Config.{Config as ConfigType}
+use Rattle.sl_io.specs.ShelfStates.{Files, ShelfState, CountsOn}
 use Rattle.sl_io.specs.Gets.{Gets}
 use Rattle.sl_io.specs.declared.faults.GetFault.{GetFault}
 use Rattle.sl_io.specs.declared.faults.GetFault.TheVariants as get
-use Rattle.command.specs.Inputs.{IsTooLong, name_of, limit_of}
-use Rattle.command.specs.Causes.{IsRead, Reaches, Cause}
-use Rattle.command.specs.Answers.{GetCause, Fetches, Forms}
+use Rattle.command.specs.Words.{Asked}
+use Rattle.command.specs.Inputs.{Failed, IsTooLong, name_of, limit_of}
+use Rattle.command.specs.Causes.{BreaksRules, Cause, HasBadWorld, HasManyLines, IsConfigured, IsFaulty, IsServed, IsTextOf, IsTooLarge}
+use Rattle.command.specs.Causes.{IsUnserved, Reaches}
+use Rattle.command.specs.Stages.{Configures, Fetches, GetCause, GetsLog, Parses, ReadsWorldFile}
+use Rattle.command.specs.declared.request.Command.{Command}
 use Rattle.command.specs.declared.refusal.InputFile.{InputFile}
-use Rattle.command.specs.declared.refusal.InputFile.TheVariants.{Source, Log}
+use Rattle.command.specs.declared.refusal.InputFile.TheVariants.{Source, Log, World}
 use Rattle.command.specs.declared.refusal.Refusal.{Refusal}
-use Rattle.command.specs.declared.refusal.Refusal.TheVariants.{BadSource, NotYetRead, Fault, TooLong, Memory}
+use Rattle.command.specs.declared.refusal.Refusal.TheVariants.{BadConfig, BadSource, NoMain, Broken, NotYetRead, TooManyLines, TooLarge, BadWorld, Fault, TooLong, Memory}
 
 -- a count that rose in the later part of a call rose in the call
 rose_in_all : (n most a b c : ℕ) → a ≤ b → min (b + n) most ≤ c → min (a + n) most ≤ c
 rose_in_all n most a b c on rose = omega arith
 
 -- so did the counts of a get that met too long a file
-IsTooLong-in_all : (names : Names) (file : InputFile) (before mid after : ShelfState) → CountsOn before mid → mid.files ≡ before.files
-    → IsTooLong names file mid after → IsTooLong names file before after
-IsTooLong-in_all names file before mid after counts files long = record {
+long_later : (asked : Asked) (file : InputFile) (before mid after : ShelfState) → CountsOn before mid
+    → mid.files ≡ before.files → IsTooLong asked file mid after → IsTooLong asked file before after
+long_later asked file before mid after counts files long = record {
   taken = rose_in_all _ _ _ _ _ counts.taken long.taken;
   counted = rose_in_all _ _ _ _ _ (counts.long_reads _ _) long.counted;
   longer = λ told is. long.longer told (files ∙ is);
 }
 
--- why the log isn't got, once the source was read
-pub Cause-from_log : (names : Names) (before mid after : ShelfState) (unit : UnitType) (refusal : Refusal) → CountsOn before mid → mid.files ≡ before.files
-    → IsRead names before.files unit → GetCause names Log mid after refusal → Cause names before after refusal
-Cause-from_log names before mid after unit (BadSource fault spot) counts files read cause = absurd cause
-Cause-from_log names before mid after unit NotYetRead counts files read cause = absurd cause
-Cause-from_log names before mid after unit Fault counts files read cause = (Log, ((unit, read), rose_in_all _ _ _ _ _ (counts.get_faults _) cause))
-Cause-from_log names before mid after unit (TooLong file) counts files read cause =
-    subst (λ (f : InputFile). Reaches names f before.files × IsTooLong names f before after) (sym cause.0) ((unit, read), IsTooLong-in_all _ _ _ _ _ counts files cause.1)
-Cause-from_log names before mid after unit Memory counts files read cause = tt
+-- the cause of a later part of a call is that of the call
+pub cause_later : (asked : Asked) (before mid after : ShelfState) (refusal : Refusal) → CountsOn before mid
+    → mid.files ≡ before.files → Cause asked mid after refusal → Cause asked before after refusal
+cause_later asked before mid after (BadConfig fault) counts files h =
+    subst (λ (fs : Option Files). IsTextOf asked fs (Err fault)) files h
+cause_later asked before mid after (BadSource fault spot) counts files h =
+    subst (λ (fs : Option Files). IsFaulty asked fs fault spot) files h
+cause_later asked before mid after NoMain counts files h =
+    subst (λ (fs : Option Files). BreaksRules asked fs NoMain) files h
+cause_later asked before mid after (Broken rule spot) counts files h =
+    subst (λ (fs : Option Files). BreaksRules asked fs (Broken rule spot)) files h
+cause_later asked before mid after NotYetRead counts files h =
+    subst (λ (fs : Option Files). IsUnserved asked fs) files h
+cause_later asked before mid after (TooManyLines count) counts files h =
+    subst (λ (fs : Option Files). HasManyLines asked fs count) files h
+cause_later asked before mid after TooLarge counts files h =
+    subst (λ (fs : Option Files). IsTooLarge asked fs) files h
+cause_later asked before mid after (BadWorld line) counts files h =
+    subst (λ (fs : Option Files). HasBadWorld asked fs line) files h
+cause_later asked before mid after Fault counts files h =
+    (h.0, (subst (λ (fs : Option Files). Reaches asked h.0 fs) files h.1.0, rose_in_all _ _ _ _ _ (counts.get_faults _) h.1.1))
+cause_later asked before mid after (TooLong file) counts files h =
+    (subst (λ (fs : Option Files). Reaches asked file fs) files h.0, long_later asked file before mid after counts files h.1)
+cause_later asked before mid after Memory counts files h = tt
+
+-- why a file isn't got that was to be got
+pub cause_of_get : (asked : Asked) (file : InputFile) (before after : ShelfState) (refusal : Refusal)
+    → Reaches asked file before.files → GetCause asked file before after refusal → Cause asked before after refusal
+cause_of_get asked file before after Fault reaches h = (file, (reaches, h))
+cause_of_get asked file before after (TooLong other) reaches h =
+    subst (λ (f : InputFile). Reaches asked f before.files × IsTooLong asked f before after) (sym h.0) (reaches, h.1)
+cause_of_get asked file before after Memory reaches h = tt
+cause_of_get asked file before after (BadConfig fault) reaches h = absurd h
+cause_of_get asked file before after (BadSource fault spot) reaches h = absurd h
+cause_of_get asked file before after NoMain reaches h = absurd h
+cause_of_get asked file before after (Broken rule spot) reaches h = absurd h
+cause_of_get asked file before after NotYetRead reaches h = absurd h
+cause_of_get asked file before after (TooManyLines count) reaches h = absurd h
+cause_of_get asked file before after TooLarge reaches h = absurd h
+cause_of_get asked file before after (BadWorld line) reaches h = absurd h
 
 -- a get that met too long a file
-pub Fetches-long : (names : Names) (file : InputFile) (before after : ShelfState) (name : List ℕ) (limit : ℕ) (fault : GetFault) → name ≡ name_of names file → limit ≡ limit_of file
-    → Gets before after name limit (Err fault) → fault ≡ get.TooLong → Fetches names file before after (Err (TooLong file))
-Fetches-long names file before after name limit fault is_name is_limit gets is =
+pub fetched_long : (asked : Asked) (file : InputFile) (before after : ShelfState) (name : List ℕ) (limit : ℕ)
+    (fault : GetFault) → name ≡ name_of asked file → limit ≡ limit_of file → Gets before after name limit (Err fault)
+    → fault ≡ get.TooLong → Fetches asked file before after (Err (TooLong file))
+fetched_long asked file before after name limit fault is_name is_limit gets is =
     let got = rw (is_name, is_limit) at gets in
     let long = got.long (ap Err is) in
     record {
@@ -51,14 +84,56 @@ Fetches-long names file before after name limit fault is_name is_limit gets is =
       refused = (refl, record { taken = long.0; counted = long.1; longer = λ told held. ((got.told told held).long (ap Err is)).0 });
     }
 
--- no report, once the source was read, where the log isn't got
-pub Forms-without_log : (names : Names) (before mid after : ShelfState) (source read : List ℕ) (unit : UnitType) (refusal told : Refusal)
-    → Fetches names Source before mid (Ok source) → read ≡ source → IsUnit names.source read unit → Fetches names Log mid after (Err refusal)
-    → told ≡ refusal → Forms names before after (Err told)
-Forms-without_log names before mid after source read unit refusal told got same is_unit log is =
+-- ---- steps that end with a get
+
+later : (a b c : ℕ) → a ≤ b → b ≤ c → a ≤ c
+later a b c first second = omega arith
+
+pub counts_through : (before mid after : ShelfState) → CountsOn before mid → CountsOn mid after → CountsOn before after
+counts_through before mid after first second = record {
+  taken = later _ _ _ first.taken second.taken;
+  get_faults = λ name. later _ _ _ (first.get_faults name) (second.get_faults name);
+  put_faults = λ name. later _ _ _ (first.put_faults name) (second.put_faults name);
+  long_reads = λ name limit. later _ _ _ (first.long_reads name limit) (second.long_reads name limit);
+}
+
+-- the log isn't got
+pub log_not_got : (asked : Asked) (before after : ShelfState) (refusal told : Refusal)
+    → Fetches asked Log before after (Err refusal) → told ≡ refusal → GetsLog asked before after (Err told)
+log_not_got asked before after refusal told h is =
     rw is (record {
-      files = log.files ∙ got.files;
-      formed = tt;
-      refused = Cause-from_log names before mid after unit refusal got.counts got.files
-          (record { source = source; input = got.input; is_unit = rw same at is_unit }) log.refused;
+      counts = h.counts;
+      files = h.files;
+      input = tt;
+      few = tt;
+      refused = λ config externals command accepted served.
+          cause_of_get asked Log before after refusal (command, (config, (externals, (accepted, served)))) h.refused;
+    })
+
+-- the world isn't got
+pub world_not_got : (asked : Asked) (before after : ShelfState) (refusal told : Refusal)
+    → Fetches asked World before after (Err refusal) → told ≡ refusal → ReadsWorldFile asked before after (Err told)
+world_not_got asked before after refusal told h is =
+    rw is (record {
+      counts = h.counts;
+      files = h.files;
+      read = tt;
+      refused = λ config externals takes accepted.
+          cause_of_get asked World before after refusal
+          (takes, (config, (externals, (accepted, subst (λ (c : Command). IsServed c externals) (sym takes) tt)))) h.refused;
+    })
+
+-- the source isn't got, behind the configuration
+pub source_not_got : (asked : Asked) (before mid after : ShelfState) (config : ConfigType) (refusal told : Refusal)
+    → Configures asked before mid (Ok config) → Fetches asked Source mid after (Err refusal) → told ≡ refusal
+    → Parses asked before after (Err told)
+source_not_got asked before mid after config refusal told k h is =
+    rw is (record {
+      counts = counts_through before mid after k.counts h.counts;
+      files = h.files ∙ k.files;
+      parsed = tt;
+      refused = cause_later asked before mid after refusal k.counts k.files
+          (cause_of_get asked Source mid after refusal
+          (tt, (config, subst (λ (fs : Option Files). IsConfigured asked fs asked.config config) (sym k.files) k.configured))
+          h.refused);
     })

@@ -1,3 +1,6 @@
+pub mod Calls
 pub mod CauseLemmas
-pub mod Programs
+pub mod Deciding
+pub mod Outputs
+pub mod Reading
 pub mod Standing

@@ -1,108 +1,125 @@
 -- What a command line comes to.
-use Rattle.std.specs.Prelude.{◌≡◌, ◌⊎◌, ℕ, List, Bool, Option, Result, Ok, Err, IfOk, IfErr, ⊤}
-use Rattle.sl_io.specs.Counts.{Rose}
-use Rattle.sl_io.specs.ShelfStates.{Files, ShelfState, CountsOn}
-use Rattle.sl_io.specs.SinkStates.{SinkState}
-use Rattle.sl_io.specs.Writes.{Appended, AppendedPrefix}
-use Rattle.first_runs.specs.declared.tree.Unit.{Unit as UnitType}
-use Rattle.first_runs.specs.Programs.{program_in}
+use Rattle.std.specs.Prelude.{◌≡◌, ◌≤◌, ◌⊎◌, ℕ, List, [], length, Bool, true, false, Option, Some, Ok}
+use Rattle.bit_words.specs.declared.bounds.Bounds.{Bounds}
+use Rattle.bit_words.specs.Worlds.{WorldTables}
+use Rattle.c_runs.specs.Units.{source_run, source_size}
+use Rattle.c_tree.specs.declared.unit.External.{External}
+use Rattle.config_text.specs.declared.config.Config.{Config as ConfigType}
 use Rattle.first_form.specs.Answers.{is_found}
-use Rattle.first_form.specs.Verdicts.{Diagnoses}
+use Rattle.first_form.specs.Form.{program_of}
 use Rattle.first_form.specs.Reports.{report_of}
+use Rattle.first_form.specs.Verdicts.{Diagnoses}
+use Rattle.first_runs.specs.declared.tree.Unit.{Unit as FirstUnit}
 use Rattle.first_runs.specs.declared.verdict.Diagnosis.{Diagnosis}
-use Rattle.first_form.specs.declared.diagnose.Answer.{Answer}
-use Rattle.command.specs.Words.{Names}
-use Rattle.command.specs.Inputs.{IsInput, Failed, IsTooLong}
-use Rattle.command.specs.Sources.{IsUnit, HasFaultIn, HasOtherForm, start_at}
-use Rattle.command.specs.Causes.{IsRead, Cause}
-use Rattle.c_lexer.specs.Places.{located}
-use Rattle.c_lexer.specs.declared.token.Token.{Token}
-use Rattle.c_reading.specs.declared.fault.ParseFault.{ParseFault}
-use Rattle.c_reading.specs.declared.fault.ParseFault.TheVariants as parser
-use Rattle.command.specs.declared.refusal.SourceFault.{SourceFault}
-use Rattle.command.specs.declared.refusal.SourceFault.TheVariants.{Syntax, TooDeep}
+use Rattle.first_runs.specs.Programs.{program_in}
+use Rattle.log_text.specs.Lines.{line_count}
+use Rattle.sl_io.specs.Counts.{Rose}
+use Rattle.sl_io.specs.ShelfStates.{Files, ShelfState}
+use Rattle.sl_io.specs.SinkStates.{SinkState}
+use Rattle.sl_io.specs.Writes.{Appended, AppendedPrefix, Told}
+use Rattle.command.specs.Words.{Asked}
+use Rattle.command.specs.Inputs.{IsInput, Failed, limit_of, name_of}
+use Rattle.c_tree.specs.PlaceTables.{places_of}
+use Rattle.command.specs.Causes.{AreInForce, Cause, IsAccepted, IsWorldRead, Takes}
+use Rattle.command.specs.Lines.{end_line, line_of, status_of}
+use Rattle.command.specs.declared.request.Command.{Command}
+use Rattle.command.specs.declared.request.Command.TheVariants.{Diagnose, Replay}
 use Rattle.command.specs.declared.refusal.InputFile.{InputFile}
 use Rattle.command.specs.declared.refusal.InputFile.TheVariants.{Log}
 use Rattle.command.specs.declared.refusal.Refusal.{Refusal}
-use Rattle.command.specs.declared.refusal.Refusal.TheVariants.{BadSource, NotYetRead, Fault, TooLong, Memory}
+use Rattle.command.specs.declared.refusal.Refusal.TheVariants.{Fault}
+use Rattle.command.specs.declared.output.Output.{Output}
+
+-- ---- the two outputs
 
 -- the report of a diagnosis of the files that is true of every world; `found`: a world fits
-pub record IsReport (names : Names) (files : Option Files) (found : Bool) (report : List ℕ) : Type 0 where
-  pub unit : UnitType
+pub record IsReport (asked : Asked) (files : Option Files) (output : Output) : Type 0 where
+  pub config : ConfigType
+  pub externals : List External
+  pub accepted : IsAccepted asked files config externals
+  pub unit : FirstUnit
+  pub is_unit : program_of externals ≡ Some (program_in unit)
+  pub places : unit.places.places ≡ places_of accepted.read.is_derived.tokens.tokens
+  pub file_names : unit.places.files ≡ accepted.read.is_derived.tokens.files
   pub log : List ℕ
+  pub input : IsInput asked Log files log
+  pub few : line_count log ≤ 1000
   pub diagnosis : Diagnosis
-  pub read : IsRead names files unit
-  pub input : IsInput names Log files log
   pub just : Diagnoses (program_in unit) log diagnosis
-  pub text : report ≡ report_of unit.places (program_in unit) log diagnosis
-  pub verdict : found ≡ is_found diagnosis
+  pub text : output.text ≡ report_of unit.places (program_in unit) log diagnosis
+  pub verdict : output.is_found ≡ is_found diagnosis
+  pub end : output.end ≡ []
 
--- a report was written
-pub record Answered (names : Names) (files : Option Files) (found : Bool) (old new : SinkState) : Type 0 where
-  pub report : List ℕ
-  pub just : IsReport names files found report
-  pub written : Appended old.bytes new.bytes report
+-- what the run of the source prints in the world of the file, and how it ends
+pub record IsReplay (asked : Asked) (files : Option Files) (output : Output) : Type 0 where
+  pub config : ConfigType
+  pub externals : List External
+  pub world : WorldTables
+  pub read : IsWorldRead asked files config externals (Ok world)
+  pub bounds : Bounds
+  pub in_force : AreInForce asked config bounds
+  pub within : source_size externals config.profile bounds ≤ 2000000
+  pub text : output.text ≡ (source_run externals config.profile world bounds).printed
+  pub end : output.end ≡ end_line asked.source read.accepted.read.source (source_run externals config.profile world bounds).finish
+  pub verdict : output.is_found ≡ true
 
--- a report was written up to a fault
-pub record BrokeOff (names : Names) (files : Option Files) (old new : SinkState) : Type 0 where
-  pub found : Bool
-  pub report : List ℕ
-  pub just : IsReport names files found report
+-- ---- answers
+
+abbrev pub IsOutputOf : Command → Asked → Option Files → Output → Type 0
+IsOutputOf Diagnose asked files output = IsReport asked files output
+IsOutputOf Replay asked files output = IsReplay asked files output
+
+abbrev pub IsOutput : Asked → Option Files → Output → Type 0
+IsOutput asked files output = IsOutputOf asked.command asked files output
+
+-- how the run ended is told on err, of a diagnosis nothing
+abbrev pub EndsOf : Command → Output → SinkState → SinkState → Type 0
+EndsOf Diagnose output old new = new ≡ old
+EndsOf Replay output old new = Told old new output.end
+
+-- 0 where a world fits, and for each run; 1 where none does
+abbrev pub found_status : Bool → ℕ
+found_status true = 0
+found_status false = 1
+
+-- what is asked for was written
+pub record Answered (asked : Asked) (files : Option Files) (found : Bool) (old new err told : SinkState) : Type 0 where
+  pub output : Output
+  pub just : IsOutput asked files output
+  pub verdict : found ≡ output.is_found
+  pub written : Appended old.bytes new.bytes output.text
+  pub ends : EndsOf asked.command output err told
+
+-- it was written up to a fault
+pub record BrokeOff (asked : Asked) (files : Option Files) (old new : SinkState) : Type 0 where
+  pub output : Output
+  pub just : IsOutput asked files output
   pub fault : Rose old.faults new.faults
-  pub written : AppendedPrefix old.bytes new.bytes report
+  pub written : AppendedPrefix old.bytes new.bytes output.text
 
--- nothing was written, for this cause; or a report was, up to a fault
-abbrev pub Refused : Names → ShelfState → ShelfState → SinkState → SinkState → Refusal → Type 0
-Refused names before after old new (BadSource fault spot) = Cause names before after (BadSource fault spot) × (new ≡ old)
-Refused names before after old new NotYetRead = Cause names before after NotYetRead × (new ≡ old)
-Refused names before after old new Fault = (Cause names before after Fault × (new ≡ old)) ⊎ BrokeOff names before.files old new
-Refused names before after old new (TooLong file) = Cause names before after (TooLong file) × (new ≡ old)
-Refused names before after old new Memory = new ≡ old
+-- nothing was written, for this cause; or the output was, up to a fault
+abbrev pub Refused : Asked → ShelfState → ShelfState → SinkState → SinkState → Refusal → Type 0
+Refused asked before after old new Fault = (Cause asked before after Fault × (new ≡ old)) ⊎ BrokeOff asked before.files old new
+Refused asked before after old new refusal = Cause asked before after refusal × (new ≡ old)
 
--- ---- the parts
+-- what is refused is told
+pub record IsRefused (asked : Asked) (before after : ShelfState) (old new err told : SinkState) (status : ℕ) : Type 0 where
+  pub refusal : Refusal
+  pub is_status : status ≡ status_of refusal
+  pub refused : Refused asked before after old new refusal
+  pub line : Told err told (line_of asked refusal)
 
--- why a file isn't got
-abbrev pub GetCause : Names → InputFile → ShelfState → ShelfState → Refusal → Type 0
-GetCause names file before after (BadSource fault spot) = ⊥
-GetCause names file before after NotYetRead = ⊥
-GetCause names file before after Fault = Failed names file before after
-GetCause names file before after (TooLong other) = (other ≡ file) × IsTooLong names file before after
-GetCause names file before after Memory = ⊤
+-- ---- where all goes well outside
 
--- a file is got
-pub record Fetches (names : Names) (file : InputFile) (before after : ShelfState) (result : Result (List ℕ) Refusal) : Type 0 where
-  pub counts : CountsOn before after
-  pub files : after.files ≡ before.files
-  pub input : IfOk result (IsInput names file before.files)
-  pub refused : IfErr result (GetCause names file before after)
+pub record IsHeld (files : Files) (name : List ℕ) (limit : ℕ) : Type 0 where
+  pub bytes : List ℕ
+  pub is : files name ≡ Some bytes
+  pub within : length bytes ≤ limit
 
--- a source of this name is read
-abbrev pub Reads : List ℕ → List ℕ → Result UnitType Refusal → Type 0
-Reads name source (Ok unit) = IsUnit name source unit
-Reads name source (Err (BadSource fault spot)) = HasFaultIn name source fault spot
-Reads name source (Err NotYetRead) = HasOtherForm name source
-Reads name source (Err Memory) = ⊤
-Reads name source (Err _) = ⊥
-
--- a refusal for what is wrong with a source says this fault, with the place of this byte
-abbrev pub IsToldAt : List ℕ → List ℕ → SourceFault → ℕ → Refusal → Type 0
-IsToldAt name source fault at (BadSource told spot) = (told ≡ fault) × (spot ≡ located name source at)
-IsToldAt name source fault at _ = ⊤
-
--- what the parser answered is told as it is, with the place of the token that it named
-abbrev pub Tells : List ℕ → List ℕ → List Token → ParseFault → Refusal → Type 0
-Tells name source tokens (parser.Syntax k) refusal = IsToldAt name source Syntax (start_at source tokens k) refusal
-Tells name source tokens (parser.TooDeep k) refusal = IsToldAt name source TooDeep (start_at source tokens k) refusal
-Tells name source tokens parser.Memory refusal = ⊤
-
--- a report is formed
-pub record Forms (names : Names) (before after : ShelfState) (result : Result Answer Refusal) : Type 0 where
-  pub files : after.files ≡ before.files
-  pub formed : IfOk result (λ answer. IsReport names before.files answer.is_found answer.text)
-  pub refused : IfErr result (Cause names before after)
-
--- a command line is served
-pub record Serves (names : Names) (before after : ShelfState) (old new : SinkState) (result : Result Bool Refusal) : Type 0 where
-  pub files : after.files ≡ before.files
-  pub answered : IfOk result (λ found. Answered names before.files found old new)
-  pub refused : IfErr result (Refused names before after old new)
+-- files are told, each file of the command is held and within its limit, no get and no write failed
+pub record AllIsWell (asked : Asked) (before after : ShelfState) (old new : SinkState) : Type 0 where
+  pub files : Files
+  pub told : before.files ≡ Some files
+  pub held : (file : InputFile) → Takes asked file → IsHeld files (name_of asked file) (limit_of file)
+  pub got : (file : InputFile) → Failed asked file before after → ⊥
+  pub wrote : Rose old.faults new.faults → ⊥

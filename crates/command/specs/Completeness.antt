@@ -1,35 +1,70 @@
--- What decides where files are told.
-use Rattle.std.specs.Prelude.{◌≡◌, ◌≤◌, ℕ, List, Some, length}
+-- What decides where files are told, and no configuration is named.
+use Rattle.std.specs.Prelude.{◌≡◌, ◌≤◌, ℕ, List, Some, None, Ok, length}
+use Rattle.bit_words.specs.declared.bounds.Bounds.{Bounds}
+use Rattle.bit_words.specs.Worlds.{WorldTables}
+use Rattle.c_runs.specs.Units.{IsAcceptedSource, source_size}
+use Rattle.c_tree.specs.declared.unit.External.{External}
+use Rattle.cert_text.specs.WorldTexts.{ReadsWorld}
+use Rattle.config_text.specs.Configs.{default_config}
+use Rattle.log_text.specs.Lines.{line_count}
 use Rattle.sl_io.specs.Counts.{Rose}
 use Rattle.sl_io.specs.ShelfStates.{Files, ShelfState}
 use Rattle.sl_io.specs.SinkStates.{SinkState}
-use Rattle.first_runs.specs.Programs.{Program}
-use Rattle.command.specs.Sources.{IsProgram}
-use Rattle.command.specs.Words.{Names}
-use Rattle.command.specs.Inputs.{name_of, limit_of, Failed}
+use Rattle.command.specs.Words.{Asked}
+use Rattle.command.specs.Inputs.{Failed, limit_of, name_of}
+use Rattle.command.specs.Sources.{IsDerived}
+use Rattle.command.specs.Causes.{AreInForce, IsServed}
+use Rattle.command.specs.declared.request.Command.{Command}
+use Rattle.command.specs.declared.request.Command.TheVariants.{Diagnose, Replay}
 use Rattle.command.specs.declared.refusal.InputFile.{InputFile}
-use Rattle.command.specs.declared.refusal.InputFile.TheVariants.{Source, Log}
+use Rattle.command.specs.declared.refusal.InputFile.TheVariants.{Source, Log, World}
 
 -- this file is held with these bytes, within its limit, and no get of it failed
-pub record IsAtHand (names : Names) (file : InputFile) (before after : ShelfState) (bytes : List ℕ) : Type 0 where
+pub record IsAtHand (asked : Asked) (file : InputFile) (before after : ShelfState) (bytes : List ℕ) : Type 0 where
   pub files : Files
   pub told : before.files ≡ Some files
-  pub held : files (name_of names file) ≡ Some bytes
+  pub held : files (name_of asked file) ≡ Some bytes
   pub within : length bytes ≤ limit_of file
-  pub got : ¬ (Failed names file before after)
+  pub got : Failed asked file before after → ⊥
 
--- the source is at hand, and is no program: it has a lexical fault, is not derived, or is not of the form
-pub record IsNotOfForm (names : Names) (before after : ShelfState) : Type 0 where
-  pub source : List ℕ
-  pub at_hand : IsAtHand names Source before after source
-  pub no_program : (program : Program) → IsProgram names.source source program → ⊥
+-- these bytes are a source that is derived, breaks no rule and is served
+pub record IsProgram (asked : Asked) (source : List ℕ) (externals : List External) : Type 0 where
+  pub is_derived : IsDerived asked.source source externals
+  pub kept : IsAcceptedSource externals default_config.profile
+  pub served : IsServed asked.command externals
 
--- both files are at hand, the source is of the form, and no write failed
-pub record IsAnswerable (names : Names) (before after : ShelfState) (old new : SinkState) : Type 0 where
+-- the source is at hand, and is no such program
+pub record IsNoProgram (asked : Asked) (before after : ShelfState) : Type 0 where
+  pub plain : asked.config ≡ None
   pub source : List ℕ
+  pub at_hand : IsAtHand asked Source before after source
+  pub no_program : (externals : List External) → IsProgram asked source externals → ⊥
+
+-- the log is at hand, and has no more lines than are followed
+pub record HasLog (asked : Asked) (before after : ShelfState) : Type 0 where
   pub log : List ℕ
-  pub source_at_hand : IsAtHand names Source before after source
-  pub log_at_hand : IsAtHand names Log before after log
-  pub program : Program
-  pub of_form : IsProgram names.source source program
-  pub wrote : ¬ (Rose old.faults new.faults)
+  pub at_hand : IsAtHand asked Log before after log
+  pub few : line_count log ≤ 1000
+
+-- the world is at hand, and the program unrolls to no more nodes than are followed
+pub record HasWorld (asked : Asked) (before after : ShelfState) (externals : List External) : Type 0 where
+  pub text : List ℕ
+  pub at_hand : IsAtHand asked World before after text
+  pub world : WorldTables
+  pub read : ReadsWorld text (Ok world)
+  pub within : (bounds : Bounds) → AreInForce asked default_config bounds
+      → source_size externals default_config.profile bounds ≤ 2000000
+
+abbrev pub HasSecond : Command → Asked → ShelfState → ShelfState → List External → Type 0
+HasSecond Diagnose asked before after externals = HasLog asked before after
+HasSecond Replay asked before after externals = HasWorld asked before after externals
+
+-- both files are at hand, the source is a program, and no write failed
+pub record IsAnswerable (asked : Asked) (before after : ShelfState) (old new : SinkState) : Type 0 where
+  pub plain : asked.config ≡ None
+  pub source : List ℕ
+  pub at_hand : IsAtHand asked Source before after source
+  pub externals : List External
+  pub program : IsProgram asked source externals
+  pub second : HasSecond asked.command asked before after externals
+  pub wrote : Rose old.faults new.faults → ⊥

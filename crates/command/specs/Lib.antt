@@ -1,7 +1,9 @@
 pub mod Words
 pub mod Inputs
+pub mod Places
 pub mod Sources
 pub mod Causes
-pub mod Answers
-pub mod Completeness
 pub mod Lines
+pub mod Answers
+pub mod Stages
+pub mod Completeness

@@ -1,6 +1,6 @@
 -- What is wrong with a source, and where.
-use Rattle.std.specs.Prelude.{◌≡◌, ◌++◌, ℕ, List, length, slice_get, Option, Some, None, Ok, Err, codes}
-use Rattle.std.specs.Fmt.{decimal}
+use Rattle.std.specs.Prelude.{◌≡◌, ℕ, List, length, slice_get, Option, Some, None, Ok, Err, false, codes, ⊤}
+use Rattle.acceptance.specs.Refusals.{IsFirstBroken, judged_in}
 use Rattle.c_lexer.specs.Places.{located}
 use Rattle.c_lexer.specs.Reading.{lexed}
 use Rattle.c_lexer.specs.declared.fault.LexFault.TheVariants as lexical
@@ -9,16 +9,29 @@ use Rattle.c_lexer.specs.declared.token.Token.{Token}
 use Rattle.c_lexer.specs.declared.token.Tokens.{Tokens}
 use Rattle.c_tree.specs.PlaceTables.{places_of}
 use Rattle.c_tree.specs.declared.unit.External.{External}
+use Rattle.c_tree.specs.declared.unit.Unit.{Unit}
 use Rattle.c_grammar.specs.Units.{derives}
 use Rattle.c_parser.specs.Parsing.{IsUnderivable, IsOnly}
-use Rattle.first_runs.specs.declared.tree.Unit.{Unit as UnitType}
-use Rattle.first_runs.specs.Programs.{program_in}
-use Rattle.first_form.specs.Form.{program_of}
-use Rattle.first_runs.specs.Programs.{Program}
+use Rattle.c_runs.specs.declared.breach.Breach.{Breach}
+use Rattle.c_runs.specs.declared.breach.BrokenRule.{BrokenRule}
+use Rattle.c_runs.specs.declared.breach.BrokenRule.TheVariants as broken
+use Rattle.c_runs.specs.declared.profile.Profile.{Profile}
+use Rattle.c_runs.specs.Checks.{has_main}
+use Rattle.c_runs.specs.Units.{IsAcceptedSource}
+use Rattle.c_says.specs.declared.scope.LayoutRule.{LayoutRule}
+use Rattle.c_says.specs.declared.scope.LayoutRule.TheVariants as layout
+use Rattle.c_says.specs.declared.scope.Rule.{Rule}
+use Rattle.c_says.specs.declared.scope.Rule.TheVariants as rule
+use Rattle.printf_text.specs.declared.parse.FormatFault.{FormatFault}
+use Rattle.printf_text.specs.declared.parse.FormatFault.TheVariants as format
+use Rattle.command.specs.Places.{spot_at}
+use Rattle.command.specs.declared.refusal.Refusal.{Refusal}
+use Rattle.command.specs.declared.refusal.Refusal.TheVariants.{BadSource, NoMain, Broken, NotYetRead, Memory}
 use Rattle.command.specs.declared.refusal.SourceFault.{SourceFault}
 use Rattle.command.specs.declared.refusal.SourceFault.TheVariants.{BadByte, OpenText, WideNumber, BadConstant, BadDirective, Syntax, TooDeep}
 
--- the name that is told
+-- ---- the names that are told
+
 abbrev pub fault_name : SourceFault → List ℕ
 fault_name BadByte = codes "BadByte"
 fault_name OpenText = codes "OpenText"
@@ -28,28 +41,50 @@ fault_name BadDirective = codes "BadDirective"
 fault_name Syntax = codes "Syntax"
 fault_name TooDeep = codes "TooDeep"
 
--- the place that is told
-abbrev pub spot_text : Spot → List ℕ
-spot_text spot = spot.file ++ (codes ":" ++ (decimal spot.line ++ (codes ":" ++ decimal spot.column)))
+abbrev pub layout_name : LayoutRule → List ℕ
+layout_name layout.Incomplete = codes "Layout Incomplete"
+layout_name layout.ObjectTooLarge = codes "Layout ObjectTooLarge"
+layout_name layout.NotConstant = codes "Layout NotConstant"
+
+abbrev pub typing_name : Rule → List ℕ
+typing_name rule.Undeclared = codes "Undeclared"
+typing_name rule.TypeMismatch = codes "TypeMismatch"
+typing_name rule.NotModifiable = codes "NotModifiable"
+typing_name rule.FloatUsed = codes "FloatUsed"
+typing_name rule.IndirectCall = codes "IndirectCall"
+typing_name rule.StructByValue = codes "StructByValue"
+typing_name rule.BitField = codes "BitField"
+typing_name (rule.Layout r) = layout_name r
+typing_name rule.DuplicateDefinition = codes "DuplicateDefinition"
+
+-- (that memory runs out is no fault of a format)
+abbrev pub format_name : FormatFault → List ℕ
+format_name (format.Unsupported at) = codes "FormatFault Unsupported"
+format_name (format.Truncated at) = codes "FormatFault Truncated"
+format_name format.Memory = codes "FormatFault"
+
+abbrev pub rule_name : BrokenRule → List ℕ
+rule_name broken.UnreadBody = codes "UnreadBody"
+rule_name (broken.Typing r) = typing_name r
+rule_name broken.BadGoto = codes "BadGoto"
+rule_name broken.FormatNotLiteral = codes "FormatNotLiteral"
+rule_name (broken.Format fault) = format_name fault
+rule_name broken.FormatArgument = codes "FormatArgument"
+
+-- ---- reading
 
 -- a source without a lexical fault, of whose tokens the grammar derives these externals and no others
-pub record IsDerived (name bytes : List ℕ) (tokens : Tokens) (externals : List External) : Type 0 where
+pub record IsDerived (name bytes : List ℕ) (externals : List External) : Type 0 where
+  pub tokens : Tokens
   pub spelled : lexed name bytes ≡ Ok tokens
   pub derived : derives tokens.tokens externals
   pub only : IsOnly tokens.tokens externals
 
--- a source that is derived and of the form, with its program
-pub record IsProgram (name bytes : List ℕ) (program : Program) : Type 0 where
-  pub tokens : Tokens
-  pub externals : List External
-  pub is_derived : IsDerived name bytes tokens externals
-  pub is_program : program_of externals ≡ Some program
-
--- the bytes of a file are this unit
-pub record IsUnit (name bytes : List ℕ) (unit : UnitType) : Type 0 where
-  pub program : IsProgram name bytes (program_in unit)
-  pub places : unit.places.places ≡ places_of program.tokens.tokens
-  pub files : unit.places.files ≡ program.tokens.files
+-- the unit of a source, with the places of its tokens
+pub record IsUnit (name bytes : List ℕ) (unit : Unit) : Type 0 where
+  pub is_derived : IsDerived name bytes unit.externals
+  pub places : unit.places.places ≡ places_of is_derived.tokens.tokens
+  pub files : unit.places.files ≡ is_derived.tokens.files
 
 abbrev pub start_or : ℕ → Option Token → ℕ
 start_or end None = end
@@ -87,9 +122,19 @@ pub record HasFaultIn (name bytes : List ℕ) (fault : SourceFault) (spot : Spot
   pub first : HasFault name bytes fault at
   pub place : spot ≡ located name bytes at
 
--- a source that is derived and not of the form
-pub record HasOtherForm (name bytes : List ℕ) : Type 0 where
-  pub tokens : Tokens
-  pub externals : List External
-  pub is_derived : IsDerived name bytes tokens externals
-  pub no_program : program_of externals ≡ None
+-- ---- the rules
+
+-- of the rules that are broken this one is the first, and stands at this place
+pub record IsBrokenAt (name bytes : List ℕ) (externals : List External) (profile : Profile) (told : BrokenRule) (spot : Spot) : Type 0 where
+  pub breach : Breach
+  pub first : IsFirstBroken externals profile breach
+  pub is_rule : told ≡ breach.rule
+  pub place : spot ≡ spot_at name bytes breach.at
+
+-- why a source that is derived is refused
+abbrev pub IsRefusedFor : List ℕ → List ℕ → List External → Profile → Refusal → Type 0
+IsRefusedFor name bytes externals profile NoMain = has_main (judged_in externals profile) ≡ false
+IsRefusedFor name bytes externals profile (Broken told spot) = IsBrokenAt name bytes externals profile told spot
+IsRefusedFor name bytes externals profile NotYetRead = IsAcceptedSource externals profile
+IsRefusedFor name bytes externals profile Memory = ⊤
+IsRefusedFor name bytes externals profile _ = ⊥

@@ -2,11 +2,18 @@
 #![tactic(auto)]
 
 mod call;
+mod getting;
+mod lines;
+mod output;
+mod places;
 mod refusal;
+mod request;
 mod serving;
 mod source;
 mod words;
 
 pub use call::run;
-pub use refusal::{InputFile, Refusal, SourceFault, tell_memory, tell_usage};
-pub use words::Request;
+pub use lines::{tell_memory, tell_usage};
+pub use output::Output;
+pub use refusal::{InputFile, Refusal, SourceFault};
+pub use request::{Command, Request};

@@ -1,45 +1,120 @@
 //! One command from the bytes of its files to its output.
+ghost use Rattle.std.specs.Prelude.{◌≡◌};
+ghost use Rattle.config_text.specs.Values.{InRanges};
 ghost use Rattle.sl_io.specs.Writes.{Writes};
-ghost use Rattle.command.specs.Inputs.{names_in};
-ghost use Rattle.command.specs.Answers.{Fetches, Forms, Serves};
+ghost use Rattle.command.specs.Causes.{AreInForce};
+ghost use Rattle.command.specs.Inputs.{asked_in};
+ghost use Rattle.command.specs.Stages.{Forms, Serves};
+ghost use Rattle.command.specs.declared.request.Command.{Command as CommandType};
 
-use crate::refusal::{InputFile, Refusal};
-use crate::source::read_source;
-use crate::words::Request;
-use bit_words::Bytes;
+use crate::getting::{Parsed, get_log, read_source, world};
+use crate::lines::end_line;
+use crate::output::Output;
+use crate::refusal::Refusal;
+use crate::request::{Command, Request};
+use crate::source::{accepted, first_form};
+use bit_words::{Bounds, Bytes};
+use config_text::Config;
 use first_form::diagnose::{Answer, diagnose};
-use sl_io::{GetFault, Shelf, Sink, SinkFault};
+use replayer::{replay, unrolled_size};
+use sl_io::{Shelf, Sink, SinkFault, tell};
 use std::alloc::Global;
 
-/// Gets a file of the command, within its limit.
-fn fetch<H: Shelf>(
-    alloc: Global,
-    request: &Request<'_>,
-    file: InputFile,
-    shelf: &mut H,
-) -> Result<Bytes, Refusal>
-    ensures { Fetches (names_in request.now) file (H.state shelf.old) (H.state shelf.new) result }
-{
-    match shelf.get(alloc, file.name(request), file.limit()) {
-        Ok(bytes) => Ok(bytes),
-        Err(GetFault::Failed) => Err(Refusal::Fault),
-        Err(GetFault::TooLong) => Err(Refusal::TooLong(file)),
-        Err(GetFault::Memory) => Err(Refusal::Memory),
-    }
-}
+/// The most nodes to which a program may unroll.
+const MAX_SIZE: u64 = 2_000_000;
 
-/// Gets and reads the files, and forms the whole report. Nothing is written.
+/// Gets and reads the files of `diagnose`, and forms the whole report. Nothing is written.
 fn form_report<H: Shelf>(
     alloc: Global,
     request: &Request<'_>,
     shelf: &mut H,
-) -> Result<Answer, Refusal>
-    ensures { Forms (names_in request.now) (H.state shelf.old) (H.state shelf.new) result }
+) -> Result<Output, Refusal>
+    requires { request.now.command ≡ CommandType.Diagnose }
+    ensures { Forms (asked_in request.now) (H.state shelf.old) (H.state shelf.new) result }
 {
-    let source = fetch(alloc, request, InputFile::Source, shelf)?;
-    let unit = read_source(alloc, request.source, source.as_slice())?;
-    let log = fetch(alloc, request, InputFile::Log, shelf)?;
-    Ok(diagnose(alloc, &unit, log.as_slice())?)
+    let Parsed {
+        config,
+        bytes,
+        unit,
+    } = read_source(alloc, request, shelf)?;
+    let unit = first_form(
+        alloc,
+        request.source,
+        bytes.as_slice(),
+        unit,
+        &config.profile,
+    )?;
+    let log = get_log(alloc, request, shelf)?;
+    let Answer { text, is_found } = diagnose(alloc, &unit, log.as_slice())?;
+    Ok(Output {
+        text,
+        end: Bytes::new(alloc),
+        is_found,
+    })
+}
+
+/// The bounds in force.
+fn bounds_of(request: &Request<'_>, config: &Config) -> Bounds
+    requires { InRanges config.now }
+    ensures { AreInForce (asked_in request.now) config.now result }
+{
+    Bounds {
+        turns: request.turns,
+        depth: request.depth,
+        heap: config.heap,
+        outside: config.outside,
+        texts: config.texts,
+        arguments: config.arguments,
+    }
+}
+
+/// Gets and reads the files of `replay`, and runs the program. Nothing is written.
+fn form_run<H: Shelf>(
+    alloc: Global,
+    request: &Request<'_>,
+    shelf: &mut H,
+) -> Result<Output, Refusal>
+    requires { request.now.command ≡ CommandType.Replay }
+    ensures { Forms (asked_in request.now) (H.state shelf.old) (H.state shelf.new) result }
+{
+    let Parsed {
+        config,
+        bytes,
+        unit,
+    } = read_source(alloc, request, shelf)?;
+    let bounds = bounds_of(request, &config);
+    let name = request.source;
+    let program = accepted(
+        alloc,
+        name,
+        bytes.as_slice(),
+        unit.externals,
+        config.profile,
+    )?;
+    let world = world(alloc, request, shelf)?;
+    if MAX_SIZE < unrolled_size(alloc, &program, &bounds, MAX_SIZE + 1)? {
+        return Err(Refusal::TooLarge);
+    }
+    let run = replay(alloc, &program, &world, &bounds)?;
+    let end = end_line(alloc, name, bytes.as_slice(), run.finish)?;
+    Ok(Output {
+        text: run.printed,
+        end,
+        is_found: true,
+    })
+}
+
+fn form_output<H: Shelf>(
+    alloc: Global,
+    request: &Request<'_>,
+    shelf: &mut H,
+) -> Result<Output, Refusal>
+    ensures { Forms (asked_in request.now) (H.state shelf.old) (H.state shelf.new) result }
+{
+    match request.command {
+        Command::Diagnose => form_report(alloc, request, shelf),
+        Command::Replay => form_run(alloc, request, shelf),
+    }
 }
 
 /// Hands the whole output over by one write, where it is not empty.
@@ -52,19 +127,25 @@ fn write_whole<O: Sink>(out: &mut O, output: &[u8]) -> Result<(), SinkFault>
     out.write(output)
 }
 
-/// Serves `diagnose SOURCE LOG`: whether a world was found that fits, once the report is written.
-pub fn serve_diagnose<H: Shelf, O: Sink>(
+/// Serves a command: whether a world was found that fits, which each run is, once the output is written.
+pub fn serve<H: Shelf, O: Sink, E: Sink>(
     alloc: Global,
     request: &Request<'_>,
     shelf: &mut H,
     out: &mut O,
+    err: &mut E,
 ) -> Result<bool, Refusal>
-    ensures { Serves (names_in request.now) (H.state shelf.old) (H.state shelf.new)
-        (O.state out.old) (O.state out.new) result }
+    ensures { Serves (asked_in request.now) (H.state shelf.old) (H.state shelf.new)
+        (O.state out.old) (O.state out.new) (E.state err.old) (E.state err.new) result }
 {
-    let answer = form_report(alloc, request, shelf)?;
-    match write_whole(out, answer.text.as_slice()) {
-        Ok(()) => Ok(answer.is_found),
+    let output = form_output(alloc, request, shelf)?;
+    match write_whole(out, output.text.as_slice()) {
+        Ok(()) => {
+            if request.command == Command::Replay {
+                tell(err, output.end.as_slice());
+            }
+            Ok(output.is_found)
+        }
         Err(SinkFault::Failed) => Err(Refusal::Fault),
     }
 }

@@ -1,18 +1,25 @@
-//! Reading a source: from its bytes to its unit, or to why there is none.
-ghost use Rattle.std.specs.Prelude.{◌≡◌, ◌≤◌, ◌<◌, length, Ok, Err, IfSome};
+//! Reading a source: from its bytes to its unit, and why it is refused.
+ghost use Rattle.std.specs.Prelude.{◌≡◌, ◌≤◌, ◌<◌, List, length, Ok, Err, IfOk, IfErr, IfSome};
+ghost use Rattle.acceptance.specs.Refusals.{IsRefusal};
 ghost use Rattle.c_lexer.specs.Fault.{Refused as IsFaultOf};
 ghost use Rattle.c_lexer.specs.Reading.{lexed};
 ghost use Rattle.c_lexer.specs.Standing.{StandInOrder, fault_byte};
-ghost use Rattle.c_parser.specs.Parsing.{Refuses};
-ghost use Rattle.command.specs.Sources.{HasFault, start_at};
-ghost use Rattle.command.specs.Answers.{Reads, IsToldAt, Tells};
+ghost use Rattle.c_parser.specs.Parsing.{Refuses as RefusesTokens};
+ghost use Rattle.c_runs.specs.declared.profile.Profile.{Profile as ProfileType};
+ghost use Rattle.c_tree.specs.declared.unit.External.{External as ExternalType};
+ghost use Rattle.command.specs.Sources.{HasFault, IsRefusedFor, start_at};
+ghost use Rattle.command.specs.Stages.{FormsFirst, IsRule, IsToldAt, Reads, Tells};
 
-use crate::refusal::{MAX_SOURCE, Refusal, SourceFault};
+use crate::places::{MAX_SOURCE, spot_at};
+use crate::refusal::{Refusal, SourceFault};
+use acceptance::{Accepted, CheckFault, accept, check};
 use c_lexer::{LexFault, Token, Tokens, lex, locate};
 use c_parser::ParseFault;
 use c_parser::unit::parse;
+use c_runs::Profile;
+use c_tree::{External, Unit};
 use first_form::form::{FormFault, read};
-use first_runs::Unit;
+use plain_data::{Items, Shared};
 use std::alloc::Global;
 
 /// The refusal of a source whose fault stands at a byte.
@@ -62,7 +69,7 @@ fn unparsed(alloc: Global, name: &str, bytes: &[u8], tokens: &Tokens, fault: Par
     requires short { length bytes.now ≤ MAX_SOURCE }
     requires lexed { lexed name.now bytes.now ≡ Ok tokens.now }
     requires stands { StandInOrder 0 (length bytes.now) tokens.now.tokens }
-    requires refused { Refuses tokens.now.tokens fault }
+    requires refused { RefusesTokens tokens.now.tokens fault }
     ensures read { Reads name.now bytes.now (Err result) }
     ensures told { Tells name.now bytes.now tokens.now.tokens fault result }
 {
@@ -80,7 +87,7 @@ fn unparsed(alloc: Global, name: &str, bytes: &[u8], tokens: &Tokens, fault: Par
 }
 
 /// Reads a source; `name` is the file that holds before its first line marker.
-pub fn read_source(alloc: Global, name: &str, bytes: &[u8]) -> Result<Unit, Refusal>
+pub fn read_unit(alloc: Global, name: &str, bytes: &[u8]) -> Result<Unit, Refusal>
     requires { length bytes.now ≤ MAX_SOURCE }
     ensures { Reads name.now bytes.now result }
 {
@@ -89,11 +96,71 @@ pub fn read_source(alloc: Global, name: &str, bytes: &[u8]) -> Result<Unit, Refu
         Err(fault) => return Err(refusal_of(alloc, name, bytes, fault)),
     };
     match parse(alloc, &tokens) {
-        Ok(unit) => match read(alloc, unit) {
-            Ok(unit) => Ok(unit),
+        Ok(unit) => Ok(unit),
+        Err(fault) => Err(unparsed(alloc, name, bytes, &tokens, fault)),
+    }
+}
+
+// ---- the rules
+
+/// The refusal for the first rule that is broken.
+fn refused_for(alloc: Global, name: &str, bytes: &[u8], why: acceptance::Refusal) -> Refusal
+    requires { length bytes.now ≤ MAX_SOURCE }
+    ensures told { (externals : List ExternalType) (profile : ProfileType) → IsRefusal externals profile why
+        → IsRefusedFor name.now bytes.now externals profile result }
+    ensures rule { IsRule result }
+{
+    match why {
+        acceptance::Refusal::NoMain => Refusal::NoMain,
+        acceptance::Refusal::Broken(breach) => match spot_at(alloc, name, bytes, breach.at) {
+            Ok(spot) => Refusal::Broken {
+                rule: breach.rule,
+                spot,
+            },
+            Err(_) => Refusal::Memory,
+        },
+    }
+}
+
+/// The program of a source that is derived, where it is accepted.
+pub fn accepted(
+    alloc: Global,
+    name: &str,
+    bytes: &[u8],
+    externals: Items<Shared<External>>,
+    profile: Profile,
+) -> Result<Accepted, Refusal>
+    requires { length bytes.now ≤ MAX_SOURCE }
+    ensures externals { IfOk result (λ p. p.externals ≡ externals) }
+    ensures profile { IfOk result (λ p. p.profile ≡ profile) }
+    ensures refused { IfErr result (IsRefusedFor name.now bytes.now externals profile) }
+{
+    match accept(alloc, externals, profile) {
+        Ok(program) => Ok(program),
+        Err(CheckFault::Refused(why)) => Err(refused_for(alloc, name, bytes, why)),
+        Err(CheckFault::NoCore) => Err(Refusal::NotYetRead),
+        Err(CheckFault::Memory) => Err(Refusal::Memory),
+    }
+}
+
+/// The first form of a source that is derived, where it is accepted and of the form.
+pub fn first_form(
+    alloc: Global,
+    name: &str,
+    bytes: &[u8],
+    unit: Unit,
+    profile: &Profile,
+) -> Result<first_runs::Unit, Refusal>
+    requires { length bytes.now ≤ MAX_SOURCE }
+    ensures { FormsFirst name.now bytes.now unit profile.now result }
+{
+    match check(alloc, unit.externals.as_slice(), profile) {
+        Ok(None) => match read(alloc, unit) {
+            Ok(first) => Ok(first),
             Err(FormFault::NotYetRead) => Err(Refusal::NotYetRead),
             Err(FormFault::Memory) => Err(Refusal::Memory),
         },
-        Err(fault) => Err(unparsed(alloc, name, bytes, &tokens, fault)),
+        Ok(Some(why)) => Err(refused_for(alloc, name, bytes, why)),
+        Err(_) => Err(Refusal::Memory),
     }
 }

@@ -1,37 +1,66 @@
-//! The words of a command line.
-ghost use Rattle.std.specs.Prelude.{◌≡◌, map, option_map, string_bytes};
-ghost use Rattle.command.specs.Words.{names_of, is_file_name as file_name_test};
-ghost use Rattle.command.specs.Inputs.{names_in};
+//! What a command line asks for, where it is served.
+ghost use Rattle.std.specs.Prelude.{◌≡◌, option_map};
+ghost use Rattle.command.specs.Words as spec;
+ghost use Rattle.command.specs.Inputs.{asked_in};
 
-/// The files of a command line, by name.
-#[derive(Clone, Copy, Debug, PartialEq, Eq)]
-pub struct Request<'a> {
-    pub source: &'a str,
-    pub log: &'a str,
+use crate::request::{Command, Request};
+use sl_config::{Job, Name};
+
+/// Whether no option is given, or but what holds without it.
+fn is_bare(job: &Job) -> bool
+    ensures { result ≡ spec.is_bare job.now }
+{
+    !job.config.is_some()
+        && !job.cert.is_some()
+        && job.turns == 8
+        && job.depth == 8
+        && job.conflicts == 20_000
+        && !job.by_line
+        && !job.json
 }
 
-fn is_file_name(word: &str) -> bool
-    ensures { result ≡ file_name_test word.now }
+fn text_of(name: &Option<Name>) -> Option<&str>
+    ensures { option_map (λ text. text.now) result ≡ name.now }
 {
-    match word.as_bytes() {
-        [] => false,
-        [_] => true,
-        [first, _, ..] => *first != b'-',
+    match name {
+        Some(name) => Some(name.as_str()),
+        None => None,
     }
 }
 
-/// Reads `diagnose SOURCE LOG`. A file's name is not empty and does not begin with `-`, but `-` alone is one.
-pub fn read_words(words: &[String]) -> Option<Request<'_>>
-    ensures { option_map names_in result ≡ names_of (map string_bytes words.now) }
+fn request_as(command: Command, job: &Job) -> Option<Request<'_>>
+    ensures { option_map asked_in result ≡ spec.asked_as command job.now }
 {
-    let [command, source, log] = words else {
-        return None;
-    };
-    let source = source.as_str();
-    let log = log.as_str();
-    if command.as_str() == "diagnose" && is_file_name(source) && is_file_name(log) {
-        Some(Request { source, log })
+    if 1 <= job.turns && job.turns <= 64 && 1 <= job.depth && job.depth <= 16 {
+        match job.places.as_slice() {
+            [source, second] => Some(Request {
+                command,
+                source: source.as_str(),
+                second: second.as_str(),
+                config: text_of(&job.config),
+                turns: job.turns,
+                depth: job.depth,
+            }),
+            _ => None,
+        }
     } else {
         None
+    }
+}
+
+/// What a command line asks for, where it is served: `diagnose` without options, and `replay`.
+pub fn request_of(job: &Job) -> Option<Request<'_>>
+    ensures { option_map asked_in result ≡ spec.asked_in job.now }
+{
+    match job.command {
+        sl_config::Command::Diagnose => {
+            if is_bare(job) {
+                request_as(Command::Diagnose, job)
+            } else {
+                None
+            }
+        }
+        sl_config::Command::Replay => request_as(Command::Replay, job),
+        _ => None,
     }
 }

@@ -33,7 +33,11 @@ end
 
 const FAULT: &str = "sherlog: 6 fault\n";
 
+const RETURNED: &str = "end return 0\n";
+
 const DIAGNOSE: &str = "diagnose p.c p.log";
+
+const REPLAY: &str = "replay p.c p.world";
 
 /// A sink whose first write fails after so many bytes.
 fn sink(alloc: Global, failing: Option<usize>) -> Result<FailSink, Fail> {
@@ -44,12 +48,14 @@ fn sink(alloc: Global, failing: Option<usize>) -> Result<FailSink, Fail> {
     Ok(FailSink::new(MemSink::with_room(alloc, 1000)?, listed))
 }
 
-/// The source as `p.c` and two logs, of which one call fails, counted from 1.
+/// The source as `p.c`, two logs and two texts of worlds, of which one call fails, counted from 1.
 fn shelf(alloc: Global, failing: Option<u64>) -> Result<FailShelf, Fail> {
     let mut shelf = MemShelf::new(alloc);
     shelf.add_file(alloc, "p.c", SOURCE)?;
     shelf.add_file(alloc, "p.log", b"hi\n")?;
     shelf.add_file(alloc, "q.log", b"ho\n")?;
+    shelf.add_file(alloc, "p.world", b"sherlog world 1\nend\n")?;
+    shelf.add_file(alloc, "q.world", b"sherlog world 1\nw 1 0\nend\n")?;
     let mut listed = Items::new(alloc);
     if let Some(call) = failing {
         listed.push(call)?;
@@ -69,7 +75,7 @@ fn words_of(alloc: Global, line: &str) -> Result<Vec<String>, Fail> {
 fn runs_over_a_failing_outside(rt: HostRuntime) -> Result<(), Fail> {
     let alloc = rt.alloc();
     // The command line; what fails of the shelf, the output and standard error; the status, how many files were
-    // asked for, how many bytes of the report were written, and what was told.
+    // asked for, how many bytes of the output were written, and what was told.
     let rows = [
         (DIAGNOSE, None, None, None, 0, 2, 1000, ""),
         ("diagnose p.c q.log", None, None, None, 1, 2, 1000, ""),
@@ -84,6 +90,19 @@ fn runs_over_a_failing_outside(rt: HostRuntime) -> Result<(), Fail> {
         (DIAGNOSE, None, Some(1), Some(7), 6, 2, 1, "sherlog"),
         ("help", None, None, Some(0), 2, 0, 0, ""),
         ("diagnose x.c p.log", None, None, Some(3), 6, 1, 0, "she"),
+        (REPLAY, None, None, None, 0, 2, 1000, RETURNED),
+        (REPLAY, Some(2), None, None, 6, 2, 0, FAULT),
+        (REPLAY, None, Some(1), None, 6, 2, 1, FAULT),
+        (
+            "replay p.c q.world",
+            None,
+            None,
+            None,
+            10,
+            2,
+            0,
+            "sherlog: 10 line 2\n",
+        ),
     ];
     for (line, failing, failing_out, failing_err, status, gets, written, told) in rows {
         let words = words_of(alloc, line)?;
@@ -93,7 +112,11 @@ fn runs_over_a_failing_outside(rt: HostRuntime) -> Result<(), Fail> {
         let found = run(alloc, words.as_slice(), &mut shelf, &mut out, &mut err);
         assert_eq!(rt; found, status, "{line}");
         assert_eq!(rt; shelf.calls(), gets);
-        let report = if status == 1 { NONE } else { FOUND };
+        let report = match line.split(' ').next() {
+            Some("replay") => "hi\n",
+            _ if status == 1 => NONE,
+            _ => FOUND,
+        };
         let written = report.len().min(written);
         assert_eq!(rt; out.sink().bytes(), &report.as_bytes()[..written]);
         assert_eq!(rt; err.sink().bytes(), told.as_bytes());
