@@ -21,7 +21,8 @@ printf 'int printf(const char *, ...);\nint main(void) {\nprintf("hi\\n"); retur
 printf 'hi\n' >p.log
 : >nothing
 printf 'sherlog: 2 usage\n' >usage
-printf 'sherlog: 3 NotYetRead\n' >not_read
+printf 'sherlog: 3 NoMain\n' >no_main
+printf 'sherlog: 4 lines 1001\n' >many_lines
 printf 'sherlog: 6 fault\n' >fault
 printf 'sherlog: 7 %s\n' long.c >long_source
 printf 'sherlog: 7 %s\n' long.log >long_log
@@ -73,7 +74,9 @@ expect 'a missing source' 6 nothing fault ./program diagnose missing p.log
 expect 'a missing log' 6 nothing fault ./program diagnose p.c missing
 expect 'a missing folder' 6 nothing fault ./program diagnose missing/p.c p.log
 expect 'a file as a folder' 6 nothing fault ./program diagnose p.c p.log/p.log
-expect 'an empty source' 3 nothing not_read ./program diagnose nothing p.log
+expect 'an empty source' 3 nothing no_main ./program diagnose nothing p.log
+yes '' | head -n 1001 >lines.log
+expect 'a log of 1,001 lines' 4 nothing many_lines ./program diagnose p.c lines.log
 if [ -r /proc/self/mem ]; then
     expect 'a source whose first read fails' 6 nothing fault ./program diagnose /proc/self/mem p.log
     expect 'a log whose first read fails' 6 nothing fault ./program diagnose p.c /proc/self/mem

@@ -1,7 +1,9 @@
 #!/usr/bin/env bash
-# The standard headers of the machine's C library, preprocessed by each compiler that is installed, as they are and as a
-# release build has them, and the sources of examples/ are lexed and derived with no fault: each is reported on, or
-# refused as NotYetRead alone. Skipped where there is no C compiler.
+# The standard headers of the machine's C library, preprocessed by each compiler that is installed, as they are and as
+# a release build has them, and the sources of examples/ are accepted: each is reported on, or refused as NotYetRead
+# alone, which comes where no rule is broken. So nothing that a header declares and a program doesn't need is a reason
+# to refuse it. A last line says how long the source of all headers takes, beside the compiler's own checks. Skipped
+# where there is no C compiler.
 set -u
 cd "$(dirname "$0")/.." || exit 2
 if ! command -v cc > /dev/null; then
@@ -20,10 +22,10 @@ dirent.h fcntl.h netinet/in.h poll.h pthread.h sched.h semaphore.h sys/mman.h sy
 sys/time.h sys/types.h sys/wait.h termios.h unistd.h"
 : > "$folder/log"
 failed=0
-derived=0
+accepted=0
 
-# Whether a source is derived: it is diagnosed, or refused only for a form that is not read so far.
-derives() {
+# Whether a source is accepted: it is diagnosed, or refused only for a form that is not read so far.
+accepts() {
     local said status
     said=$("$program" diagnose "$1" "$folder/log" 2>&1 > /dev/null)
     status=$?
@@ -33,12 +35,12 @@ derives() {
     fi
 }
 
-# Preprocesses a source of these headers by a compiler with its flags, and derives it.
+# Preprocesses a source of these headers by a compiler with its flags, and has it read.
 preprocessed() {
     local name=$1
     shift
     "$@" -E -I "$folder" -o "$folder/one.i" "$folder/one.c" 2> /dev/null || return 0
-    if derives "$folder/one.i" "$name ($*)"; then derived=$((derived + 1)); else failed=1; fi
+    if accepts "$folder/one.i" "$name ($*)"; then accepted=$((accepted + 1)); else failed=1; fi
 }
 
 # Each header by itself, four that most sources have together, and all that the compiler has; but clang's tgmath.h has
@@ -54,9 +56,11 @@ headers_by() {
         preprocessed "$header" "$@"
     done
     printf '#include <%s>\n' stdio.h stdlib.h math.h wchar.h > "$folder/one.c"
+    echo 'int main(void) { return 0; }' >> "$folder/one.c"
     preprocessed 'four headers' "$@"
     printf '#include "all.h"\nint main(void) { return 0; }\n' > "$folder/one.c"
     preprocessed 'all headers' "$@"
+    [ "$*" != cc ] || cp "$folder/one.i" "$folder/all.i"
 }
 
 for compiler in cc clang; do
@@ -68,7 +72,22 @@ for compiler in cc clang; do
     headers_by "$compiler" -O2 -D_FORTIFY_SOURCE=2
 done
 for source in examples/*.c; do
-    if derives "$source" "$source"; then derived=$((derived + 1)); else failed=1; fi
+    if accepts "$source" "$source"; then accepted=$((accepted + 1)); else failed=1; fi
 done
-echo "headers: $derived sources derived"
+
+# How many milliseconds a command takes, at least: the best of three times.
+milliseconds() {
+    local from least='' took
+    for _ in 1 2 3; do
+        from=$(date +%s%N)
+        "$@" > /dev/null 2>&1
+        took=$((($(date +%s%N) - from) / 1000000))
+        [ -n "$least" ] && [ "$least" -le "$took" ] || least=$took
+    done
+    echo "$least"
+}
+
+echo "headers: $accepted sources accepted; all headers of cc, $(wc -l < "$folder/all.i") lines:" \
+    "$(milliseconds "$program" diagnose "$folder/all.i" "$folder/log") ms, and cc -fsyntax-only" \
+    "$(milliseconds cc -fsyntax-only "$folder/all.i") ms"
 exit "$failed"

@@ -432,9 +432,18 @@ def py_statement(node):
     return ["expression", py_expression(node)]
 
 
+# A comment, or a literal, in which no comment begins.
+COMMENT_OR_LITERAL = re.compile(r"""/\*.*?\*/|//[^\n]*|"(?:\\.|[^"\\])*"|'(?:\\.|[^'\\])*'""", re.DOTALL)
+
+
+# The source with a space for each comment, as C99 5.1.1.2 has it: pycparser reads none.
+def without_comments(source):
+    return COMMENT_OR_LITERAL.sub(lambda found: " " if found[0][0] == "/" else found[0], source)
+
+
 def tree_of_pycparser(source):
     out = []
-    for node in c_parser.CParser().parse(source).ext:
+    for node in c_parser.CParser().parse(without_comments(source)).ext:
         if isinstance(node, c_ast.FuncDef):
             out.append(["function", *py_declared(node.decl), py_statement(node.body)])
         else:

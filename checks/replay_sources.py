@@ -1,6 +1,6 @@
 #!/usr/bin/env python3
 """Writes random C99 programs without undefined behaviour, without a loop of more than eight turns and without calls
-deeper than eight: `run_sources.py FOLDER COUNT [SEED]` writes FOLDER/N.c for N below COUNT. Each prints what it works
+deeper than eight: `replay_sources.py FOLDER COUNT [SEED]` writes FOLDER/N.c for N below COUNT. Each prints what it works
 out, so that two ways of running it can be compared byte by byte. The functions that it takes from the C library are
 printf, exit, strlen, strcmp, strncmp, strchr, strcpy, strcat, memset, memcpy and atoi."""
 import random
@@ -17,8 +17,18 @@ CONVERSIONS = {
     'long long': ['%lld', '%+lld', '%025lld'], 'unsigned long long': ['%llu', '%llx', '%#llo'],
     'char': ['%hhd', '%d'], '_Bool': ['%d', '%u']}
 EXTRAS = [(' %c', ", 'q'"), (' %s', ', "text"'), (' %5s|', ', "ab"'), (' %-4s|', ', "ab"'), (' %.2s', ', "abcdef"'),
-          (' %%', ''), (' %*d', ', 7, 42'), (' %.*d', ', 4, 42'), (' %-*d|', ', -6, 5')]
+          (' %%', ''), (' %*d', ', 7, 42'), (' %.*d', ', 4, 42'), (' %-*d|', ', -6, 5'), (' %3c|%-3c|', ", 'x', 66"),
+          (' %c', ', 0'), (' %p|%8p|%-8p|', ', (void *)0, (char *)0, (void *)0'), (' %.*s|', ', -1, "all"'),
+          (' %*.*s|', ', 6, 2, "abc"'), (' %jd %zu %td %zd %ji', ', -5l, 6ul, 7l, 8l, 9l'), (' %.0d|%.0x|%#.0o|', ', 0, 0, 0'),
+          (' %+.4d|% 6.3d|%-+8i|', ', 12, -7, 3'), (' %#010x|%-#10X|%#8o|', ', 48879, 48879, 8'), (' %.s|', ', "none"'),
+          (' %hho %hhX %ho %lo %llX', ', 200, 200, 40000, 8ul, 3735928559ull'), (' %s%s', ', "a\\0b", "\\x41\\102"')]
 WIDE = ['unsigned int', 'unsigned long', 'unsigned long long']
+
+HEADERS = ['#include <stdio.h>', '#include <string.h>', '#include <stdlib.h>']
+DECLARATIONS = ['int printf(const char *, ...); void exit(int); unsigned long strlen(const char *); int atoi(const char *);',
+                'int strcmp(const char *, const char *); int strncmp(const char *, const char *, unsigned long);',
+                'char *strchr(const char *, int); char *strcpy(char *, const char *); char *strcat(char *, const char *);',
+                'void *memset(void *, int, unsigned long); void *memcpy(void *, const void *, unsigned long);']
 
 
 class Program:
@@ -133,7 +143,7 @@ class Program:
         self.put('}' + tail)
 
     def statement(self, kinds, targets, depth, in_loop):
-        form = self.below(22) if depth else self.below(7)
+        form = self.below(29) if depth else self.below(7)
         if form < 2 or not kinds:
             kind, name = self.pick(KINDS + ['_Bool']), self.name('v')
             self.put(f'{kind} {name} = {self.expression(sorted(kinds))};')
@@ -168,6 +178,20 @@ class Program:
             self.structure(sorted(kinds))
         elif form == 20:
             self.text()
+        elif form == 21:
+            self.bytes_of(sorted(kinds))
+        elif form == 22:
+            self.matrix(sorted(kinds))
+        elif form == 23:
+            self.records(sorted(kinds))
+        elif form == 24:
+            self.pointers(sorted(kinds))
+        elif form == 25:
+            self.nest(sorted(kinds))
+        elif form == 26:
+            self.walk_of_text(sorted(kinds))
+        elif form == 27:
+            self.sequence(kinds, targets)
         else:
             self.braced('', kinds, targets, depth, in_loop)
 
@@ -224,12 +248,18 @@ class Program:
         one, two, pointer = self.name('x'), self.name('y'), self.name('q')
         first, last = fields[0], fields[-1]
         value = lambda: self.expression(names, 1)
-        values = f'{value()}, .{last[0]} = {value()}, .bytes[1] = {value()}' if keyword == 'struct' else f'.{first[0]} = {value()}'
+        if keyword == 'union':
+            self.pick(fields)
+        # (a designator of a later member of a union isn't taken yet)
+        named = first
+        values = f'{value()}, .{last[0]} = {value()}, .bytes[1] = {value()}' if keyword == 'struct' else f'.{named[0]} = {value()}'
         self.put(f'{keyword} {tag} {one} = {{ {values} }};')
         self.put(f'{keyword} {tag} {two} = {one}, *{pointer} = &{two};')
         self.put(f'{pointer}->{first[0]} = {self.expression(names, 2)};')
         self.put(f'{one}.bytes[0] = {pointer}->bytes[{self.below(3)}];' if keyword == 'struct' else f'{one} = {two};')
         name, kind = self.pick(fields) if keyword == 'struct' else first
+        if keyword == 'union':
+            self.put(f'printf("%d\\n", {one}.bytes[0] == (unsigned char){one}.{name});')
         shown = f'{self.pick(CONVERSIONS[kind])} {self.pick(CONVERSIONS[kind])}'
         self.put(f'printf("{tag} {shown} %zu\\n", {one}.{name}, {pointer}->{name}, sizeof({keyword} {tag}));')
 
@@ -244,7 +274,108 @@ class Program:
         self.put(f"char *{at} = strchr({text}, '{self.pick('aeg1 ')}');")
         self.put(f'printf("%ld\\n", {at} ? (long)({at} - {text}) : -1l);')
 
+    def bytes_of(self, names):
+        """An integer's bytes, read and written by a pointer to another type."""
+        kind, name, at = self.pick(KINDS), self.name('w'), self.name('b')
+        self.put(f'{kind} {name} = {self.expression(names, 2)};')
+        self.put(f'unsigned char *{at} = (unsigned char *)&{name};')
+        self.put(f'{at}[sizeof {name} - 1] {self.pick(["^=", "+=", "="])} {self.expression(names, 1)};')
+        self.put(f'printf("{name} {self.pick(CONVERSIONS[kind])} %d %d\\n", {name}, *{at}, {at} < (unsigned char *)(&{name} + 1));')
+
+    def matrix(self, names):
+        kind, rows, columns, table = self.pick(KINDS), self.below(4, 1), self.below(4, 2), self.name('m')
+        i, j, line, total = self.name('i'), self.name('j'), self.name('l'), self.name('sum')
+        row, column = self.below(rows), self.below(columns)
+        value = lambda: self.expression(names, 1)
+        begun = self.pick([f'{{ {value()} }}, ', f'{value()}, {value()}, ', ''])
+        self.put(f'{kind} {table}[{rows}][{columns}] = {{ {begun}[{row}][{column}] = {value()} }}, (*{line})[{columns}];')
+        self.put(f'{table}[{self.below(rows)}][{self.below(columns)}] = {value()};')
+        self.put(f'unsigned long {total} = 0;')
+        self.put(f'for ({line} = {table}; {line} != {table} + {rows}; ++{line}) for (int {j} = 0; {j} < {columns}; {j}++) '
+                 f'{total} = {total} * 7 + (*{line})[{j}];')
+        self.put(f'for (int {i} = 0; {i} < {rows} * {columns}; {i}++) {total} ^= (unsigned long)*(*{table} + {i}) + {i};'
+                 if rows * columns <= 8 else ';')
+        self.put(f'printf("{total} %lu %zu %zu %ld\\n", {total}, sizeof {table}, sizeof *{table}, (long)({line} - {table}));')
+
+    def records(self, names):
+        """An array of structures in which arrays, structures and unions stand, and a list of them by pointers."""
+        tag, inner, array = self.name('r'), self.name('in'), self.name('a')
+        kinds = [self.pick(KINDS) for _ in range(3)]
+        value = lambda: self.expression(names, 1)
+        self.put(f'struct {inner} {{ {kinds[0]} x; {kinds[1]} t[2]; }};')
+        self.put(f'struct {tag} {{ struct {inner} in[2]; struct {tag} *next; union {{ {kinds[2]} v; char c[3]; }} u; const char *s; }};')
+        self.put(f'struct {tag} {array}[3] = {{ {{ {{ {{ {value()}, {{ {value()} }} }}, {{ .t[1] = {value()} }} }}, 0, {{ {value()} }}, "one" }}, '
+                 f'[2] = {{ .s = "two", .in[1].x = {value()}, {{ {value()} }}, .u.v = {value()} }} }}, *{array}_p = {array};')
+        self.put(f'{array}[0].next = &{array}[{self.pick("12")}];')
+        self.put(f'{array}[1] = {array}[{self.pick("02")}];')
+        self.put(f'{array}[1].s = {array}->next->s ? {array}->next->s + 1 : "none";')
+        self.put(f'{array}_p->in[1] = {array}_p->next->in[0];')
+        self.put(f'for ({array}_p = {array}; {array}_p - {array} < 3; {array}_p++) printf("{tag} %ld %ld %ld %d %s\\n", '
+                 f'(long){array}_p->in[0].x, (long){array}_p->in[1].t[1], (long){array}_p->u.v, !{array}_p->next, '
+                 f'{array}_p->s ? {array}_p->s : "-");')
+        self.put(f'printf("%zu %d\\n", sizeof(struct {tag}), (int)((char *){array}[1].in[1].t - (char *)({array} + 1)));')
+
+    def pointers(self, names):
+        """A pointer to a pointer, and objects that are changed by functions."""
+        kind, one, two = self.pick(KINDS), self.name('o'), self.name('o')
+        self.put(f'{kind} {one} = {self.expression(names, 1)}, {two} = {self.expression(names, 1)};')
+        self.put(f'{kind} *{one}_p = &{one}, **{one}_q = &{one}_p;')
+        self.put(f'**{one}_q {self.pick(["=", "&=", "^="])} {self.expression(names, 1)};')
+        self.put(f'*{one}_q = {self.pick([f"&{two}", f"{one}_p == *{one}_q ? &{two} : 0"])};')
+        self.put(f'*{one}_p = {self.expression(names, 1)};')
+        self.put(f'{self.change[kind]}(*{one}_q, &{one});')
+        shown = self.pick(CONVERSIONS[kind])
+        self.put(f'printf("{one} {shown} {shown} %d %d\\n", {one}, {two}, {one}_p == &{one}, {one}_p != 0);')
+
+    def nest(self, names):
+        """Loops in one another, left by goto and by break, and gone on with by continue."""
+        i, j, n, out = self.name('i'), self.name('j'), self.name('n'), self.name('out')
+        self.put(f'int {i}, {j}, {n} = 0;')
+        self.put(f'for ({i} = 0, {j} = {self.below(3)}; {i} < {self.below(6, 2)}; {i}++, {j}--) {{')
+        self.put(f'  int k = {i};')
+        self.put(f'  do {{ if (k == {self.below(4)}) continue; if ({self.expression(names, 1)}) {n} += k; '
+                 f'if ({n} > {self.below(12)}) goto {out}; }} while (k-- > 0);')
+        self.put(f'  while (1) {{ switch ({i} + {j}) {{ case {self.below(4)}: {n}++; break; case {self.below(5, 4)}: {n} += 3; '
+                 f'default: {n} += 2; }} break; }}')
+        self.put('}')
+        self.put(f'{out}: printf("{n} %d %d %d\\n", {i}, {j}, {n});')
+
+    def walk_of_text(self, names):
+        """A literal or an array, read by a pointer to its end."""
+        text, at, n = self.pick(['"a b"', '"x\\tq"', '"0123456"', '""', '"\\377\\1"']), self.name('s'), self.name('n')
+        if self.chance(0.5):
+            self.put(f'const char *{at} = {text};')
+        else:
+            self.put(f'char {at}_t[] = {text}, *{at} = {at}_t;')
+        self.put(f'unsigned {n} = {self.below(100)};')
+        self.put(self.pick([f'while (*{at}) {n} = {n} * 33 + *{at}++;', f'for (; *{at}; ++{at}) {n} ^= (unsigned char)*{at} << 1;',
+                            f'do {n} += *{at}; while (*{at}++);', f'{n} += {at}[0] ? {at}[1] : -1;']))
+        self.put(f'printf("{n} %u %zu\\n", {n}, sizeof {text});')
+
+    def sequence(self, kinds, targets):
+        """Side effects in the orders that C settles."""
+        i, t = self.name('i'), self.name('t')
+        names = sorted(kinds)
+        self.put(f'enum {{ {i}_A = {self.below(9)}, {i}_B, {i}_C = {i}_B * 2 }}; typedef unsigned short {t};')
+        self.put(f'{t} {i} = ({self.expression(names, 1)}, {i}_C);')
+        self.put(f'{i}++ && ({i} += {self.expression(names, 1)}), {i} = {i} ? {i} - 1 : {i}_A;')
+        self.put(f'if (({i} = {self.expression(names, 1)}) || --{i}) {i} |= {i}_B;')
+        self.put(f'static {t} {t}_kept = {self.below(60000)}; {t}_kept = {t}_kept * 3 + {i};')
+        self.put(f'printf("{i} %hu %hu %d\\n", {i}, {t}_kept, {i}_A < {i}_B);')
+
     # ---- functions
+
+    def changes(self):
+        """For each kind a function that changes objects by pointers."""
+        self.change = {}
+        for kind in KINDS:
+            name = self.name('change')
+            self.change[kind] = name
+        for kind, name in self.change.items():
+            if self.chance(0.3) or kind == 'int':
+                self.put(f'static void {name}({kind} *to, {kind} *from) {{ {kind} kept = *to; *to = *from; *from = kept {self.pick("&|^")} 5; }}')
+            else:
+                self.put(f'static void {name}({kind} *to, const {kind} *from) {{ if (to != from) *to = (unsigned char)*from; }}')
 
     def function(self):
         name, result = self.name('f'), self.pick(KINDS)
@@ -272,8 +403,8 @@ class Program:
         return name
 
     def whole(self):
-        for header in ['stdio', 'stdlib', 'string']:
-            self.put(f'#include <{header}.h>')
+        for line in HEADERS if self.chance(0.3) else DECLARATIONS:
+            self.put(line)
         for _ in range(self.below(4, 1)):
             name, kind = self.name('g'), self.pick(KINDS)
             self.put(f'{self.pick(["", "static "])}{kind} {name} = {self.below(128)};')
@@ -282,6 +413,7 @@ class Program:
             name, kind, length = self.name('table'), self.pick(KINDS), self.below(6, 2)
             self.put(f'static {kind} {name}[{length}] = {{ {", ".join(str(self.below(100)) for _ in range(length))} }};')
             self.arrays.append((name, length))
+        self.changes()
         for _ in range(self.below(4, 1)):
             self.function()
         recursive = self.recursion() if self.chance(0.4) else None
