@@ -64,14 +64,14 @@ pub deeper : (levels n : ℕ) (tables : Tables) (x : Typed) (f : Frame) (fs ds :
     → descends levels tables x (f ∷ fs) ≡ descends n tables x (with_part_left tables ds)
 deeper levels n tables x f fs ds e h =
     ap (λ m. descends m tables x (f ∷ fs)) e
-    ∙ deeper_by n tables x (part_at tables f.whole f.next) (stepped f ∷ fs) ds
+    ∙ deeper_by n tables x (part_at tables f.whole f.next) (stepped tables f ∷ fs) ds
     (is_scalar_part (part_at tables f.whole f.next).type || is_whole_of (part_at tables f.whole f.next).type x) h
 
 pub found : (levels n : ℕ) (tables : Tables) (x : Typed) (f : Frame) (fs : List Frame) (q : Part × List Frame)
     → levels ≡ suc n → descent tables x f fs ≡ Ok q → descends levels tables x (f ∷ fs) ≡ Some q
 found levels n tables x f fs q e h =
     ap (λ m. descends m tables x (f ∷ fs)) e
-    ∙ found_by n tables x (part_at tables f.whole f.next) (stepped f ∷ fs) q
+    ∙ found_by n tables x (part_at tables f.whole f.next) (stepped tables f ∷ fs) q
     (is_scalar_part (part_at tables f.whole f.next).type || is_whole_of (part_at tables f.whole f.next).type x) h
 
 pub at_the_end : (tables : Tables) (x : Typed) (fs : List Frame) → descends 0 tables x fs ≡ None

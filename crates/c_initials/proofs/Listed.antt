@@ -59,7 +59,7 @@ says_item x =
 -- a list for a part of its own is between what it begins with and where the braces go on
 pub within : (at : ℕ) (fs : List Fills) (frames : List Frame) (y : Filled) (s : Scope) →
     fills_list at fs frames (filling_in y s)
-    ≡ closed (goes_on frames y.high) (fills_all fs (filling_in (opened at s.tables frames y) s))
+    ≡ closed (goes_on s.tables frames y.high) (fills_all fs (filling_in (opened at s.tables frames y) s))
 within at fs [] y s = refl
 within at fs (f ∷ gs) y s = refl
 

@@ -72,8 +72,8 @@ abbrev pub descent : Tables → Typed → Frame → List Frame → Result (Part 
 descent tables x f fs =
     let p = part_at tables f.whole f.next in
     elim (is_scalar_part p.type || is_whole_of p.type x) as (λ _. Result (Part × List Frame) (List Frame)) [
-      | true ↦ Ok (p, stepped f ∷ fs)
-      | false ↦ Err (started p ∷ stepped f ∷ fs)
+      | true ↦ Ok (p, stepped tables f ∷ fs)
+      | false ↦ Err (started p ∷ stepped tables f ∷ fs)
     ]
 
 -- a number from 0 that is below a length, where one is known

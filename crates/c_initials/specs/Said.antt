@@ -17,9 +17,10 @@ pub record Goes : Type 0 where
   pub frames : List Frame
   pub high : ℕ
 
-abbrev pub goes_on : List Frame → ℕ → Option Goes
-goes_on [] high = None
-goes_on (f ∷ fs) high = Some (record { frames = stepped f ∷ fs; high = high_of high (stepped f ∷ fs) })
+abbrev pub goes_on : Tables → List Frame → ℕ → Option Goes
+goes_on tables [] high = None
+goes_on tables (f ∷ fs) high =
+    Some (record { frames = stepped tables f ∷ fs; high = high_of high (stepped tables f ∷ fs) })
 
 -- what a list for a part begins with: that part alone, or none where none is left
 abbrev pub opened : ℕ → Tables → List Frame → Filled → Filled

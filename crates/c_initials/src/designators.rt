@@ -234,7 +234,7 @@ fn goes_into(alloc: Global, scope: &Scope, filling: Filling) -> Result<Filling, 
         None => Ok(filling),
         Some(frame) => {
             let part = part_at(alloc, scope.tables(), &frame.whole, frame.next)?;
-            let filling = filling.within(frame.stepped())?;
+            let filling = filling.within(frame.stepped(scope.tables()))?;
             filling.within(Frame::started(part))
         }
     }

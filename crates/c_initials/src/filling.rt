@@ -142,7 +142,7 @@ fn descended(
     ensures { IfOk result (λ r. r ≡ descent scope.now.tables (typed_in told.now scope.now) frame frames) }
 {
     let part = part_at(alloc, scope.tables(), &frame.whole, frame.next)?;
-    let frames = frames.with(frame.stepped())?;
+    let frames = frames.with(frame.stepped(scope.tables()))?;
     if is_filled(alloc, part.get(), told)? {
         Ok(Ok(Found { part, frames }))
     } else {

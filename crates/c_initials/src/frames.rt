@@ -5,7 +5,7 @@ ghost use Rattle.std.specs.Option.{option_copied};
 ghost use Rattle.c_says.specs.Initials as spec;
 ghost use Rattle.c_initials.specs.Filled.{innermost, only, full};
 
-use crate::parts::{Part, has_part};
+use crate::parts::{Part, behind, has_part};
 use c_type_terms::Tables;
 use plain_data::Shared;
 use std::alloc::{AllocError, Global};
@@ -35,14 +35,12 @@ impl Frame {
     }
 
     /// The same object, behind its next part. Parts are counted up to 2^64 - 1.
-    pub fn stepped(self) -> Frame
-        ensures { result ≡ spec.stepped self }
+    pub fn stepped(self, tables: &Tables) -> Frame
+        ensures { result ≡ spec.stepped tables.now self }
     {
         let Frame { whole, next } = self;
-        Frame {
-            whole,
-            next: next.saturating_add(1),
-        }
+        let next = behind(tables, whole.get().ctype.get(), next);
+        Frame { whole, next }
     }
 }
 

@@ -1,6 +1,6 @@
 //! The parts of objects (C99 6.7.8p17, p20).
 
-ghost use Rattle.std.specs.Prelude.{◌≡◌, ◌+◌, ◌*◌, ◌||◌, IfOk, slice_get};
+ghost use Rattle.std.specs.Prelude.{◌≡◌, ◌+◌, ◌*◌, ◌||◌, IfOk, length, slice_get};
 ghost use Rattle.c_type_terms.specs.Types.{aggregate_of, element_of};
 ghost use Rattle.c_type_terms.specs.Layouts as layouts;
 ghost use Rattle.c_says.specs.Initials as spec;
@@ -86,17 +86,23 @@ fn form_of(tables: &Tables, number: Option<u32>) -> AggregateForm
     }
 }
 
-/// How many members an initializer without designators goes through: of a union the first alone (C99 6.7.8p17).
-fn member_count(tables: &Tables, ctype: &CType) -> usize
-    ensures { result ≡ spec.member_count (spec.form_of_number tables.now (aggregate_of ctype.now)) (spec.sized_members tables.now (layouts.members_of tables.now ctype.now)) }
+/// How many members can be initialised.
+fn member_count(tables: &Tables, ctype: &CType) -> u64
+    ensures { result ≡ length (spec.sized_members tables.now (layouts.members_of tables.now ctype.now)) }
 {
-    let members = sized_members(tables, tables.members_of(ctype));
-    match form_of(tables, ctype.aggregate()) {
-        AggregateForm::Structure => members.len(),
-        AggregateForm::Union => match members.split_first() {
-            Some(_) => 1,
-            None => 0,
+    sized_members(tables, tables.members_of(ctype)).len() as u64
+}
+
+/// The number of the part behind one, up to 2^64 - 1: behind a member of a union no part is left (C99 6.7.8p17).
+pub(crate) fn behind(tables: &Tables, ctype: &CType, index: u64) -> u64
+    ensures { result ≡ spec.behind tables.now ctype.now index }
+{
+    match ctype.class() {
+        Class::Aggregate(_) => match form_of(tables, ctype.aggregate()) {
+            AggregateForm::Structure => index.saturating_add(1),
+            AggregateForm::Union => member_count(tables, ctype),
         },
+        _ => index.saturating_add(1),
     }
 }
 
@@ -110,7 +116,7 @@ pub(crate) fn has_part(tables: &Tables, ctype: &CType, index: u64) -> bool
             Some((Derivation::Array(Some(length)), _)) => index < *length,
             _ => true,
         },
-        Class::Aggregate(_) => index < member_count(tables, ctype) as u64,
+        Class::Aggregate(_) => index < member_count(tables, ctype),
         _ => index == 0,
     }
 }

@@ -53,7 +53,7 @@ pub fn list_begun(
     filling: Filling,
 ) -> Result<Opened, AllocError>
     ensures inside { IfOk result (λ o. o.inside ≡ said.opened at scope.now.tables filling.frames filling) }
-    ensures outside { IfOk result (λ o. o.outside ≡ said.goes_on filling.frames filling.high) }
+    ensures outside { IfOk result (λ o. o.outside ≡ said.goes_on scope.now.tables filling.frames filling.high) }
 {
     let mut filling = filling;
     match filling.frames.pop() {
@@ -69,7 +69,7 @@ pub fn list_begun(
         }
         Some(frame) => {
             let part = part_at(alloc, scope.tables(), &frame.whole, frame.next)?;
-            begun_within(alloc, part, filling.within(frame.stepped())?)
+            begun_within(alloc, part, filling.within(frame.stepped(scope.tables()))?)
         }
     }
 }

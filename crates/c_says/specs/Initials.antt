@@ -95,18 +95,11 @@ abbrev pub form_of_number : Tables → Option ℕ → AggregateForm
 form_of_number tables None = form_.Structure
 form_of_number tables (Some n) = form_at tables.aggregates n
 
--- how many members an initializer without designators goes through: of a union the first alone (C99 6.7.8p17)
-abbrev pub member_count : AggregateForm → List Member → ℕ
-member_count form_.Structure ms = length ms
-member_count form_.Union [] = 0
-member_count form_.Union (m ∷ ms) = 1
-
 -- whether there is a part of this number: in an array of unknown length always, in a scalar the scalar itself
 abbrev pub has_part_in : Tables → CType → Class → List Derivation → ℕ → Bool
 has_part_in tables t class.Array (d.Array (Some n) ∷ ds) i = nat_lt i n
 has_part_in tables t class.Array ds i = true
-has_part_in tables t (class.Aggregate n) ds i = nat_lt i (member_count (form_of_number tables (aggregate_of t))
-    (sized_members tables (members_of tables t)))
+has_part_in tables t (class.Aggregate n) ds i = nat_lt i (length (sized_members tables (members_of tables t)))
 has_part_in tables t class ds i = nat_eq i 0
 
 abbrev pub has_part : Tables → CType → ℕ → Bool
@@ -164,9 +157,23 @@ with_part_left tables (f ∷ fs) = cond (has_part tables f.whole.type f.next) (f
 abbrev pub part_count : ℕ → ℕ
 part_count n = min n 18446744073709551615
 
+-- what is next behind a part of this number: behind a member of a union no part is left, whichever it is
+-- (C99 6.7.8p17)
+abbrev pub behind_member : AggregateForm → List Member → ℕ → ℕ
+behind_member form_.Structure ms i = part_count (suc i)
+behind_member form_.Union ms i = length ms
+
+abbrev pub behind_in : Tables → CType → Class → ℕ → ℕ
+behind_in tables t (class.Aggregate n) i =
+    behind_member (form_of_number tables (aggregate_of t)) (sized_members tables (members_of tables t)) i
+behind_in tables t class i = part_count (suc i)
+
+abbrev pub behind : Tables → CType → ℕ → ℕ
+behind tables t i = behind_in tables t (class_of t) i
+
 -- the part behind the next one of a frame
-abbrev pub stepped : Frame → Frame
-stepped f = record f { next = part_count (suc f.next) }
+abbrev pub stepped : Tables → Frame → Frame
+stepped tables f = record f { next = behind tables f.whole.type f.next }
 
 -- how many parts of the braces' object were met
 abbrev pub high_of : ℕ → List Frame → ℕ
@@ -263,8 +270,8 @@ descends zero tables x (f ∷ fs) = None
 descends (suc levels) tables x (f ∷ fs) =
     let p = part_at tables f.whole f.next in
     elim (is_scalar_part p.type || is_whole_of p.type x) as (λ _. Found) [
-      | true ↦ Some (p, stepped f ∷ fs)
-      | false ↦ descends levels tables x (with_part_left tables (started p ∷ stepped f ∷ fs))
+      | true ↦ Some (p, stepped tables f ∷ fs)
+      | false ↦ descends levels tables x (with_part_left tables (started p ∷ stepped tables f ∷ fs))
     ]
 
 abbrev pub fills_found : Typed → Found → Fills
@@ -308,7 +315,8 @@ fills_within fs p frames y =
 -- a list that initialises the next part of the innermost object that has one left (C99 6.7.8p20); there must be one
 abbrev pub fills_list : ℕ → List Fills → List Frame → Fills
 fills_list at fs [] y = fills_all fs (record y { frames = []; faults = y.faults ++ fault_at at rule.TypeMismatch })
-fills_list at fs (f ∷ gs) y = fills_within fs (part_at y.scope.tables f.whole f.next) (stepped f ∷ gs) y
+fills_list at fs (f ∷ gs) y =
+    fills_within fs (part_at y.scope.tables f.whole f.next) (stepped y.scope.tables f ∷ gs) y
 
 -- ---- designators (C99 6.7.8p6, p7, p17, p18)
 
@@ -366,7 +374,9 @@ designates typed (ToElement at e) y = to_element at (typed e y.scope) y
 -- a further designator goes into the part that those before it name
 abbrev pub goes_into : List Frame → Fills
 goes_into [] y = y
-goes_into (f ∷ fs) y = record y { frames = started (part_at y.scope.tables f.whole f.next) ∷ stepped f ∷ fs }
+goes_into (f ∷ fs) y = record y {
+  frames = started (part_at y.scope.tables f.whole f.next) ∷ stepped y.scope.tables f ∷ fs;
+}
 
 abbrev pub designated_further : {E : Type 0} → (E → Scope → Typed) → List (Designates E) → Fills
 designated_further typed [] y = y

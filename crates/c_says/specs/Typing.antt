@@ -811,9 +811,14 @@ comma at x y = over_two at x (used y) (λ a b. second_judged b)
 abbrev pub broken : ℕ → Rule → Called
 broken at r = record { ctype = None; faults = fault_at at r }
 
+-- what a structure given as an argument breaks: the rules of types before that no structure is given
+abbrev pub structure_given : ℕ → Class → Rule
+structure_given n (class.Aggregate m) = cond (nat_eq n m) rule.StructByValue rule.TypeMismatch
+structure_given n _ = rule.TypeMismatch
+
 -- an argument that is converted to the type of its parameter (C99 6.5.2.2p4, p7)
 abbrev pub argument_fault : ℕ → ℕ → Class → Class → List Fault
-argument_fault callee at (class.Aggregate n) parameter = fault_at callee rule.StructByValue
+argument_fault callee at (class.Aggregate n) parameter = fault_at callee (structure_given n parameter)
 argument_fault callee at class.Void parameter = fault_at callee rule.TypeMismatch
 argument_fault callee at from class.Floating = fault_at at rule.FloatUsed
 argument_fault callee at from (class.Integer kind) = []
@@ -887,20 +892,26 @@ is_named (Some e) = true
 abbrev pub named_place : Bool → ℕ → ℕ → ℕ
 named_place is_name at callee = cond is_name callee at
 
--- a call by a pointer stands at the name of the pointer, else at the `(` of the call
-abbrev pub called_through : ℕ → ℕ → Bool → Bool → Called
-called_through at callee is_name is_indirect =
-    broken (named_place is_name at callee) (cond is_indirect rule.IndirectCall rule.TypeMismatch)
+-- what a call through a pointer breaks: the rules of every call of the function, and that it is indirect
+abbrev pub called_through : Tables → ℕ → CType → List Argument → Called
+called_through tables place f xs = record {
+  ctype = None;
+  faults = (called_directly tables place f.derivations (returned_of f) xs).faults ++ fault_at place rule.IndirectCall;
+}
 
-abbrev pub points_to_function : Option CType → Bool
-points_to_function None = false
-points_to_function (Some t) = is_function t
+-- only pointers to functions are called
+abbrev pub called_by_value : Tables → ℕ → Option CType → List Argument → Called
+called_by_value tables place None xs = broken place rule.TypeMismatch
+called_by_value tables place (Some t) xs =
+    cond (is_function t) (called_through tables place t xs) (broken place rule.TypeMismatch)
 
--- the callee is the name of a function, perhaps in parentheses; every other call is indirect (C99 6.5.2.2p1)
+-- The callee is the name of a function, perhaps in parentheses; every other call is indirect (C99 6.5.2.2p1). It stands
+-- at the name of the pointer, else at the `(` of the call.
 abbrev pub called_as : Tables → ℕ → ℕ → Bool → Bool → CType → List Argument → Called
 called_as tables at callee true true t xs = called_directly tables callee t.derivations (returned_of t) xs
-called_as tables at callee false true t xs = called_through at callee false true
-called_as tables at callee is_name false t xs = called_through at callee is_name (points_to_function (target_of t))
+called_as tables at callee false true t xs = called_through tables at t xs
+called_as tables at callee is_name false t xs =
+    called_by_value tables (named_place is_name at callee) (target_of t) xs
 
 -- what is said of arguments together, as values, from left to right: none where one has no type
 pub record Arguments : Type 0 where

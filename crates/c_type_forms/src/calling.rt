@@ -20,6 +20,15 @@ pub fn one_fault(alloc: Global, at: u32, rule: Rule) -> Result<Items<Fault>, All
     Ok(faults)
 }
 
+fn structure_given(number: u32, to: Class) -> Rule
+    ensures { result ≡ spec.structure_given number to }
+{
+    match to {
+        Class::Aggregate(other) if other == number => Rule::StructByValue,
+        _ => Rule::TypeMismatch,
+    }
+}
+
 fn argument_fault(
     alloc: Global,
     callee: u32,
@@ -30,7 +39,7 @@ fn argument_fault(
     ensures { IfOk result (λ faults. faults ≡ spec.argument_fault callee at from to) }
 {
     match (from, to) {
-        (Class::Aggregate(_), _) => one_fault(alloc, callee, Rule::StructByValue),
+        (Class::Aggregate(number), _) => one_fault(alloc, callee, structure_given(number, to)),
         (Class::Void, _) => one_fault(alloc, callee, Rule::TypeMismatch),
         (_, Class::Floating) => one_fault(alloc, at, Rule::FloatUsed),
         (_, Class::Integer(_)) => Ok(Items::new(alloc)),
@@ -200,31 +209,40 @@ fn called_directly(
     }
 }
 
-fn points_to_function(target: Option<CType>) -> bool
-    ensures { result ≡ spec.points_to_function target }
-{
-    match target {
-        Some(target) => is_function(&target),
-        None => false,
-    }
-}
-
+/// A call of a function through a pointer.
 fn called_through(
     alloc: Global,
-    at: u32,
-    callee: u32,
-    is_named: bool,
-    is_indirect: bool,
+    tables: &Tables,
+    place: u32,
+    function: &CType,
+    arguments: &[Argument],
 ) -> Result<Called, AllocError>
-    ensures { IfOk result (λ c. c ≡ spec.called_through at callee is_named is_indirect) }
+    ensures { IfOk result (λ c. c ≡ spec.called_through tables.now place function.now arguments.now) }
 {
-    let place = if is_named { callee } else { at };
-    let rule = if is_indirect {
-        Rule::IndirectCall
-    } else {
-        Rule::TypeMismatch
-    };
-    broken(alloc, place, rule)
+    let called = called_directly(alloc, tables, place, function, arguments)?;
+    let indirect = one_fault(alloc, place, Rule::IndirectCall)?;
+    Ok(Called {
+        ctype: None,
+        faults: joined(called.faults, indirect)?,
+    })
+}
+
+/// A call of what a value points to.
+fn called_by_value(
+    alloc: Global,
+    tables: &Tables,
+    place: u32,
+    target: Option<CType>,
+    arguments: &[Argument],
+) -> Result<Called, AllocError>
+    ensures { IfOk result (λ c. c ≡ spec.called_by_value tables.now place target arguments.now) }
+{
+    match target {
+        Some(target) if is_function(&target) => {
+            called_through(alloc, tables, place, &target, arguments)
+        }
+        _ => broken(alloc, place, Rule::TypeMismatch),
+    }
 }
 
 fn called_as(
@@ -240,10 +258,11 @@ fn called_as(
     let is_named = f.designates.is_some();
     match (is_named, is_function(&f.ctype)) {
         (true, true) => called_directly(alloc, tables, callee, &f.ctype, arguments),
-        (false, true) => called_through(alloc, at, callee, false, true),
+        (false, true) => called_through(alloc, tables, at, &f.ctype, arguments),
         (_, false) => {
-            let is_indirect = points_to_function(f.ctype.target(alloc)?);
-            called_through(alloc, at, callee, is_named, is_indirect)
+            let place = if is_named { callee } else { at };
+            let target = f.ctype.target(alloc)?;
+            called_by_value(alloc, tables, place, target, arguments)
         }
     }
 }
