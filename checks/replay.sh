@@ -1,6 +1,6 @@
 #!/usr/bin/env bash
 # Compares what `sherlog replay` says of programs over worlds: rows that were worked out by hand from C99 and
-# docs/MEANING.md, and random programs, those of csmith too where it is installed, with what the compiled programs print
+# docs/MEANING.md, a program for each construct over three worlds, and random programs, those of csmith too where it is installed, with what the compiled programs print
 # and how they end.
 #
 #     checks/replay.sh [PROGRAM]      without PROGRAM the proved program, or the trial program where that isn't built
@@ -17,6 +17,7 @@ if ! program=$(readlink -f "${1:-$(tools/proved.sh sherlog || tools/trial.sh --b
 fi
 failed=0
 python3 checks/replay_rows.py "$program" checks/replay_rows.txt || failed=1
+python3 checks/constructs.py "$program" "$compiler" || failed=1
 folder=$(mktemp -d) || exit 2
 trap 'rm -rf "$folder"' EXIT
 printf 'sherlog world 1\nend\n' >"$folder/empty.world"
