@@ -1,7 +1,7 @@
 #!/usr/bin/env bash
 # Compares what `sherlog replay` says of programs over worlds: rows that were worked out by hand from C99 and
-# docs/MEANING.md, a program for each construct over three worlds, and random programs, those of csmith too where it is installed, with what the compiled programs print
-# and how they end.
+# docs/MEANING.md; and, with what the compiled programs print and how they end, a program for each construct over three
+# worlds and random programs, those of csmith too where it is installed.
 #
 #     checks/replay.sh [PROGRAM]      without PROGRAM the proved program, or the trial program where that isn't built
 set -u
