@@ -92,7 +92,7 @@ list_whole i at items trailing f p t s is whole begun =
 -- within braces
 pub list_within : (at : ℕ) (fs : List Fills) (f : Filled) (s : Scope) →
     let frames = with_part_left s.tables f.frames in
-    closed (goes_on frames f.high) (fills_all fs (filling_in (opened at s.tables frames (record f { frames = frames })) s))
+    closed (goes_on s.tables frames f.high) (fills_all fs (filling_in (opened at s.tables frames (record f { frames = frames })) s))
     ≡ (list_says at fs).fills (filling_in f s)
 list_within at fs f s =
     let frames = with_part_left s.tables f.frames in

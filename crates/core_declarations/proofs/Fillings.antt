@@ -87,13 +87,13 @@ closed_parts (Some g) y = refl
 
 pub list_says_it : (at : ℕ) (fs : List Fills) (f f1 inside z r : Filled) (o : Option GoesOn) (s t : Scope)
     → f1 ≡ record f { frames = with_part_left s.tables f.frames } → inside ≡ opened at s.tables f1.frames f1
-    → o ≡ goes_on f1.frames f1.high → filling_in z t ≡ fills_all fs (filling_in inside s)
+    → o ≡ goes_on s.tables f1.frames f1.high → filling_in z t ≡ fills_all fs (filling_in inside s)
     → filling_in r t ≡ closed o (filling_in z t) → filling_in r t ≡ (list_says at fs).fills (filling_in f s)
 list_says_it at fs f f1 inside z r o s t left begun behind filled ended =
     ended ∙ ap (closed o) filled
     ∙ ap (λ (o : Option GoesOn). closed o (fills_all fs (filling_in inside s))) behind
-    ∙ ap (λ (g : Filled). closed (goes_on f1.frames f1.high) (fills_all fs (filling_in g s))) begun
-    ∙ ap (λ (g : Filled). closed (goes_on g.frames g.high) (fills_all fs (filling_in (opened at s.tables g.frames g) s))) left
+    ∙ ap (λ (g : Filled). closed (goes_on s.tables f1.frames f1.high) (fills_all fs (filling_in g s))) begun
+    ∙ ap (λ (g : Filled). closed (goes_on s.tables g.frames g.high) (fills_all fs (filling_in (opened at s.tables g.frames g) s))) left
     ∙ list_within at fs f s
 
 -- within braces
