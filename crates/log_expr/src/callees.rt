@@ -21,8 +21,8 @@ pub struct Walk<'a, L, K> {
 
 /// Whether a log call has enough arguments for its format.
 fn is_served(pieces: &Pieces, before: u32, types: &[WordType], count: usize) -> bool
-    ensures { result ≡ true → (length (kinds pieces.now) + before ≤ length types.now) × (length (kinds
-        pieces.now) + before ≤ count) }
+    ensures { result ≡ true → (length (kinds pieces.now) + before ≤ length types.now)
+        × (length (kinds pieces.now) + before ≤ count) }
 {
     let before = before as usize;
     let least = count.min(types.len());

@@ -1,5 +1,5 @@
-//! Which positions of a log the functions of a program can reach: end tables, and the walks of expressions and code along
-//! a log that make them.
+//! Which positions of a log the functions of a program can reach: end tables, and the walks of expressions and code
+//! along a log that make them.
 #![tactic(auto)]
 
 mod bodies;

@@ -26,7 +26,8 @@ fn evaluate<'a, L: Stage, K: Fn(Global, &L, u32, usize, &mut EndTable) -> Result
     table: &mut EndTable,
 ) -> Result<(), AllocError>
     requires { Finds L.site K.Fn walk.now.stage walk.now.call.now }
-    ensures { IfOk result (λ _. Evaluates (L.site walk.now.stage.now) table.old table.new (value e.now) at.old at.new) }
+    ensures { IfOk result (λ _. Evaluates (L.site walk.now.stage.now) table.old table.new (value e.now)
+        at.old at.new) }
 {
     let running = at.take_running(walk.alloc);
     let ended = std::mem::replace(&mut at.ended, Positions::new(walk.alloc));
