@@ -1,7 +1,8 @@
 -- What was found stays so as the table grows.
 use Rattle.std.proofs.Common.{◌≡◌, ℕ, zero, suc, ◌+◌, ◌<◌, eqb, inl, inr, List, [], length, take, get_or, Option, Some, None, refl, sym, ap, subst, ◌∙◌}
 use Rattle.std.proofs.lemmas.Bool.{or_cases, eqb-true}
-use Rattle.core_tree.specs.States.{Done, Calls}
+use Rattle.core_tree.specs.declared.program.Function.{Function}
+use Rattle.core_tree.specs.States.{Done, Calls, Acts}
 use Rattle.core_tree.specs.Codes.{Item}
 use Rattle.core_tree.specs.Values.{Value}
 use Rattle.positions.specs.Sets.{has}
@@ -10,7 +11,8 @@ use Rattle.log_expr.specs.declared.flow.Flow.{Flow}
 use Rattle.log_expr.specs.declared.table.Ends.{Ends}
 use Rattle.log_expr.specs.declared.table.Entry.{Entry}
 use Rattle.log_expr.specs.Below.{Extends}
-use Rattle.log_expr.specs.Covers.{Whole, AgreeAt, Agree, Pair, CoversValue, CoversValues, CoversCode}
+use Rattle.log_expr.specs.CodeWalks.{CoversTest, CoversActs}
+use Rattle.log_expr.specs.Covers.{Whole, AgreeAt, Agree, Pair, CoversValue, CoversValues, CoversCode, CoversBody}
 use Rattle.log_expr.specs.Flows.{Wider}
 use Rattle.log_expr.specs.Logs.{CallsEnd}
 use Rattle.log_expr.specs.Tables.{ends_at, known_at, Grows}
@@ -48,6 +50,19 @@ module _ (w : Whole) (turns n : ℕ) (old now : List (List Entry)) (g : Grows ol
   pub code_grown : (x : Item ℕ) (s u : Flow) → CoversCode w turns (known_at old n) x s u → CoversCode w turns (known_at now n) x s u
   unfolding pair_grown
   code_grown x s u c = record { alike = λ p env base d h. c.alike (pair_grown old now n g p) env base d h }
+
+  pub test_grown : (c : Option (Value ℕ)) (from to : List ℕ) (u : Flow) → CoversTest w turns (known_at old n) c from to u → CoversTest w turns (known_at now n) c from to u
+  unfolding pair_grown
+  test_grown c from to u h = record { alike = λ p env base d r m. h.alike (pair_grown old now n g p) env base d r m }
+
+  pub acts_grown : (f : Acts ℕ) (s u : Flow) → CoversActs w turns (known_at old n) f s u → CoversActs w turns (known_at now n) f s u
+  unfolding pair_grown
+  acts_grown f s u h = record { alike = λ p env base d i. h.alike (pair_grown old now n g p) env base d i }
+
+-- a key's runs; its turns don't count
+pub body_grown : (w : Whole) (n : ℕ) (old now : List (List Entry)) → Grows old now → (fn : Function) (start : ℕ) (e : Ends) → CoversBody w (known_at old n) fn start e → CoversBody w (known_at now n) fn start e
+unfolding pair_grown
+body_grown w n old now g fn start e c = record { alike = λ p vs base s. c.alike (pair_grown old now n g p) vs base s }
 
 -- ---- calls by body, from more positions on
 

@@ -8,3 +8,10 @@ pub mod Growing
 pub mod ValueWalks
 pub mod TrailLaws
 pub mod ExprWalks
+pub mod FlowWays
+pub mod CodeForms
+pub mod Turns
+pub mod CodeSteps
+pub mod OnCodes
+pub mod BodyEnds
+pub mod Whole

@@ -1,5 +1,5 @@
 -- What is known of the function that finds the ends of calls, and what a walk of a part finds.
-use Rattle.std.specs.Prelude.{◌≡◌, ℕ, List, Some, Result, IfOk}
+use Rattle.std.specs.Prelude.{◌≡◌, ◌<◌, ℕ, List, Some, Result, IfOk}
 use Rattle.std.specs.declared.alloc.AllocError.{AllocError}
 use Rattle.std.specs.declared.alloc.Global.{Global}
 use denote.Ref.{Bor, MutBor}
@@ -37,10 +37,10 @@ abbrev pub Finder : Type 0 → Type 0 → Type 1
 Finder L F = Shared F (Global × (Bor L × (ℕ × (ℕ × (MutBor EndTable × Unit {0})))))
     (Result Ends AllocError × (MutBor EndTable × Unit {0}))
 
--- it finds the ends of calls
+-- it finds the ends of calls, where a level is left for them
 pub record Finds {L K : Type 0} (site : L → Site) (k : Finder L K) (here : Bor L) (f : K) : Type 0 where
-  pub callable : (alloc : Global) (g start : ℕ) (m : MutBor EndTable) → k.pre f (alloc, (here, (g, (start, (m, tt)))))
-  pub finds : (alloc : Global) (g start : ℕ) (m n : MutBor EndTable) (r : Result Ends AllocError)
+  pub callable : 0 < (site here.now).left → (alloc : Global) (g start : ℕ) (m : MutBor EndTable) → k.pre f (alloc, (here, (g, (start, (m, tt)))))
+  pub finds : 0 < (site here.now).left → (alloc : Global) (g start : ℕ) (m n : MutBor EndTable) (r : Result Ends AllocError)
       → k.post f (alloc, (here, (g, (start, (m, tt))))) (r, (n, tt))
       → IfOk r (λ e. FoundEnds (site here.now) m.now n.now g start e)
 

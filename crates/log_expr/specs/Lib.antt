@@ -4,4 +4,7 @@ pub mod Covers
 pub mod Sound
 pub mod Logs
 pub mod Trails
+pub mod Courses
+pub mod CodeWalks
 pub mod Below
+pub mod Bodies

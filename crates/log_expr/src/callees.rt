@@ -1,5 +1,5 @@
 //! Where what is called ends.
-ghost use Rattle.std.specs.Prelude.{◌≡◌, ◌≤◌, ◌+◌, true, length, IfOk};
+ghost use Rattle.std.specs.Prelude.{◌≡◌, ◌<◌, ◌≤◌, ◌+◌, true, length, IfOk};
 ghost use Rattle.printf_text.specs.Texts.{kinds};
 ghost use Rattle.log_expr.specs.Below.{Finds, FoundEnds, ReachesCalls, ReachesCallee};
 
@@ -21,7 +21,8 @@ pub struct Walk<'a, L, K> {
 
 /// Whether a log call has enough arguments for its format.
 fn is_served(pieces: &Pieces, before: u32, types: &[WordType], count: usize) -> bool
-    ensures { result ≡ true → (length (kinds pieces.now) + before ≤ length types.now) × (length (kinds pieces.now) + before ≤ count) }
+    ensures { result ≡ true → (length (kinds pieces.now) + before ≤ length types.now)
+        × (length (kinds pieces.now) + before ≤ count) }
 {
     let before = before as usize;
     let least = count.min(types.len());
@@ -35,7 +36,8 @@ fn ends_of<'a, L: Stage, K: Fn(Global, &L, u32, usize, &mut EndTable) -> Result<
     start: usize,
     table: &mut EndTable,
 ) -> Result<Ends, AllocError>
-    requires { Finds L.site K.Fn walk.now.stage walk.now.call.now }
+    requires finds { Finds L.site K.Fn walk.now.stage walk.now.call.now }
+    requires some { 0 < (L.site walk.now.stage.now).left }
     ensures { IfOk result (λ e. FoundEnds (L.site walk.now.stage.now) table.old table.new function start e) }
 {
     (walk.call)(walk.alloc, walk.stage, function, start, table)
@@ -54,7 +56,8 @@ fn body_ends<
     table: &mut EndTable,
 ) -> Result<Positions, AllocError>
     requires { Finds L.site K.Fn walk.now.stage walk.now.call.now }
-    ensures { IfOk result (λ to. ReachesCalls (L.site walk.now.stage.now) table.old table.new function from.now to ended.old ended.new) }
+    ensures { IfOk result (λ to. ReachesCalls (L.site walk.now.stage.now)
+        table.old table.new function from.now to ended.old ended.new) }
 {
     let mut to = Positions::new(walk.alloc);
     if walk.stage.left() == 0 {
@@ -84,7 +87,8 @@ pub fn walk_callee<
     table: &mut EndTable,
 ) -> Result<Positions, AllocError>
     requires { Finds L.site K.Fn walk.now.stage walk.now.call.now }
-    ensures { IfOk result (λ to. ReachesCallee (L.site walk.now.stage.now) table.old table.new callee.now count from.now to ended.old ended.new) }
+    ensures { IfOk result (λ to. ReachesCallee (L.site walk.now.stage.now)
+        table.old table.new callee.now count from.now to ended.old ended.new) }
 {
     let alloc = walk.alloc;
     match callee {

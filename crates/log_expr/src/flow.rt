@@ -1,7 +1,10 @@
 //! Positions at which a run may stand.
 ghost use Rattle.std.specs.Prelude.{◌≡◌, ℤ, Option, [], IfOk, OnOk};
 ghost use Rattle.c_runs.specs.Items.{past_break, past_continue, past_switch, at_label, at_case, at_default};
+ghost use Rattle.bit_words.specs.declared.run.Finish.{Finish};
+ghost use Rattle.c_means.specs.declared.kind.Kind.TheVariants as k;
 ghost use Rattle.c_says.specs.Scopes.{Name};
+ghost use Rattle.log_expr.specs.Courses.{jumps};
 ghost use Rattle.log_expr.specs.Flows.{Arrives, unchanged, Wider};
 
 use positions::Positions;
@@ -104,6 +107,60 @@ impl Flow {
         ensures { OnOk result ((name : Name) → Arrives (at_label name) self.old self.new) }
     {
         self.running.put_all(&self.going)?;
+        Ok(())
+    }
+
+    /// Runs that are running break out (C99 6.8.6.3).
+    pub fn jump_out(&mut self, alloc: Global) -> Result<(), AllocError>
+        ensures { OnOk result (Arrives (jumps k.Breaking) self.old self.new) }
+    {
+        let running = self.take_running(alloc);
+        self.breaking.put_all(&running)?;
+        Ok(())
+    }
+
+    /// Runs that are running go on at the end of the loop's body (C99 6.8.6.2).
+    pub fn jump_on(&mut self, alloc: Global) -> Result<(), AllocError>
+        ensures { OnOk result (Arrives (jumps k.Continuing) self.old self.new) }
+    {
+        let running = self.take_running(alloc);
+        self.continuing.put_all(&running)?;
+        Ok(())
+    }
+
+    /// Runs that are running return (C99 6.8.6.4).
+    pub fn jump_back(&mut self, alloc: Global) -> Result<(), AllocError>
+        ensures { OnOk result (Arrives (jumps k.Returning) self.old self.new) }
+    {
+        let running = self.take_running(alloc);
+        self.returning.put_all(&running)?;
+        Ok(())
+    }
+
+    /// Runs that are running go to a label (C99 6.8.6.1).
+    pub fn jump_to(&mut self, alloc: Global) -> Result<(), AllocError>
+        ensures { OnOk result ((name : Name) → Arrives (jumps (k.Going name)) self.old self.new) }
+    {
+        let running = self.take_running(alloc);
+        self.going.put_all(&running)?;
+        Ok(())
+    }
+
+    /// Runs that are running end.
+    pub fn end(&mut self, alloc: Global) -> Result<(), AllocError>
+        ensures { OnOk result ((f : Finish) → Arrives (jumps (k.Ended f)) self.old self.new) }
+    {
+        let running = self.take_running(alloc);
+        self.ended.put_all(&running)?;
+        Ok(())
+    }
+
+    /// Runs that are running look for a `case` or `default` (C99 6.8.4.2p4).
+    pub fn choose(&mut self, alloc: Global) -> Result<(), AllocError>
+        ensures { OnOk result (Wider self.old.running self.new.choosing) }
+    {
+        let running = self.take_running(alloc);
+        self.choosing.put_all(&running)?;
         Ok(())
     }
 

@@ -24,7 +24,8 @@ fn step_callee<
     table: &mut EndTable,
 ) -> Result<(), AllocError>
     requires { Finds L.site K.Fn walk.now.stage walk.now.call.now }
-    ensures { IfOk result (λ _. WalksCallee (L.site walk.now.stage.now) table.old table.new callee.now count trail.old trail.new) }
+    ensures { IfOk result (λ _. WalksCallee (L.site walk.now.stage.now)
+        table.old table.new callee.now count trail.old trail.new) }
 {
     let to = walk_callee(walk, callee, count, &trail.at, &mut trail.ended, table)?;
     trail.at = to;
@@ -44,7 +45,8 @@ pub fn walk_value<
     table: &mut EndTable,
 ) -> Result<(), AllocError>
     requires { Finds L.site K.Fn walk.now.stage walk.now.call.now }
-    ensures { IfOk result (λ _. WalksValue (L.site walk.now.stage.now) table.old table.new (core.value e.now) trail.old trail.new) }
+    ensures { IfOk result (λ _. WalksValue (L.site walk.now.stage.now) table.old table.new
+        (core.value e.now) trail.old trail.new) }
 {
     match e {
         Expr::Constant { .. } => Ok(()),
@@ -171,7 +173,8 @@ fn walk_values<
     table: &mut EndTable,
 ) -> Result<(), AllocError>
     requires { Finds L.site K.Fn walk.now.stage walk.now.call.now }
-    ensures { IfOk result (λ _. WalksValues (L.site walk.now.stage.now) table.old table.new (map core.value es.now) trail.old trail.new) }
+    ensures { IfOk result (λ _. WalksValues (L.site walk.now.stage.now)
+        table.old table.new (map core.value es.now) trail.old trail.new) }
 {
     for e in es {
         walk_value(walk, e.get(), trail, table)?;
