@@ -8,4 +8,5 @@ pub mod Following
 pub mod Exact
 pub mod Lines
 pub mod Reached
+pub mod Beginnings
 pub mod PlainTexts

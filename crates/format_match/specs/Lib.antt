@@ -2,3 +2,4 @@ pub mod Splits
 pub mod Ways
 pub mod Reading
 pub mod Spelled
+pub mod Beginning

@@ -134,7 +134,7 @@ fn may_go_on(may_end: bool, log: &[u8], at: usize) -> bool
 }
 
 /// Puts a position behind all others, where it is wanted.
-fn push_where(ends: &mut Positions, at: usize, wanted: bool) -> Result<(), AllocError>
+pub(crate) fn push_where(ends: &mut Positions, at: usize, wanted: bool) -> Result<(), AllocError>
     requires { are_before at ends.old ≡ true }
     ensures has { OnOk result ((y : ℕ) → has ends.new y ≡ (has ends.old y || (wanted && nat_eq at y))) }
     ensures below { OnOk result (are_before (at + 1) ends.new ≡ true) }

@@ -8,11 +8,13 @@ mod matching;
 mod reading;
 mod split;
 mod stars;
+mod starting;
 mod way;
 
 pub use ending::ends;
 pub use matching::{MatchFault, splits};
 pub use split::{Constraint, Constraints, Split, SplitList};
+pub use starting::starts;
 
 #[cfg(test)]
 mod tests;

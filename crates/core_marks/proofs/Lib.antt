@@ -1,0 +1,3 @@
+pub mod ExprMarks
+pub mod CodeMarks
+pub mod Loops

@@ -1,0 +1,66 @@
+-- Positions from which a format spells a stretch that isn't empty.
+use Rattle.std.proofs.Common.{◌≡◌, ℕ, ◌+◌, ◌<◌, ◌≤◌, ◌↔◌, ◌||◌, ◌&&◌, eqb, Bool, true, false, List, [], length, get_or, refl, sym, ap, subst, ◌∙◌, arith, inl, inr, ◌⊎◌}
+use Rattle.std.specs.List.{Any}
+use Rattle.std.proofs.lemmas.Bool.{or_cases, or_left, or_right, and_parts, and_from, eqb-true, eq-eqb}
+use Rattle.std.proofs.lemmas.List.Folds.{Any-from_list_any}
+use Rattle.std.proofs.lemmas.List.{get_or_default}
+use Rattle.std.proofs.Math.Nat.{eq-or-lt_of_le}
+use Rattle.printf_text.specs.declared.piece.Piece.{Piece}
+use Rattle.positions.specs.Sets.{has}
+use Rattle.format_match.specs.Spelled.{IsSpelled, EndsExactly}
+use Rattle.format_match.specs.Beginning.{IsBegun, BeginsExactly}
+use Rattle.format_match.proofs.Reached.{stands}
+
+-- ---- one position, by the ends from it
+
+module _ (pieces : List Piece) (log : List ℕ) (from : ℕ) (ends : List ℕ) (e : EndsExactly pieces log from ends) where
+  pub begun_there : Any (λ end. from < end) ends → IsBegun pieces log from
+  begun_there a =
+      let here : has ends a.1 ≡ true =
+      subst (λ x. has ends x ≡ true) (get_or_default ends a.0 0 a.1 a.2 ∙ a.3) (stands ends a.0 a.2) in
+      record { end = a.1; behind = a.4; spelled = (e a.1).0 here }
+
+  pub begun_back : IsBegun pieces log from → Any (λ end. from < end) ends
+  begun_back b =
+      let a = Any-from_list_any (λ y. eqb y b.end) ends ((e b.end).1 b.spelled) in
+      (a.0, a.1, a.2, a.3, subst (λ x. from < x) (sym (eqb-true a.1 b.end a.4)) b.behind)
+
+-- ---- all positions up to one
+
+-- those before a position are exactly these
+pub record BeginsBelow (pieces : List Piece) (log : List ℕ) (at : ℕ) (starts : List ℕ) : Type 0 where
+  pub there : (from : ℕ) → has starts from ≡ true → IsBegun pieces log from
+  pub back : (from : ℕ) → from < at → IsBegun pieces log from → has starts from ≡ true
+
+pub none_below : (pieces : List Piece) (log : List ℕ) → BeginsBelow pieces log 0 []
+none_below pieces log = record { there = λ from h. absurd (never h); back = λ from h b. absurd (omega arith) }
+  where
+    never : false ≡ true → ⊥
+    never e = cc
+
+pub one_below : (pieces : List Piece) (log : List ℕ) (at : ℕ) (old now : List ℕ) (wanted : Bool)
+    → ((wanted ≡ true) ↔ IsBegun pieces log at) → ((y : ℕ) → has now y ≡ (has old y || (wanted && eqb at y)))
+    → BeginsBelow pieces log at old → BeginsBelow pieces log (at + 1) now
+one_below pieces log at old now wanted w is b = record {
+  there = λ from h. elim (or_cases (has old from) (wanted && eqb at from) (sym (is from) ∙ h)) [
+    | inl o ↦ b.there from o
+    | inr n ↦ (let p = and_parts wanted (eqb at from) n in
+        subst (λ x. IsBegun pieces log x) (eqb-true at from p.1) (w.0 p.0))
+  ];
+  back = λ from h s. is from ∙ elim (less from h) [
+    | inl o ↦ or_left (has old from) (wanted && eqb at from) (b.back from o s)
+    | inr e ↦ or_right (has old from) (wanted && eqb at from)
+        (and_from wanted (eqb at from) (w.1 (subst (λ x. IsBegun pieces log x) e s)) (eq-eqb at from (sym e)))
+  ];
+}
+  where
+    below : (from : ℕ) → from < at + 1 → from ≤ at
+    below from h = omega arith
+
+    less : (from : ℕ) → from < at + 1 → (from < at) ⊎ (from ≡ at)
+    less from h = elim (eq-or-lt_of_le (below from h)) [ inl e ↦ inr e | inr l ↦ inl l ]
+
+-- a stretch that isn't empty begins before the log's end
+pub all_below : (pieces : List Piece) (log : List ℕ) (at : ℕ) (starts : List ℕ) → length log ≤ at → BeginsBelow pieces log at starts
+    → BeginsExactly pieces log starts
+all_below pieces log at starts h b from = (b.there from, λ s. b.back from (omega (arith, s.behind, s.spelled.spells.within)) s)
