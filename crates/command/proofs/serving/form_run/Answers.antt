@@ -32,4 +32,4 @@ returns g c =
     c.in_ok-run.run' _ c.requires c.in_ok-config.ensures
     (rw (made.externals, made.profile) at c.in_ok-program.program.kept) c.in_ok-world.ensures c.bounds_of-bounds.ensures
     (rw (made.externals, made.profile) at c.in_ok-unrolled_size.ensures) c.if-branch-gt-MAX_SIZE.false
-    (rw (made.externals, made.profile) at c.in_ok-run.ensures) refl (rw c.as_slice-2.ensures at c.in_ok-end.ensures) refl
+    (rw (made.externals, made.profile) at c.in_ok-run.ensures.runs) refl (rw c.as_slice-2.ensures at c.in_ok-end.ensures) refl
