@@ -2,9 +2,11 @@
 #![tactic(auto)]
 
 mod jumping;
+mod objects;
 mod points;
 mod sifting;
 
 pub use jumping::{give, jump, leave, pass};
+pub use objects::{Object, bear, bury};
 pub use points::{Point, arrive};
 pub use sifting::{Sifted, rejoin, sift};

@@ -1,5 +1,5 @@
 -- Leaves: places by the base, and leaves of each kind.
-use Rattle.std.proofs.Common.{◌≡◌, ℕ, ◌+◌, ◌*◌, ◌%◌, ◌^◌, ◌<◌, ◌≤◌, ℤ, pos, List, [], ◌∷◌, ◌++◌, false, Some, ap, ◌∙◌, arith}
+use Rattle.std.proofs.Common.{◌≡◌, ℕ, ◌+◌, ◌*◌, ◌%◌, ◌^◌, ◌<◌, ◌≤◌, ℤ, pos, List, [], ◌∷◌, ◌++◌, false, Some, ap, sym, ◌∙◌, arith}
 use Rattle.std.specs.Prelude.{Ok, unsigned_abs, cond}
 use Rattle.std.proofs.Common.{negsuc, FitsSigned, to_z, of_z}
 use Rattle.std.specs.Int.{w128}
@@ -18,13 +18,13 @@ use Rattle.term_bank.specs.Values.{Worth, result_of, shifted, Values}
 use Rattle.term_bank.proofs.BankLemmas.{weaken, stays, grows_on}
 use Rattle.path_states.specs.declared.state.State.{State}
 use Rattle.path_states.specs.declared.state.Walked.{Walked}
-use Rattle.path_states.specs.States.{IsState}
+use Rattle.path_states.specs.States.{IsState, IsNumber, number_in}
 use Rattle.path_states.specs.Ways.{Tries}
-use Rattle.path_states.proofs.Growth.{states_grown, states_joined}
+use Rattle.path_states.proofs.Growth.{states_grown, states_joined, number_grown, onto_pushed}
 use Rattle.path_states.proofs.Paths.{walks_none, walks_more, walks_then}
 use Rattle.path_steps.specs.declared.leaf.Leaf.{Leaf}
 use Rattle.path_steps.specs.declared.leaf.Leaf.TheVariants as leaf
-use Rattle.path_steps.specs.Leaves.{leaf_way, HasRoom, IsWithin, room_for, StepsBy, WalksBy, Follows}
+use Rattle.path_steps.specs.Leaves.{shifts, again, tucked, leaf_way, HasRoom, IsWithin, room_for, StepsBy, WalksBy, Follows}
 use Rattle.c_means.specs.Expressions.{behind}
 use Rattle.term_bank.specs.Banks.{IsBank}
 use Rattle.path_states.specs.declared.state.Number.{Number}
@@ -32,7 +32,7 @@ use Rattle.path_states.specs.States.{onto, done_in}
 use Rattle.path_numbers.specs.Answers.{Numbered, Worded}
 use Rattle.path_steps.specs.Operands.{Pops, under, top, on_none}
 use Rattle.path_steps.proofs.AccessLemmas.{load_keeps, put_keeps}
-use Rattle.path_steps.proofs.Trials.{Keeps, answer_keeps, found_by_none, nothing_so}
+use Rattle.path_steps.proofs.Trials.{Keeps, answer_keeps, found_by_none, nothing_so, tries_put, with_operand}
 
 -- ---- places
 
@@ -84,6 +84,8 @@ leaf_keeps (leaf.Put at x) = record {
       put_keeps (under (under h.operands)) at x (unsigned_abs (top (under h.operands))) (top h.operands) h.done k;
 }
 leaf_keeps leaf.Drop = record { keeps = λ e v h k. (k, tt) }
+leaf_keeps leaf.Again = record { keeps = λ e v h k. (k, tt) }
+leaf_keeps leaf.Tuck = record { keeps = λ e v h k. (k, tt) }
 leaf_keeps leaf.Not = record { keeps = λ e v h k. (k, tt) }
 leaf_keeps (leaf.Turn at o word) = record { keeps = λ e v h k. answer_keeps (under h.operands) (turned o word (top h.operands)) at h.done k }
 leaf_keeps (leaf.Numbers at o word) = record {
@@ -99,6 +101,8 @@ enough (leaf.Offset bytes) = tt
 enough (leaf.Load x) = tt
 enough (leaf.Put at x) = tt
 enough leaf.Drop = tt
+enough leaf.Again = tt
+enough leaf.Tuck = tt
 enough leaf.Not = tt
 enough (leaf.Turn at o word) = tt
 enough (leaf.Numbers at o word) = tt
@@ -178,6 +182,52 @@ dropped room a b s t x h = record {
     sized = λ e v m r d k. tt;
   };
 }
+
+-- ---- operands that stand otherwise
+
+-- a run with the operand on top put back
+held : (b : List Shape) (s t : State) (xs : List Number) → t ≡ record s { operands = t.operands }
+    → record t { operands = xs } ≡ record s { operands = xs }
+held b s t xs same = ap (λ (u : State). record u { operands = xs }) same
+
+pub stands_again : (room : ℕ) (a b : List Shape) (s t : State) (x : Number) → Pops a b s t x
+    → Tries room a b s (record {
+      going = record t { operands = (t.operands ++ x ∷ []) ++ x ∷ [] } ∷ [];
+      ended = [];
+    }) (shifts again)
+stands_again room a b s t x h =
+    let u : State = record t { operands = t.operands ++ x ∷ [] } in
+    tries_put room a b s u x (shifts again) h.grows (with_operand b t t.operands x h.state h.number) h.number
+    (held b s t (t.operands ++ x ∷ []) h.same)
+    (λ e v m r.
+    ap (λ z. Some (Ok (record { operands = z ∷ z ∷ under (onto v [] s.operands); done = done_in v s }))) (sym (h.is e v m))
+    ∙ ap (λ l. Some (Ok (record { operands = number_in v x ∷ number_in v x ∷ l; done = done_in v s }))) (sym (h.rest e v m))
+    ∙ ap (λ l. Some (Ok (record { operands = number_in v x ∷ l; done = done_in v s }))) (sym (onto_pushed v [] t.operands x)))
+    (record { keeps = λ e v d k. (k, tt) })
+
+pub stands_tucked : (room : ℕ) (a b c : List Shape) (s t u : State) (x y : Number) → Pops a b s t x → Pops b c t u y
+    → Tries room a c s (record {
+      going = record u { operands = ((u.operands ++ x ∷ []) ++ y ∷ []) ++ x ∷ [] } ∷ [];
+      ended = [];
+    }) (shifts tucked)
+stands_tucked room a b c s t u x y h i =
+    let first : IsNumber c x = number_grown i.grows x h.number in
+    let p : State = record u { operands = u.operands ++ x ∷ [] } in
+    let q : State = record u { operands = (u.operands ++ x ∷ []) ++ y ∷ [] } in
+    let zs : Values → List ℤ = λ v. onto v [] s.operands in
+    tries_put room a c s q x (shifts tucked) (grows_on h.grows i.grows)
+    (with_operand c p p.operands y (with_operand c u u.operands x i.state first) i.number) first
+    (held c t u q.operands i.same ∙ held c s t q.operands h.same)
+    (λ e v m r.
+    let mb = weaken i.grows m in
+    let second : top (under (zs v)) ≡ number_in v y = sym (i.is e v m ∙ ap top (h.rest e v mb)) in
+    let rest : under (under (zs v)) ≡ onto v [] u.operands = sym (i.rest e v m ∙ ap under (h.rest e v mb)) in
+    ap (λ z. Some (Ok (record { operands = z ∷ top (under (zs v)) ∷ z ∷ under (under (zs v)); done = done_in v s }))) (sym (h.is e v mb))
+    ∙ ap (λ z. Some (Ok (record { operands = number_in v x ∷ z ∷ number_in v x ∷ under (under (zs v)); done = done_in v s }))) second
+    ∙ ap (λ l. Some (Ok (record { operands = number_in v x ∷ number_in v y ∷ number_in v x ∷ l; done = done_in v s }))) rest
+    ∙ ap (λ l. Some (Ok (record { operands = number_in v x ∷ number_in v y ∷ l; done = done_in v s }))) (sym (onto_pushed v [] u.operands x))
+    ∙ ap (λ l. Some (Ok (record { operands = number_in v x ∷ l; done = done_in v s }))) (sym (onto_pushed v [] (u.operands ++ x ∷ []) y)))
+    (record { keeps = λ e v d k. (k, tt) })
 
 pub followed : (b c : List Shape) (w u : Walked) (x : Leaf) → WalksBy b c w.going x u
     → Follows b c w (record { going = u.going; ended = w.ended ++ u.ended }) x

@@ -1,5 +1,5 @@
 -- What the leaves of expressions do to a run.
-use Rattle.std.specs.Prelude.{ℕ, suc, List, ◌+◌, ◌<◌, ◌-◌, ◌^◌, ℤ, pos, negsuc, ◌≤ℤ◌, Some, Ok, unsigned_abs}
+use Rattle.std.specs.Prelude.{ℕ, suc, List, ◌∷◌, ◌+◌, ◌<◌, ◌-◌, ◌^◌, ℤ, pos, negsuc, ◌≤ℤ◌, Some, Ok, unsigned_abs}
 use Rattle.c_store.specs.Store.{start}
 use Rattle.c_type_terms.specs.Integers.{is_zero, number_of}
 use Rattle.core_tree.specs.Numbers.{converted_to, turned, worked}
@@ -14,7 +14,17 @@ use Rattle.path_steps.specs.declared.leaf.Leaf.{Leaf}
 use Rattle.path_steps.specs.declared.leaf.Leaf.TheVariants as leaf
 use Rattle.c_means.specs.Expressions.{behind}
 use Rattle.path_steps.specs.Memories.{IsScalar, load_by, put_by}
-use Rattle.path_steps.specs.Operands.{on_none, on_one, on_two, under}
+use Rattle.path_steps.specs.Operands.{on_none, on_one, on_two, top, under}
+
+-- operands that stand otherwise
+abbrev pub shifts : (List ℤ → List ℤ) → Trial
+shifts f e v h = Some (Ok (record { operands = f h.operands; done = h.done }))
+
+abbrev pub again : List ℤ → List ℤ
+again zs = top zs ∷ top zs ∷ under zs
+
+abbrev pub tucked : List ℤ → List ℤ
+tucked zs = top zs ∷ top (under zs) ∷ top zs ∷ under (under zs)
 
 abbrev pub leaf_way : Leaf → Trial
 leaf_way (leaf.Constant z) = on_none (λ e d. found z d)
@@ -27,7 +37,9 @@ leaf_way (leaf.Turn at operator word) = on_one (λ e z d. or_stop at (turned ope
 leaf_way (leaf.Numbers at operator word) = on_two (λ e x y d. or_stop at (worked operator word x y) d)
 leaf_way (leaf.Load access) = on_one (λ e z d. load_by access (unsigned_abs z) d)
 leaf_way (leaf.Put at access) = on_two (λ e a z d. put_by at access (unsigned_abs a) z d)
-leaf_way leaf.Drop = λ e v h. Some (Ok (record { operands = under h.operands; done = h.done }))
+leaf_way leaf.Drop = shifts under
+leaf_way leaf.Again = shifts again
+leaf_way leaf.Tuck = shifts tucked
 
 -- constants are numbers of a type of C
 pub record IsWithin (z : ℤ) : Type 0 where

@@ -44,4 +44,8 @@ pub enum Leaf {
     },
     /// The value on top isn't used.
     Drop,
+    /// The value on top stands there twice.
+    Again,
+    /// The value on top stands below the next one too.
+    Tuck,
 }

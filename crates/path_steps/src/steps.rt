@@ -8,7 +8,7 @@ ghost use Rattle.c_store.specs.Store.{start};
 ghost use Rattle.c_means.specs.Expressions.{behind};
 ghost use Rattle.path_numbers.specs.Answers.{IsMaybeFault};
 ghost use Rattle.path_steps.specs.Exits.{Settles, exit_at};
-ghost use Rattle.path_steps.specs.Leaves.{IsLeaf, StepsBy, WalksBy, Follows};
+ghost use Rattle.path_steps.specs.Leaves.{IsLeaf, StepsBy, WalksBy, Follows, shifts, again, tucked};
 ghost use Rattle.path_steps.specs.Operands.{on_none, on_one, on_two, under};
 
 use crate::addresses::natural;
@@ -221,6 +221,30 @@ fn drop_step(alloc: Global, bank: &mut Bank, state: State) -> Result<Walked, Ban
     Ok(walked)
 }
 
+fn again_step(alloc: Global, bank: &mut Bank, state: State) -> Result<Walked, BankFault>
+    requires { IsState bank.old state }
+    ensures { IfOk result (λ w. (room : ℕ) → Tries room bank.old bank.new state w (shifts again)) }
+{
+    let mut state = state;
+    let operand = pop(bank, &mut state)?;
+    state.operands.push(operand)?;
+    let walked = put(alloc, state, operand)?;
+    Ok(walked)
+}
+
+fn tuck_step(alloc: Global, bank: &mut Bank, state: State) -> Result<Walked, BankFault>
+    requires { IsState bank.old state }
+    ensures { IfOk result (λ w. (room : ℕ) → Tries room bank.old bank.new state w (shifts tucked)) }
+{
+    let mut state = state;
+    let first = pop(bank, &mut state)?;
+    let second = pop(bank, &mut state)?;
+    state.operands.push(first)?;
+    state.operands.push(second)?;
+    let walked = put(alloc, state, first)?;
+    Ok(walked)
+}
+
 /// What a leaf makes of a state whose run is inside an expression: the states that go on, and those that have ended. It
 /// fails for want of memory alone.
 pub fn step(alloc: Global, bank: &mut Bank, leaf: Leaf, state: State) -> Result<Walked, BankFault>
@@ -259,6 +283,14 @@ pub fn step(alloc: Global, bank: &mut Bank, leaf: Leaf, state: State) -> Result<
         }
         Leaf::Drop => {
             let walked = drop_step(alloc, bank, state)?;
+            Ok(walked)
+        }
+        Leaf::Again => {
+            let walked = again_step(alloc, bank, state)?;
+            Ok(walked)
+        }
+        Leaf::Tuck => {
+            let walked = tuck_step(alloc, bank, state)?;
             Ok(walked)
         }
         Leaf::Not => {

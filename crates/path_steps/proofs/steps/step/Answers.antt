@@ -52,6 +52,12 @@ returns-in_ok-walked-in-Load c = rw c.in-Load.is (record { tries = λ room h. c.
 pub returns-in_ok-walked-in-Put : goal.returns-in_ok-walked-in-Put
 returns-in_ok-walked-in-Put c = rw c.in-Put.is (record { tries = λ room h. c.in_ok-walked-in-Put.ensures room })
 
+pub returns-in_ok-walked-in-Again : goal.returns-in_ok-walked-in-Again
+returns-in_ok-walked-in-Again c = rw c.in-Again.is (record { tries = λ room h. c.in_ok-walked-in-Again.ensures room })
+
+pub returns-in_ok-walked-in-Tuck : goal.returns-in_ok-walked-in-Tuck
+returns-in_ok-walked-in-Tuck c = rw c.in-Tuck.is (record { tries = λ room h. c.in_ok-walked-in-Tuck.ensures room })
+
 pub returns-in_ok-walked-in-Drop : goal.returns-in_ok-walked-in-Drop
 returns-in_ok-walked-in-Drop c = rw c.in-Drop.is (record { tries = λ room h. c.in_ok-walked-in-Drop.ensures room })
 

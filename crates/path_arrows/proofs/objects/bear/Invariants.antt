@@ -1,0 +1,13 @@
+use Rattle.std.proofs.Common.{ℕ, List, Some, take}
+use Rattle.core_tree.specs.States.{along, born}
+use Rattle.path_states.specs.Ways.{Goes}
+use Rattle.path_arrows.specs.Arrows.{by_arrow}
+use Rattle.path_arrows.specs.Objects.{Fit, made_at}
+use Rattle.term_bank.specs.Values.{Grows}
+use Rattle.path_arrows.proofs.objects.bear.Given as goal
+
+abbrev pub invariant-loop-state : goal.invariant-loop-state
+invariant-loop-state l = record {
+  grows : Grows l.initial.bank l.bank;
+  goes : (room : ℕ) (log : List ℕ) → Fit room l.objects → Goes room l.initial.bank l.bank (take l.state-index l.states) l.all (by_arrow (λ e d. Some (born (along log) (made_at e.base l.objects) d)));
+}
