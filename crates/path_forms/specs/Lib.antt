@@ -1,0 +1,5 @@
+pub mod Around
+pub mod Reaching
+pub mod Accesses
+pub mod Steps
+pub mod Waits
