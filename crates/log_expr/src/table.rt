@@ -1,5 +1,5 @@
 //! End tables.
-ghost use Rattle.std.specs.Prelude.{◌≡◌, ◌<◌, ◌++◌, ◌∷◌, [], ℕ, length, Some, None, IfOk, OnOk};
+ghost use Rattle.std.specs.Prelude.{◌≡◌, ◌<◌, ◌++◌, ◌∷◌, [], ℕ, length, Some, None, IfOk, OnOk, slice_index_or};
 ghost use Rattle.std.specs.Option.{option_copied};
 ghost use Rattle.log_expr.specs.Tables.{ends_at, found, is_of, Puts};
 
@@ -91,6 +91,23 @@ impl EndTable {
             return None;
         }
         found(self.rows[start].as_slice(), function, depth)
+    }
+
+    /// How many positions have a row.
+    pub fn len(&self) -> usize
+        ensures { result ≡ length self.now }
+    {
+        self.rows.len()
+    }
+
+    /// The entries of the functions that are called at a position.
+    pub fn row(&self, start: usize) -> &[Entry]
+        ensures { result.now ≡ slice_index_or self.now start [] }
+    {
+        if start >= self.rows.len() {
+            return &[];
+        }
+        self.rows[start].as_slice()
     }
 
     /// Makes rows up to a position.

@@ -27,7 +27,7 @@ use Rattle.path_arrows.specs.Objects.{made_at, Fit, stored_born, stored_dead, Pl
 
 -- ---- places
 
-placed : (base offset room : ℕ) → base + room ≤ 2 ^ 32 → offset < room → ((base % 2 ^ 64) + offset) % 2 ^ 64 ≡ base + offset
+placed : (base offset room : ℕ) → base + room ≤ 2 ^ 32 → offset ≤ room → ((base % 2 ^ 64) + offset) % 2 ^ 64 ≡ base + offset
 placed base offset room h k =
     let small : base < 2 ^ 64 = omega arith in
     let sum : base + offset < 2 ^ 64 = omega arith in
@@ -62,7 +62,7 @@ bears_one a b c d m number size n x hp hs hm = record {
         let kc = weaken hm.grows k in
         ap (λ (w : Worth). w.store) (hm.value.is e v k)
         ∙ ap (λ p. make p (record { kind = Automatic; size = (v size.index).word }) (v m.index).store)
-        (((hp.placed room fit.0.0).is e v (weaken hs.grows kc)) r)
+        (((hp.placed room (omega (arith, fit.0.0))).is e v (weaken hs.grows kc)) r)
         ∙ ap (λ z. make (e.base + x.offset) (record { kind = Automatic; size = z }) (v m.index).store)
         (ap (λ (w : Worth). w.word) (hs.value.is e v kc));
   };
@@ -76,7 +76,7 @@ buries_one a b c m number n x hp hm = record {
   remakes = λ room fit. record {
     is = λ e v k r.
         ap (λ (w : Worth). w.store) (hm.value.is e v k)
-        ∙ ap (λ p. end p (v m.index).store) ((hp.placed room fit.0.0).is e v (weaken hm.grows k) r);
+        ∙ ap (λ p. end p (v m.index).store) ((hp.placed room (omega (arith, fit.0.0))).is e v (weaken hm.grows k) r);
   };
 }
 

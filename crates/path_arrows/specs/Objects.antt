@@ -1,5 +1,5 @@
 -- Objects of a block, by their places behind the base (C99 6.2.4p5).
-use Rattle.std.specs.Prelude.{◌≡◌, ℕ, ◌+◌, ◌<◌, ◌^◌, List, [], ◌∷◌}
+use Rattle.std.specs.Prelude.{◌≡◌, ℕ, ◌+◌, ◌≤◌, ◌<◌, ◌^◌, List, [], ◌∷◌}
 use Rattle.c_store.specs.declared.object.ObjectKind.TheVariants.{Automatic}
 use Rattle.c_store.specs.Store.{Store, make, end}
 use Rattle.c_runs.specs.Items.{Made}
@@ -36,7 +36,7 @@ pub record IsPlaced (room : ℕ) (a b : List Shape) (n : Node) (offset : ℕ) : 
 pub record Places (a b : List Shape) (n : Node) (offset : ℕ) : Type 0 where
   pub grows : Grows a b
   pub term : IsTerm b (Word W64) n
-  pub placed : (room : ℕ) → offset < room → IsPlaced room a b n offset
+  pub placed : (room : ℕ) → offset ≤ room → IsPlaced room a b n offset
 
 -- a memory of another one's store, in environments with the room
 pub record Remakes (room : ℕ) (b : List Shape) (m n : Node) (f : Environment → Store → Store) : Type 0 where

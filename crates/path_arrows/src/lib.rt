@@ -7,6 +7,6 @@ mod points;
 mod sifting;
 
 pub use jumping::{give, jump, leave, pass};
-pub use objects::{Object, bear, bury};
+pub use objects::{Object, bear, bury, place};
 pub use points::{Point, arrive};
 pub use sifting::{Sifted, rejoin, sift};

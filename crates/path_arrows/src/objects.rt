@@ -25,7 +25,8 @@ pub struct Object {
     pub size: u64,
 }
 
-fn place(bank: &mut Bank, offset: u64) -> Result<Node, BankFault>
+/// The place that is so many behind the base. It fails for want of memory alone.
+pub fn place(bank: &mut Bank, offset: u64) -> Result<Node, BankFault>
     ensures { IfOk result (λ n. Places bank.old bank.new n offset) }
 {
     let base = bank.base()?;

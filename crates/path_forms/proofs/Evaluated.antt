@@ -2,7 +2,6 @@
 use Rattle.std.proofs.Common.{◌≡◌, ℕ, ◌+◌, ℤ, pos, List, ◌++◌, Bool, cond, refl, sym, ap, subst, ◌∙◌, arith, add-zero}
 use Rattle.std.specs.Prelude.{unsigned_abs, not}
 use Rattle.bit_words.specs.declared.run.Side.TheVariants as side
-use Rattle.bit_words.specs.declared.run.Happening.TheVariants as happening
 use Rattle.c_type_terms.specs.Integers.{is_zero, number_of}
 use Rattle.c_means.specs.Values.{address}
 use Rattle.c_means.specs.Expressions.{behind}
@@ -42,13 +41,13 @@ use Rattle.path_forms.proofs.SideLemmas.{beside_sides, beside_as, walks_met, wal
 
 -- ---- places
 
-further : (base place r p : ℕ) → p ≡ place + r → base + p ≡ (base + place) + r
+pub further : (base place r p : ℕ) → p ≡ place + r → base + p ≡ (base + place) + r
 further base place r p h = omega arith
 
 farther : (base place r s p q : ℕ) → p ≡ place + r → q ≡ p + s → base + q ≡ ((base + place) + r) + s
 farther base place r s p q h k = omega arith
 
-two_rooms : (place r s p q : ℕ) → p ≡ place + r → q ≡ p + s → q ≡ place + (r + s)
+pub two_rooms : (place r s p q : ℕ) → p ≡ place + r → q ≡ p + s → q ≡ place + (r + s)
 two_rooms place r s p q h k = omega arith
 
 three_rooms : (place r s t p q k : ℕ) → p ≡ place + r → q ≡ p + s → k ≡ q + t → k ≡ place + (r + (s + t))
@@ -56,7 +55,7 @@ three_rooms place r s t p q k h i j = omega arith
 
 module _ (x : Around) (frame : List Placed) (room : ℕ) where
   -- by what the core says of the form
-  evaluates_as : (t : Expr) (q : Value ℕ) (a b : List Shape) (w u : Walked) (place next : ℕ) (g : Trial) → value {O = ℕ} t ≡ q
+  pub evaluates_as : (t : Expr) (q : Value ℕ) (a b : List Shape) (w u : Walked) (place next : ℕ) (g : Trial) → value {O = ℕ} t ≡ q
       → next ≡ place + q.needs.room x.measures → Reaches room a b w u g
       → ((e : Environment) (v : Values) → Models b e v → IsRoomy room e → (h : Held) → g e v h ≡ worth_way x frame place q e v h)
       → Evaluates x frame room t a b w u place next

@@ -6,3 +6,5 @@ pub mod Located
 pub mod OperatorLemmas
 pub mod Started
 pub mod WaitLemmas
+pub mod CallLemmas
+pub mod ArgumentLemmas

@@ -16,7 +16,7 @@ use Rattle.core_tree.proofs.Equations.{worth-Local, worth-Fixed, worth-Offset}
 use Rattle.term_bank.specs.Values.{Environment}
 use Rattle.path_forms.specs.declared.frame.Placed.{Placed}
 use Rattle.path_forms.specs.Around.{Around, level_at, env_at, bound, IsPlace, FoundIn}
-use Rattle.path_forms.specs.Accesses.{IsFarther, IsNamed, IsNear, EndsBelow}
+use Rattle.path_forms.specs.Accesses.{IsFarther, HasScalarSize, IsNamed, IsNear, IsAccess, EndsBelow}
 
 -- ---- frames
 
@@ -132,3 +132,53 @@ pub near_tested : (x : Around) (frame : List Placed) (room : ℕ) (access : Acce
 near_tested x frame room access t h = record {
   near = λ e r base d. ends_tested access ((value {O = ℕ} t).run (level_at x e) (env_at frame e) base d) h;
 }
+
+ends_near : (x : Around) (frame : List Placed) (room : ℕ) (access : Access) (t : Expr) (f : Option ℕ) (size n : ℕ)
+    → IfSome f (λ k. (x : Around) → IsNamed x frame room t k) → IsFarther f size n → size ≡ size_of access.stored
+    → IsNear x frame room access t
+ends_near x frame room access t None size n h i same = absurd (none i.was)
+  where
+    none : {k : ℕ} → ◌≡◌ {A = Option ℕ} None (Some k) → ⊥
+    none e = cc
+ends_near x frame room access t (Some k) size n h i same =
+    let from : k ≡ i.from = some i.was in
+    let sum : k + size_of access.stored ≤ 2 ^ 32 = omega (arith, from, i.sum, i.small, same) in
+    near_named x frame room access t k (h x) sum
+  where
+    some : {m : ℕ} → ◌≡◌ {A = Option ℕ} (Some k) (Some m) → k ≡ m
+    some e = cc
+
+module _ (frame : List Placed) (room : ℕ) (access : Access) (t : Expr) (size : ℕ)
+    (h : HasScalarSize access.stored size) where
+  pub access_tested : access.is_tested ≡ true → (x : Around) → IsAccess x frame room access t
+  access_tested is x = record { scalar = h.scalar; near = near_tested x frame room access t is }
+
+  pub access_near : (f : Option ℕ) (n : ℕ) → IfSome f (λ k. (x : Around) → IsNamed x frame room t k)
+      → IsFarther f size n → (x : Around) → IsAccess x frame room access t
+  access_near f n named ends x = record { scalar = h.scalar; near = ends_near x frame room access t f size n named ends h.size }
+
+-- ---- addresses by their form
+
+module _ (frame : List Placed) (room : ℕ) (t : Expr) where
+  pub by_local : (at : ℕ) (f : Option ℕ) → t ≡ expr.Local at
+      → IfSome f (λ n. (x : Around) → IsNamed x frame room (expr.Local at) n)
+      → IfSome f (λ n. (x : Around) → IsNamed x frame room t n)
+  by_local at f is h =
+      let P : Expr → Type 0 = λ e. IfSome f (λ n. (x : Around) → IsNamed x frame room e n) in
+      subst P (sym is) h
+
+  pub by_fixed : (place : ℕ) (f : Option ℕ) → t ≡ expr.Fixed place
+      → IfSome f (λ n. (x : Around) (frame : List Placed) (room : ℕ) → IsNamed x frame room (expr.Fixed place) n)
+      → IfSome f (λ n. (x : Around) → IsNamed x frame room t n)
+  by_fixed place None is h = tt
+  by_fixed place (Some n) is h = λ x.
+      let P : Expr → Type 0 = λ e. IsNamed x frame room e n in
+      subst P (sym is) (h x frame room)
+
+  pub by_offset : (bytes : ℕ) (y z : Expr) (f g : Option ℕ) → t ≡ expr.Offset bytes y → z ≡ y
+      → IfSome f (λ n. (x : Around) → IsNamed x frame room z n) → IfSome g (IsFarther f bytes)
+      → IfSome g (λ n. (x : Around) → IsNamed x frame room t n)
+  by_offset bytes y z f None is same h i = tt
+  by_offset bytes y z f (Some n) is same h i = λ x.
+      let P : Expr → Type 0 = λ e. IsNamed x frame room e n in
+      subst P (ap (λ e. expr.Offset bytes e) same ∙ sym is) (distant x frame room z f bytes n h i)

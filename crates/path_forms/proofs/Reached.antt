@@ -110,6 +110,19 @@ reach_where room a b w u f g same h = record {
       (λ e v m r y. tried_same (p e v y) (f e v) (g e v) (same e v m r)) (h.reaches k ss p q);
 }
 
+-- nothing is done
+pub reach_here : (room : ℕ) (b : List Shape) (w : Walked) → Ready b w → Reaches room b b w w (λ e v h. Some (Ok h))
+reach_here room b w h = record {
+  grows = unchanged;
+  ready = h;
+  reaches = λ k ss f i.
+      walks_where room k b ss w f (λ e v y. tried (f e v y) (λ z. Some (Ok z))) (λ e v m r y. same (f e v y)) i;
+} where
+  same : (o : Option (Result Held (Done ℕ))) → o ≡ tried o (λ z. Some (Ok z))
+  same None = refl
+  same (Some (Ok h)) = refl
+  same (Some (Err d)) = refl
+
 -- the states that go on go on by a trial, and those that end so stand behind those that had ended
 pub reach_behind : (room : ℕ) (a b c : List Shape) (w w' u : Walked) (rest : List State) (f g : Trial) → Reaches room a b w w' f
     → Walks room b c w'.going (record { going = u.going; ended = rest }) g → u.ended ≡ w'.ended ++ rest → Ready c u

@@ -5,7 +5,6 @@ use Rattle.term_bank.specs.declared.shape.Shape.{Shape}
 use Rattle.path_states.specs.declared.state.Walked.{Walked}
 use Rattle.path_steps.specs.declared.leaf.Leaf.TheVariants as leaf
 use Rattle.path_steps.specs.Leaves.{leaf_way}
-use Rattle.path_forms.specs.declared.sides.Sides.{Sides}
 use Rattle.path_forms.specs.declared.sides.Waiting.{Waiting}
 use Rattle.path_forms.specs.Reaching.{Ready, Meets, TurnsTo, Closes}
 use Rattle.path_forms.specs.Waits.{WaitsReady, Changes, MeetsWaiting, ClosesAnd, ClosesOr}

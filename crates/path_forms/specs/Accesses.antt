@@ -3,6 +3,7 @@ use Rattle.std.specs.Prelude.{◌≡◌, Option, ℕ, ◌+◌, ◌≤◌, ◌<�
 use Rattle.c_store.specs.Store.{start}
 use Rattle.core_tree.specs.declared.expr.Expr.{Expr}
 use Rattle.core_tree.specs.declared.types.Access.{Access}
+use Rattle.core_tree.specs.declared.types.ValueType.{ValueType}
 use Rattle.core_tree.specs.Numbers.{size_of}
 use Rattle.core_tree.specs.States.{Done, Outcome, found}
 use Rattle.core_tree.specs.Values.{value}
@@ -40,3 +41,8 @@ pub record IsNear (x : Around) (frame : List Placed) (room : ℕ) (access : Acce
 pub record IsAccess (x : Around) (frame : List Placed) (room : ℕ) (access : Access) (t : Expr) : Type 0 where
   pub scalar : IsScalar access.stored
   pub near : IsNear x frame room access t
+
+-- so many bytes, of a scalar
+pub record HasScalarSize (stored : ValueType) (n : ℕ) : Type 0 where
+  pub scalar : IsScalar stored
+  pub size : n ≡ size_of stored

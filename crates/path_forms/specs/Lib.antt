@@ -3,3 +3,4 @@ pub mod Reaching
 pub mod Accesses
 pub mod Steps
 pub mod Waits
+pub mod Calling

@@ -14,6 +14,12 @@ pub enum WalkFault {
     /// A pointer is moved or compared by order: not walked yet.
     #[error("a pointer that is moved")]
     MovedPointer,
+    /// More places than 64 bits count, or than the room of the function has.
+    #[error("a place beyond the room")]
+    TooFar,
+    /// What a call or an access does here isn't walked yet.
+    #[error("a step that isn't walked yet")]
+    Unwalked,
     /// A side of a branch is missing: never so where states were parted.
     #[error("a side that is missing")]
     NothingWaits,

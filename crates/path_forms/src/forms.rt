@@ -1,7 +1,7 @@
 //! What single nodes make of states that go on.
-ghost use Rattle.std.specs.Prelude.{OnOk, IfSome};
+ghost use Rattle.std.specs.Prelude.{OnOk, IfSome, IsTrue};
 ghost use Rattle.path_steps.specs.declared.leaf.Leaf.TheVariants as l;
-ghost use Rattle.path_steps.specs.Leaves.{IsLeaf, HasRoom, leaf_way};
+ghost use Rattle.path_steps.specs.Leaves.{IsLeaf, IsWithin, HasRoom, leaf_way};
 ghost use Rattle.path_forms.specs.Reaching.{Ready, Reaches, operated_way};
 ghost use Rattle.path_forms.specs.Steps.{recalled_way, raised_way, Works, ReachesPlace};
 ghost use Rattle.path_steps.specs.Memories.{IsScalar};
@@ -33,6 +33,32 @@ pub fn leaf(
     let now = replace(walked, settled(alloc));
     let done = then_each(alloc, bank, leaf, now)?;
     *walked = done;
+    Ok(())
+}
+
+/// Whether a number is one of an integer type of C.
+fn is_of_a_type(value: i128) -> bool
+    ensures { IsTrue result → IsWithin value }
+{
+    value >= -0x8000_0000_0000_0000 && value <= 0xFFFF_FFFF_FFFF_FFFF
+}
+
+/// A constant. What isn't a number of an integer type, as the value of a structure, isn't walked.
+pub fn constant(
+    alloc: Global,
+    bank: &mut Bank,
+    room: u64,
+    value: &i128,
+    walked: &mut Walked,
+) -> Result<(), WalkFault>
+    requires { Ready bank.old walked.old }
+    ensures { OnOk result (Reaches room bank.old bank.new walked.old walked.new (leaf_way (l.Constant value.now))) }
+{
+    let value = *value;
+    if !is_of_a_type(value) {
+        return Err(WalkFault::Unwalked);
+    }
+    leaf(alloc, bank, room, Leaf::Constant { value }, walked)?;
     Ok(())
 }
 

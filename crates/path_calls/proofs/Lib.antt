@@ -1,0 +1,4 @@
+pub mod BeginLemmas
+pub mod CallTrials
+pub mod ExitLemmas
+pub mod OutsideLemmas

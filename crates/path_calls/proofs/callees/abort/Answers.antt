@@ -1,0 +1,8 @@
+use Rattle.path_calls.proofs.CallTrials.{abort_calls}
+use Rattle.path_calls.proofs.callees.abort.Goals as goal
+
+pub returns : goal.returns
+returns c =
+    let begins = rw c.in_ok-now.ensures at c.in_ok-arguments.ensures in
+    abort_calls c.args.bank.now c.begin.new.bank c.args.state.now c.begin.new.state c.args.site c.in_ok-arguments.arguments
+    c.in_ok-walked.walked begins c.in_ok-walked.ensures

@@ -1,0 +1,8 @@
+use Rattle.path_calls.proofs.CallTrials.{identity_calls}
+use Rattle.path_calls.proofs.callees.identity.Goals as goal
+
+pub returns : goal.returns
+returns c =
+    let begins = rw c.in_ok-now.ensures at c.in_ok-arguments.ensures in
+    identity_calls c.args.bank.now c.begin.new.bank c.argument.new.bank c.answer.new.bank c.args.state.now c.begin.new.state c.args.site
+    c.in_ok-arguments.arguments c.in_ok-number.number c.args.index c.in_ok-walked.walked begins c.in_ok-number.ensures c.in_ok-walked.ensures

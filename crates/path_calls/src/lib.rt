@@ -1,0 +1,13 @@
+//! What calls by rule do to a state: where a call begins, identity calls, ends of the run, and functions outside.
+#![tactic(auto)]
+
+mod answering;
+mod beginning;
+mod callees;
+mod exiting;
+mod outside_words;
+
+pub use answering::{answer, argument};
+pub use beginning::{begin, note, take_arguments};
+pub use callees::{abort, call_by_rule, exit, identity, outside};
+pub use outside_words::outside_word;

@@ -1,0 +1,97 @@
+-- Values stored in objects that are there.
+use Rattle.std.specs.Prelude.{◌≡◌, ℕ, ◌+◌, ◌≤◌, ◌^◌, ℤ, Bool, List, [], ◌∷◌, Some}
+use Rattle.bit_words.specs.declared.width.Width.TheVariants.{W64}
+use Rattle.bit_words.specs.Words.{word}
+use Rattle.c_store.specs.Store.{start, zero_range}
+use Rattle.core_tree.specs.declared.code.Setting.{Setting}
+use Rattle.core_tree.specs.declared.types.ValueType.{ValueType}
+use Rattle.core_tree.specs.Numbers.{size_of}
+use Rattle.core_tree.specs.Memory.{stored}
+use Rattle.core_tree.specs.States.{Arrow, running, with_store}
+use Rattle.core_tree.specs.Codes.{sets, sets_all, zeroed_if}
+use Rattle.term_bank.specs.declared.shape.Shape.{Shape}
+use Rattle.term_bank.specs.Memories as wrapping
+use Rattle.term_bank.specs.Values.{Environment, Grows}
+use Rattle.path_states.specs.declared.state.State.{State}
+use Rattle.path_states.specs.States.{AreStates}
+use Rattle.path_states.specs.Ways.{Way, Steps, Goes}
+use Rattle.path_steps.specs.Memories.{IsScalar}
+use Rattle.path_steps.specs.Operands.{top}
+use Rattle.path_arrows.specs.Arrows.{bare, by_arrow}
+use Rattle.path_forms.specs.declared.frame.Placed.{Placed}
+use Rattle.path_forms.specs.Around.{Around, level_at, env_at}
+use Rattle.path_rooms.specs.Rooms.{setting_room, settings_room}
+use Rattle.path_codes.specs.declared.below.Coded.{Coded}
+use Rattle.path_codes.specs.Courses.{on_top, Toward}
+use Rattle.path_codes.specs.Walks.{WalksTo}
+use Rattle.path_forms.specs.Calling.{Stays}
+
+-- a scalar, so many bytes behind the start of an object, ends within 2^32 bytes of it
+pub record Storable (t : ValueType) (bytes : ℕ) : Type 0 where
+  pub scalar : IsScalar t
+  pub near : bytes + size_of t ≤ 2 ^ 32
+
+-- the value on top is stored in the object of a place behind the base
+abbrev pub stores : ℕ → ℕ → ValueType → Environment → ℤ → Arrow ℕ
+stores object bytes t e z d = Some (stored t (start (e.base + object) + bytes) z d)
+
+pub record Stores (room object bytes : ℕ) (t : ValueType) (a b : List Shape) (ss ts : List State) : Type 0 where
+  pub grows : Grows a b
+  pub states : AreStates b ts
+  pub goes : Goes room a b ss ts (on_top (stores object bytes t))
+
+-- ---- settings of the object of a place behind the base, by runs that are running
+
+abbrev pub set_arrow : Around → List Placed → ℕ → Setting → ℕ → Environment → Arrow ℕ
+set_arrow x frame object s place e =
+    running (sets s (start (e.base + object)) (level_at x e) (env_at frame e) (e.base + place))
+
+abbrev pub settings_arrow : Around → List Placed → ℕ → List Setting → ℕ → Environment → Arrow ℕ
+settings_arrow x frame object all place e =
+    running (sets_all all (start (e.base + object)) (level_at x e) (env_at frame e) (e.base + place))
+
+abbrev pub WalksSet : Around → List Placed → ℕ → ℕ → Setting → List Shape → List Shape → List State → ℕ → Coded → Type 0
+WalksSet x frame room object s a b ss place y =
+    WalksTo room (set_arrow x frame object s place) (setting_room x.measures s) a b ss place y
+
+abbrev pub WalksSettings :
+    Around → List Placed → ℕ → ℕ → List Setting → List Shape → List Shape → List State → ℕ → Coded → Type 0
+WalksSettings x frame room object all a b ss place y =
+    WalksTo room (settings_arrow x frame object all place) (settings_room x.measures all) a b ss place y
+
+-- of these settings those are left that stand behind
+pub record SettingsOn (x : Around) (frame : List Placed) (room object : ℕ) (start : List Shape → Type 0) (all rest : List Setting)
+    (a b : List Shape) (ss ts : List State) (place next : ℕ) : Type 0 where
+  pub begun : Stays start b
+  pub states : AreStates b ts
+  pub rooms : next + settings_room x.measures rest ≡ place + settings_room x.measures all
+  pub toward : Toward room a b ss ts (settings_arrow x frame object rest next) (settings_arrow x frame object all place)
+
+-- ---- objects set to 0
+
+-- from the address on top on
+abbrev pub zeroing : ℕ → Way
+zeroing size e v h =
+    Some (bare (with_store (wrapping.zero_range (word W64 (top h.operands)) size h.done.store) h.done))
+
+pub record ZeroesOne (a b : List Shape) (size : ℕ) (s t : State) : Type 0 where
+  pub steps : (room : ℕ) → Steps room a b s (t ∷ []) (zeroing size)
+
+pub record ZeroesAll (a b : List Shape) (size : ℕ) (ss ts : List State) : Type 0 where
+  pub grows : Grows a b
+  pub states : AreStates b ts
+  pub goes : (room : ℕ) → Goes room a b ss ts (zeroing size)
+
+pub record Zeroes (room object size : ℕ) (a b : List Shape) (ss ts : List State) : Type 0 where
+  pub grows : Grows a b
+  pub states : AreStates b ts
+  pub goes : Goes room a b ss ts (by_arrow (λ e d. Some (with_store (zero_range (start (e.base + object)) size d.store) d)))
+
+-- by runs that are running, where an initializer asks for it
+abbrev pub zeroed_arrow : Bool → ℕ → ℕ → Environment → Arrow ℕ
+zeroed_arrow is_zeroed object size e = running (λ d. Some (zeroed_if is_zeroed (start (e.base + object)) size d))
+
+pub record ZeroesIf (room : ℕ) (is_zeroed : Bool) (object size : ℕ) (a b : List Shape) (ss ts : List State) : Type 0 where
+  pub grows : Grows a b
+  pub states : AreStates b ts
+  pub goes : Goes room a b ss ts (by_arrow (zeroed_arrow is_zeroed object size))

@@ -1,0 +1,19 @@
+//! What the core's statements make of states: one function a form, over a function that walks parts.
+#![tactic(auto)]
+
+mod below;
+mod blocks;
+mod bodies;
+mod choices;
+mod labels;
+mod selecting;
+mod settings;
+mod storing;
+mod straight;
+mod turns;
+mod walking;
+mod zeroing;
+
+pub use below::{Coded, Steps};
+pub use bodies::walk_body;
+pub use walking::{walk_code, walk_items};

@@ -1,0 +1,25 @@
+use Rattle.std.proofs.Common.{rules}
+use Rattle.format_match.specs.Splits.{meets, meet_all}
+use Rattle.path_prints.specs.Arguments.{arg_in, args_in}
+use Rattle.path_prints.proofs.ArgumentLemmas.{numbers_rest}
+use Rattle.path_prints.proofs.ConditionLemmas.{met_none, met_both}
+use Rattle.path_prints.proofs.conditions.+meet_all.Goals as goal
+
+pub returns-in_default : goal.returns-in_default
+returns-in_default t c =
+    met_none c.args.bank.now c.truth.new.self c.args.constraints.now c.args.arguments.now c.is_empty.result c.in_ok-truth.truth
+    c.in_default.ensures.cases c.is_empty.ensures c.in_ok-truth.ensures
+
+pub meet_all-requires : goal.meet_all-requires
+meet_all-requires t c = (
+  search rules,
+  numbers_rest c.args.bank.now c.meets.new.bank c.args.arguments.now c.in-Some-split_first.more.now c.in-Some-split_first.number.now
+      c.in_ok-first.ensures.grows c.in-Some-split_first.ensures.cases.0 c.requires,
+)
+
+pub returns : goal.returns
+returns t c =
+    rw (c.in-Some.ensures.cases.0, c.in-Some-split_first.ensures.cases.0)
+    (met_both c.args.bank.now c.meets.new.bank c.meet_all.new.bank c.connect.new.self c.in_ok-first.first c.in_ok-rest.rest c.in_ok-both.both
+    (λ v. meets c.in-Some.constraint.now (arg_in v c.in-Some-split_first.number.now))
+    (λ v. meet_all c.in-Some.others.now (args_in v c.in-Some-split_first.more.now)) c.in_ok-first.ensures c.in_ok-rest.ensures c.in_ok-both.ensures)

@@ -1,0 +1,4 @@
+pub mod Arguments
+pub mod Says
+pub mod Watches
+pub mod Prints

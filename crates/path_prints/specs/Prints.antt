@@ -1,0 +1,50 @@
+-- Where a format has been taken: the print is noted, and its length is answered.
+use Rattle.std.specs.Prelude.{ℕ, zero, suc, ◌-◌, ℤ, pos, List, [], ◌∷◌, ◌++◌, Some}
+use Rattle.bit_words.specs.declared.run.Event.{Event}
+use Rattle.bit_words.specs.declared.run.Happening.TheVariants as happening
+use Rattle.printf_text.specs.declared.piece.Piece.{Piece}
+use Rattle.core_tree.specs.declared.expr.Callee.TheVariants as callee
+use Rattle.core_tree.specs.declared.expr.Watched.{Watched}
+use Rattle.core_tree.specs.declared.types.ValueType.{ValueType}
+use Rattle.core_tree.specs.declared.types.WordType.{WordType}
+use Rattle.core_tree.specs.Numbers.{int, wrapped, converted_to}
+use Rattle.term_bank.specs.declared.sort.Node.{Node}
+use Rattle.term_bank.specs.declared.shape.Shape.{Shape}
+use Rattle.path_states.specs.declared.state.Noted.TheVariants as noted
+use Rattle.path_states.specs.declared.state.Number.{Number}
+use Rattle.path_states.specs.declared.state.PathEvent.{PathEvent}
+use Rattle.path_states.specs.declared.state.State.{State}
+use Rattle.path_states.specs.declared.state.Walked.{Walked}
+use Rattle.path_states.specs.States.{numbers_in}
+use Rattle.path_states.specs.Ways.{Way, Goes, Tries}
+use Rattle.path_forms.specs.declared.calling.CallSite.{CallSite}
+use Rattle.path_forms.specs.declared.frame.Placed.{Placed}
+use Rattle.path_forms.specs.Around.{Around}
+use Rattle.path_forms.specs.Calling.{call_way}
+
+-- nothing printed is no event; what was printed stands from a position on
+abbrev pub print_events : ℕ → ℕ → ℕ → List ℤ → List Event
+print_events at from zero shown = []
+print_events at from (suc n) shown = record { what = happening.Print at (suc n) shown; printed = from } ∷ []
+
+-- from a position on was printed what stands before the run's position
+abbrev pub print_way : ℕ → ValueType → ℕ → List Number → Way
+print_way at type from shown e v h = Some (record {
+  operands = converted_to type (wrapped int (pos (h.done.out - from))) ∷ h.operands;
+  done = record h.done { events = h.done.events ++ print_events at from (h.done.out - from) (numbers_in v shown) };
+})
+
+-- the same as a state notes it
+abbrev pub path_print : Node → ℕ → ℕ → ℕ → List Number → List PathEvent
+path_print always at from zero shown = []
+path_print always at from (suc n) shown =
+    record { what = noted.Print at (suc n) shown; position = from; truth = always } ∷ []
+
+-- a state becomes what a log call makes of its run
+pub record PrintsBy (x : Around) (room : ℕ) (a b : List Shape) (s : State) (frame : List Placed) (ps : List Piece) (before : ℕ)
+    (types : List WordType) (watched : List Watched) (site : CallSite) (w : Walked) : Type 0 where
+  pub tries : Tries room a b s w (call_way x frame (callee.Log ps before types watched) site)
+
+-- the prints of some states
+pub record PrintsEach (a b : List Shape) (at : ℕ) (type : ValueType) (from : ℕ) (shown : List Number) (ss ts : List State) : Type 0 where
+  pub goes : (room : ℕ) → Goes room a b ss ts (print_way at type from shown)

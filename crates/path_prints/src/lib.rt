@@ -1,0 +1,11 @@
+//! What log calls do to a state: the pieces of the format are taken one behind another along the log.
+#![tactic(auto)]
+
+mod arguments;
+mod conditions;
+mod formats;
+mod printing;
+mod says;
+mod watching;
+
+pub use printing::log_call;

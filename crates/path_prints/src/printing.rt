@@ -1,0 +1,185 @@
+//! Log calls.
+ghost use Rattle.std.specs.Prelude.{◌≡◌, ◌++◌, ℕ, pos, IfOk, OnOk};
+ghost use Rattle.core_tree.specs.Numbers.{int, wrapped as wrapped_to, converted_to};
+ghost use Rattle.path_states.specs.States.{IsState, AreStates, AreNumbers};
+ghost use Rattle.path_states.specs.Ways.{Steps, Goes, Tries};
+ghost use Rattle.path_numbers.specs.Answers.{Numbered};
+ghost use Rattle.path_forms.specs.Around.{Around};
+ghost use Rattle.path_forms.specs.Calling.{call_way};
+ghost use Rattle.path_prints.specs.Prints.{path_print, print_way, PrintsBy};
+
+use crate::arguments::{behind, speak};
+use crate::says::say_all;
+use crate::watching::see_all;
+use core_tree::{Callee, ValueType, Watched, WordType};
+use path_calls::begin;
+use path_forms::{CallSite, Placed, WalkFault};
+use path_numbers::{INT, constant, converted, wrapped};
+use path_states::{Noted, Number, PathEvent, State, Walked, alone};
+use plain_data::{Items, Shared};
+use printf_text::Piece;
+use std::alloc::{AllocError, Global};
+use term_bank::{Bank, BankFault, Node};
+
+/// Notes that so many bytes were printed from a position on; nothing printed is no event.
+fn note_print(
+    alloc: Global,
+    always: Node,
+    at: u32,
+    from: usize,
+    length: u64,
+    seen: &[Number],
+    events: &mut Items<PathEvent>,
+) -> Result<(), AllocError>
+    ensures { OnOk result (events.new ≡ events.old ++ path_print always at from length seen.now) }
+{
+    if length == 0 {
+        return Ok(());
+    }
+    let seen = Items::from_slice(alloc, seen)?;
+    let what = Shared::new(alloc, Noted::Print { at, length, seen })?;
+    events.push(PathEvent {
+        what,
+        position: from,
+        truth: always,
+    })?;
+    Ok(())
+}
+
+/// The length as an `int`, converted to the type of the call.
+fn length_answer(bank: &mut Bank, length: u64, to: ValueType) -> Result<Number, BankFault>
+    ensures { IfOk result (λ x. Numbered bank.old bank.new x (λ v. converted_to to (wrapped_to int (pos length)))) }
+{
+    let count = constant(bank, i128::from(length))?;
+    let short = wrapped(bank, count, INT)?;
+    let last = converted(bank, short, to)?;
+    Ok(last)
+}
+
+/// The print of a state that began at a position.
+fn end_print(
+    alloc: Global,
+    bank: &mut Bank,
+    site: CallSite,
+    from: usize,
+    seen: &[Number],
+    state: &State,
+) -> Result<Items<State>, BankFault>
+    requires state { IsState bank.old state.now }
+    requires seen { AreNumbers bank.old seen.now }
+    ensures { IfOk result (λ ts. (room : ℕ) → Steps room bank.old bank.new state.now ts (print_way site.at site.answer from seen.now)) }
+{
+    let length = state.position.saturating_sub(from) as u64;
+    let always = bank.truth(true)?;
+    let last = length_answer(bank, length, site.answer)?;
+    let mut next = state.copy(alloc)?;
+    note_print(alloc, always, site.at, from, length, seen, &mut next.events)?;
+    next.operands.push(last)?;
+    let states = alone(alloc, next)?;
+    Ok(states)
+}
+
+/// The prints of states that began at a position.
+fn end_prints(
+    alloc: Global,
+    bank: &mut Bank,
+    site: CallSite,
+    from: usize,
+    seen: &[Number],
+    states: &[State],
+) -> Result<Items<State>, BankFault>
+    requires states { AreStates bank.old states.now }
+    requires seen { AreNumbers bank.old seen.now }
+    ensures { IfOk result (λ ts. (room : ℕ) → Goes room bank.old bank.new states.now ts (print_way site.at site.answer from seen.now)) }
+{
+    let mut all = Items::new(alloc);
+    for state in states {
+        let more = end_print(alloc, bank, site, from, seen, state)?;
+        all.append(more)?;
+    }
+    Ok(all)
+}
+
+/// A log call by its parts.
+fn print_format(
+    alloc: Global,
+    bank: &mut Bank,
+    log: &[u8],
+    frame: &[Placed],
+    room: u64,
+    pieces: &[Piece],
+    before: u32,
+    types: &[WordType],
+    watched: &[Watched],
+    site: CallSite,
+    state: &State,
+) -> Result<Walked, WalkFault>
+    requires { IsState bank.old state.now }
+    ensures { IfOk result (λ w. (x : Around) → x.log ≡ log.now
+        → PrintsBy x room bank.old bank.new state.now frame.now pieces.now before types.now watched.now site w) }
+{
+    let mut now = state.copy(alloc)?;
+    let arguments = begin(alloc, bank, site, &mut now)?;
+    let mut spoken = Items::new(alloc);
+    speak(bank, types, arguments.as_slice(), &mut spoken)?;
+    let mut seen = Items::new(alloc);
+    see_all(bank, frame, room, now.memory, watched, &mut seen)?;
+    let from = now.position;
+    let first = alone(alloc, now)?;
+    let own = behind(spoken.as_slice(), before);
+    let said = say_all(alloc, bank, log, pieces, own, first)?;
+    let going = end_prints(alloc, bank, site, from, seen.as_slice(), said.as_slice())?;
+    let ended = Items::new(alloc);
+    Ok(Walked { going, ended })
+}
+
+/// What a log call along a log makes of a state, in a function whose objects are known and whose places behind the base
+/// are so many: the states in which the log has the text that is printed, each at the position behind it. It fails
+/// where the format converts a text or a pointer, where an argument is missing, where a variable that is shown isn't a
+/// scalar or its object isn't known, where the state is behind the log's end, and for every other callee.
+pub fn log_call(
+    alloc: Global,
+    bank: &mut Bank,
+    log: &[u8],
+    frame: &[Placed],
+    room: u64,
+    callee: &Callee,
+    site: CallSite,
+    state: &State,
+) -> Result<Walked, WalkFault>
+    requires { IsState bank.old state.now }
+    ensures { IfOk result (λ w. (x : Around) → x.log ≡ log.now
+        → Tries room bank.old bank.new state.now w (call_way x frame.now callee.now site)) }
+{
+    match callee {
+        Callee::Log {
+            pieces,
+            before,
+            types,
+            watched,
+        } => {
+            let walked = print_format(
+                alloc,
+                bank,
+                log,
+                frame,
+                room,
+                pieces.as_slice(),
+                *before,
+                types.as_slice(),
+                watched.as_slice(),
+                site,
+                state,
+            )?;
+            Ok(walked)
+        }
+        Callee::Body { .. }
+        | Callee::Identity { .. }
+        | Callee::Exit
+        | Callee::Abort
+        | Callee::Malloc
+        | Callee::Calloc
+        | Callee::Free
+        | Callee::Outside { .. } => Err(WalkFault::Unwalked),
+    }
+}

@@ -1,0 +1,5 @@
+pub mod PlaceCounts
+pub mod CodeCounts
+pub mod CodeForms
+pub mod Giving
+pub mod Bound

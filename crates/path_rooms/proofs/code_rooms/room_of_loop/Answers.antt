@@ -1,0 +1,6 @@
+use Rattle.path_rooms.proofs.code_rooms.room_of_loop.Goals as goal
+
+pub returns : goal.returns
+returns g c =
+    c.room_of_turns.ensures _
+    (c.both-turn.ensures _ _ c.room_of_option-2.ensures (c.both-behind.ensures _ _ c.room_of_code.ensures c.room_of_option.ensures))

@@ -1,0 +1,4 @@
+pub mod Tours
+pub mod Tables
+pub mod Walking
+pub mod Levels

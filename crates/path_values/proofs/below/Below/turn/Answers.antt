@@ -1,0 +1,9 @@
+use Rattle.path_forms.proofs.Evaluated.{evaluates_turn}
+use Rattle.path_values.proofs.FormLemmas.{evaluated}
+use Rattle.path_values.proofs.below.Below.turn.Goals as goal
+
+pub returns-clause-evaluated : goal.returns-clause-evaluated
+returns-clause-evaluated g c = λ is_constant.
+    evaluated _ _ _ _ _ _ _ _ _ _ _ c.requires.starts
+    (evaluates_turn _ _ _ _ _ _ _ _ _ _ _ _ c.in_ok-next.ensures.evaluated.evaluates c.args.at c.args.operator c.args.word
+    is_constant c.in_ok-leaf.ensures)

@@ -1,0 +1,4 @@
+use Rattle.path_values.proofs.walking.+value_of.Given as goal
+
+abbrev pub decreases-value_of : goal.decreases-value_of
+decreases-value_of g l = l.height

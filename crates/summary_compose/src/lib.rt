@@ -1,0 +1,11 @@
+//! A function's body for all entry memories, arguments and bases at once, put in where the function is called.
+#![tactic(auto)]
+
+mod arguments;
+mod composing;
+mod images;
+mod nodes;
+mod summary;
+
+pub use composing::compose;
+pub use summary::Summary;
