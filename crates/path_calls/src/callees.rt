@@ -88,7 +88,8 @@ fn outside_nothing(
     state: &State,
 ) -> Result<Walked, BankFault>
     requires { IsState bank.old state.now }
-    ensures { IfOk result (λ w. (room : ℕ) → CallsBy room bank.old bank.new state.now (c.Outside OutsideAnswer.Nothing None) site w) }
+    ensures { IfOk result (λ w. (room : ℕ) → CallsBy room bank.old bank.new state.now (c.Outside
+        OutsideAnswer.Nothing None) site w) }
 {
     let mut now = state.copy(alloc)?;
     let arguments = begin(alloc, bank, site, &mut now)?;

@@ -53,7 +53,8 @@ impl<'a, C: Calls, X> Steps<'a, C, X> {
     ) -> Result<Evaluated, WalkFault>
         requires ready { Stays (C.ready self.now.scene.now) bank.old }
         requires states { AreStates bank.old states.now }
-        ensures { IfOk result (EvaluatesTo (C.around self.now.scene.now) frame.now self.now.room e.now bank.old bank.new states.now place) }
+        ensures { IfOk result (EvaluatesTo (C.around self.now.scene.now) frame.now self.now.room e.now bank.old
+            bank.new states.now place) }
     {
         let Sifted { running, others } = sift(self.alloc, states)?;
         let Valued { walked, next } = walk_value(
@@ -104,7 +105,8 @@ impl<
         requires codes { ReachesCode C.around C.ready X.Fn self.now.scene self.now.room self.now.height self.now.code }
         requires ready { Stays (C.ready self.now.scene.now) bank.old }
         requires states { AreStates bank.old states.now }
-        ensures { IfOk result (WalksItem (C.around self.now.scene.now) frame.now self.now.room (form.code code.now) bank.old bank.new states.now place) }
+        ensures { IfOk result (WalksItem (C.around self.now.scene.now) frame.now self.now.room (form.code code.now)
+            bank.old bank.new states.now place) }
     {
         (self.code)(
             self.alloc,

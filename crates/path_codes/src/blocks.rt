@@ -44,7 +44,8 @@ impl<
         requires codes { ReachesCode C.around C.ready X.Fn self.now.scene self.now.room self.now.height self.now.code }
         requires ready { Stays (C.ready self.now.scene.now) bank.old }
         requires states { AreStates bank.old states.now }
-        ensures { IfOk result (WalksItem (C.around self.now.scene.now) frame.now self.now.room (item_of items.now) bank.old bank.new states.now place) }
+        ensures { IfOk result (WalksItem (C.around self.now.scene.now) frame.now self.now.room (item_of items.now)
+            bank.old bank.new states.now place) }
     {
         let mut ran = pass(self.alloc, states)?;
         let mut next = place;
@@ -72,7 +73,8 @@ impl<
         requires codes { ReachesCode C.around C.ready X.Fn self.now.scene self.now.room self.now.height self.now.code }
         requires ready { Stays (C.ready self.now.scene.now) bank.old }
         requires states { AreStates bank.old states.now }
-        ensures { IfOk result (WalksLived (C.around self.now.scene.now) frame.now self.now.room items.now bank.old bank.new states.now place) }
+        ensures { IfOk result (WalksLived (C.around self.now.scene.now) frame.now self.now.room items.now bank.old
+            bank.new states.now place) }
     {
         let mut objects = Items::new(self.alloc);
         add_objects(items, self.scene, place, &mut objects)?;
@@ -102,7 +104,8 @@ impl<
         requires codes { ReachesCode C.around C.ready X.Fn self.now.scene self.now.room self.now.height self.now.code }
         requires ready { Stays (C.ready self.now.scene.now) bank.old }
         requires states { AreStates bank.old states.now }
-        ensures { (is_node : _) → IfOk result (WalksItem (C.around self.now.scene.now) frame.now self.now.room (form.block is_node (map form.code items.now)) bank.old bank.new states.now place) }
+        ensures { (is_node : _) → IfOk result (WalksItem (C.around self.now.scene.now) frame.now self.now.room
+            (form.block is_node (map form.code items.now)) bank.old bank.new states.now place) }
     {
         let Sifted { running, others } = sift(self.alloc, states)?;
         let Coded { states: ran, next } = self.lived(

@@ -149,7 +149,8 @@ fn walk_function<C: Calls>(
     requires ready { Stays (C.ready scene.now) bank.old }
     requires states { AreStates bank.old states.now }
     requires arguments { AreNumbers bank.old arguments.now }
-    ensures { IfOk result (λ ts. WalksBody (C.around scene.now) room function.now arguments.now bank.old bank.new states.now ts) }
+    ensures { IfOk result (λ ts. WalksBody (C.around scene.now) room function.now arguments.now bank.old bank.new
+        states.now ts) }
 {
     let parameters = function.parameters.as_slice();
     let mut objects = Items::new(alloc);
@@ -192,7 +193,8 @@ pub fn walk_body<C: Calls>(
     requires ready { Stays (C.ready scene.now) bank.old }
     requires memory { IsTerm bank.old Memory memory }
     requires arguments { AreNumbers bank.old arguments.now }
-    ensures { IfOk result (λ ts. Embodies (C.around scene.now) room function.now arguments.now memory position bank.old bank.new ts) }
+    ensures { IfOk result (λ ts. Embodies (C.around scene.now) room function.now arguments.now memory position
+        bank.old bank.new ts) }
 {
     let guard = bank.truth(true)?;
     let entry = State {

@@ -48,7 +48,8 @@ impl<
         requires codes { ReachesCode C.around C.ready X.Fn self.now.scene self.now.room self.now.height self.now.code }
         requires ready { Stays (C.ready self.now.scene.now) bank.old }
         requires states { AreStates bank.old states.now }
-        ensures { IfOk result (WalksItem (C.around self.now.scene.now) frame.now self.now.room (form.if_of at (value condition.now) (form.code positive.now) (form.code negative.now)) bank.old bank.new states.now place) }
+        ensures { IfOk result (WalksItem (C.around self.now.scene.now) frame.now self.now.room (form.if_of at (value
+            condition.now) (form.code positive.now) (form.code negative.now)) bank.old bank.new states.now place) }
     {
         let Evaluated { over, on, next } = self.evaluate(frame, condition, place, bank, states)?;
         let Parted { yes, no } = part(self.alloc, bank, at, on.as_slice())?;
@@ -86,7 +87,9 @@ impl<
         requires codes { ReachesCode C.around C.ready X.Fn self.now.scene self.now.room self.now.height self.now.code }
         requires ready { Stays (C.ready self.now.scene.now) bank.old }
         requires states { AreStates bank.old states.now }
-        ensures { (is_node : _) → IfOk result (WalksItem (C.around self.now.scene.now) frame.now self.now.room (form.switch_of at word cases.now (value e.now) is_node (map form.code items.now)) bank.old bank.new states.now place) }
+        ensures { (is_node : _) → IfOk result (WalksItem (C.around self.now.scene.now) frame.now self.now.room
+            (form.switch_of at word cases.now (value e.now) is_node (map form.code items.now)) bank.old bank.new
+            states.now place) }
     {
         let Evaluated { over, on, next } = self.evaluate(frame, e, place, bank, states)?;
         let looking = select_all(self.alloc, bank, at, word, cases, on.as_slice())?;

@@ -59,7 +59,8 @@ impl<
         requires codes { ReachesCode C.around C.ready X.Fn self.now.scene self.now.room self.now.height self.now.code }
         requires ready { Stays (C.ready self.now.scene.now) bank.old }
         requires states { AreStates bank.old states.now }
-        ensures { (more : _) → IfOk result (WalksItem (C.around self.now.scene.now) frame.now self.now.room (form.arrived (at_point point.now) more (form.code body.now)) bank.old bank.new states.now place) }
+        ensures { (more : _) → IfOk result (WalksItem (C.around self.now.scene.now) frame.now self.now.room
+            (form.arrived (at_point point.now) more (form.code body.now)) bank.old bank.new states.now place) }
     {
         let there = arrive(self.alloc, point, states)?;
         let coded = self.part(frame, body, place, bank, there.as_slice())?;
@@ -79,7 +80,8 @@ impl<
         requires codes { ReachesCode C.around C.ready X.Fn self.now.scene self.now.room self.now.height self.now.code }
         requires ready { Stays (C.ready self.now.scene.now) bank.old }
         requires states { AreStates bank.old states.now }
-        ensures { IfOk result (WalksItem (C.around self.now.scene.now) frame.now self.now.room (form.arrived (arriving.at_label name.now) form.no_more (form.code body.now)) bank.old bank.new states.now place) }
+        ensures { IfOk result (WalksItem (C.around self.now.scene.now) frame.now self.now.room (form.arrived
+            (arriving.at_label name.now) form.no_more (form.code body.now)) bank.old bank.new states.now place) }
     {
         let point = at_label(name)?;
         let coded = self.arrived(frame, &point, body, place, bank, states)?;
@@ -99,7 +101,9 @@ impl<
         requires codes { ReachesCode C.around C.ready X.Fn self.now.scene self.now.room self.now.height self.now.code }
         requires ready { Stays (C.ready self.now.scene.now) bank.old }
         requires states { AreStates bank.old states.now }
-        ensures { (more : _) → IfOk result (WalksItem (C.around self.now.scene.now) frame.now self.now.room (form.arrived (arriving.at_case (Some value.now)) more (form.code body.now)) bank.old bank.new states.now place) }
+        ensures { (more : _) → IfOk result (WalksItem (C.around self.now.scene.now) frame.now self.now.room
+            (form.arrived (arriving.at_case (Some value.now)) more (form.code body.now)) bank.old bank.new
+            states.now place) }
     {
         let coded = self.arrived(frame, &at_case(value), body, place, bank, states)?;
         Ok(coded)
@@ -117,7 +121,8 @@ impl<
         requires codes { ReachesCode C.around C.ready X.Fn self.now.scene self.now.room self.now.height self.now.code }
         requires ready { Stays (C.ready self.now.scene.now) bank.old }
         requires states { AreStates bank.old states.now }
-        ensures { IfOk result (WalksItem (C.around self.now.scene.now) frame.now self.now.room (form.arrived arriving.at_default form.no_more (form.code body.now)) bank.old bank.new states.now place) }
+        ensures { IfOk result (WalksItem (C.around self.now.scene.now) frame.now self.now.room (form.arrived
+            arriving.at_default form.no_more (form.code body.now)) bank.old bank.new states.now place) }
     {
         let coded = self.arrived(frame, &Point::Default, body, place, bank, states)?;
         Ok(coded)

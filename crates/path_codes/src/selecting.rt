@@ -122,7 +122,8 @@ fn select_case(
     requires state { IsState bank.old state.now }
     requires number { IsNumber bank.old number }
     requires all { AreStates bank.old all.old }
-    ensures { IfOk result (λ other. SelectsCase bank.old bank.new at word number case.now state.now all.old all.new other) }
+    ensures { IfOk result (λ other. SelectsCase bank.old bank.new at word number case.now state.now all.old all.new
+        other) }
 {
     let same = is_case(bank, word, number, case)?;
     let sides = halve(bank, state.guard, same)?;

@@ -34,7 +34,8 @@ impl<'a, C: Calls, X> Steps<'a, C, X> {
     ) -> Result<Coded, WalkFault>
         requires ready { Stays (C.ready self.now.scene.now) bank.old }
         requires states { AreStates bank.old states.now }
-        ensures { IfOk result (WalksSet (C.around self.now.scene.now) frame.now self.now.room object (s.Value bytes stored e.now) bank.old bank.new states.now place) }
+        ensures { IfOk result (WalksSet (C.around self.now.scene.now) frame.now self.now.room object (s.Value bytes
+            stored e.now) bank.old bank.new states.now place) }
     {
         let Evaluated { over, on, next } = self.evaluate(frame, e, place, bank, states)?;
         let set = store(self.alloc, bank, self.room, object, bytes, stored, on)?;
@@ -54,7 +55,8 @@ impl<'a, C: Calls, X> Steps<'a, C, X> {
     ) -> Result<Coded, WalkFault>
         requires ready { Stays (C.ready self.now.scene.now) bank.old }
         requires states { AreStates bank.old states.now }
-        ensures { IfOk result (WalksSet (C.around self.now.scene.now) frame.now self.now.room object setting.now bank.old bank.new states.now place) }
+        ensures { IfOk result (WalksSet (C.around self.now.scene.now) frame.now self.now.room object setting.now
+            bank.old bank.new states.now place) }
     {
         match setting {
             Setting::Value {
@@ -90,7 +92,8 @@ impl<'a, C: Calls, X> Steps<'a, C, X> {
     ) -> Result<Coded, WalkFault>
         requires ready { Stays (C.ready self.now.scene.now) bank.old }
         requires states { AreStates bank.old states.now }
-        ensures { IfOk result (WalksSettings (C.around self.now.scene.now) frame.now self.now.room object settings.now bank.old bank.new states.now place) }
+        ensures { IfOk result (WalksSettings (C.around self.now.scene.now) frame.now self.now.room object
+            settings.now bank.old bank.new states.now place) }
     {
         let mut ran = pass(self.alloc, states)?;
         let mut next = place;
@@ -148,7 +151,8 @@ impl<'a, C: Calls, X> Steps<'a, C, X> {
     ) -> Result<Coded, WalkFault>
         requires ready { Stays (C.ready self.now.scene.now) bank.old }
         requires states { AreStates bank.old states.now }
-        ensures { IfOk result (WalksItem (C.around self.now.scene.now) frame.now self.now.room (form.declared at size is_zeroed settings.now) bank.old bank.new states.now place) }
+        ensures { IfOk result (WalksItem (C.around self.now.scene.now) frame.now self.now.room (form.declared at
+            size is_zeroed settings.now) bank.old bank.new states.now place) }
     {
         let Some(object) = place_of(frame, self.room, at) else {
             return Err(WalkFault::Unplaced);

@@ -29,7 +29,8 @@ impl<'a, C: Calls, X> Steps<'a, C, X> {
     ) -> Result<Coded, WalkFault>
         requires ready { Stays (C.ready self.now.scene.now) bank.old }
         requires states { AreStates bank.old states.now }
-        ensures { IfOk result (WalksItem (C.around self.now.scene.now) frame.now self.now.room (form.nothing) bank.old bank.new states.now place) }
+        ensures { IfOk result (WalksItem (C.around self.now.scene.now) frame.now self.now.room (form.nothing)
+            bank.old bank.new states.now place) }
     {
         let states = pass(self.alloc, states)?;
         Ok(Coded {
@@ -49,7 +50,8 @@ impl<'a, C: Calls, X> Steps<'a, C, X> {
     ) -> Result<Coded, WalkFault>
         requires ready { Stays (C.ready self.now.scene.now) bank.old }
         requires states { AreStates bank.old states.now }
-        ensures { (is_node : _) → IfOk result (WalksItem (C.around self.now.scene.now) frame.now self.now.room (form.evaluated is_node (value e.now)) bank.old bank.new states.now place) }
+        ensures { (is_node : _) → IfOk result (WalksItem (C.around self.now.scene.now) frame.now self.now.room
+            (form.evaluated is_node (value e.now)) bank.old bank.new states.now place) }
     {
         let Evaluated { over, on, next } = self.evaluate(frame, e, place, bank, states)?;
         let passed = pass(self.alloc, on.as_slice())?;
@@ -68,7 +70,8 @@ impl<'a, C: Calls, X> Steps<'a, C, X> {
     ) -> Result<Coded, WalkFault>
         requires ready { Stays (C.ready self.now.scene.now) bank.old }
         requires states { AreStates bank.old states.now }
-        ensures { IfOk result (WalksItem (C.around self.now.scene.now) frame.now self.now.room (form.maybe_evaluated (option_map value e.now)) bank.old bank.new states.now place) }
+        ensures { IfOk result (WalksItem (C.around self.now.scene.now) frame.now self.now.room (form.maybe_evaluated
+            (option_map value e.now)) bank.old bank.new states.now place) }
     {
         match e {
             Some(e) => self.expression(frame, e.get(), place, bank, states),
@@ -87,7 +90,8 @@ impl<'a, C: Calls, X> Steps<'a, C, X> {
     ) -> Result<Coded, WalkFault>
         requires ready { Stays (C.ready self.now.scene.now) bank.old }
         requires states { AreStates bank.old states.now }
-        ensures { IfOk result (WalksItem (C.around self.now.scene.now) frame.now self.now.room (form.jump kind.now) bank.old bank.new states.now place) }
+        ensures { IfOk result (WalksItem (C.around self.now.scene.now) frame.now self.now.room (form.jump kind.now)
+            bank.old bank.new states.now place) }
     {
         let Sifted { running, others } = sift(self.alloc, states)?;
         let jumped = jump(self.alloc, kind, running.as_slice())?;
@@ -109,7 +113,8 @@ impl<'a, C: Calls, X> Steps<'a, C, X> {
     ) -> Result<Coded, WalkFault>
         requires ready { Stays (C.ready self.now.scene.now) bank.old }
         requires states { AreStates bank.old states.now }
-        ensures { IfOk result (WalksItem (C.around self.now.scene.now) frame.now self.now.room (form.return_of (Some (value e.now))) bank.old bank.new states.now place) }
+        ensures { IfOk result (WalksItem (C.around self.now.scene.now) frame.now self.now.room (form.return_of (Some
+            (value e.now))) bank.old bank.new states.now place) }
     {
         let Evaluated { over, on, next } = self.evaluate(frame, e, place, bank, states)?;
         let given = give(self.alloc, bank, on.as_slice())?;
@@ -128,7 +133,8 @@ impl<'a, C: Calls, X> Steps<'a, C, X> {
     ) -> Result<Coded, WalkFault>
         requires ready { Stays (C.ready self.now.scene.now) bank.old }
         requires states { AreStates bank.old states.now }
-        ensures { IfOk result (WalksItem (C.around self.now.scene.now) frame.now self.now.room (form.return_of (option_map value e.now)) bank.old bank.new states.now place) }
+        ensures { IfOk result (WalksItem (C.around self.now.scene.now) frame.now self.now.room (form.return_of
+            (option_map value e.now)) bank.old bank.new states.now place) }
     {
         match e {
             Some(e) => self.return_value(frame, e.get(), place, bank, states),
@@ -147,7 +153,8 @@ impl<'a, C: Calls, X> Steps<'a, C, X> {
     ) -> Result<Coded, WalkFault>
         requires ready { Stays (C.ready self.now.scene.now) bank.old }
         requires states { AreStates bank.old states.now }
-        ensures { IfOk result (WalksItem (C.around self.now.scene.now) frame.now self.now.room (form.jump (k.Going name.now)) bank.old bank.new states.now place) }
+        ensures { IfOk result (WalksItem (C.around self.now.scene.now) frame.now self.now.room (form.jump (k.Going
+            name.now)) bank.old bank.new states.now place) }
     {
         let label = name.clone()?;
         self.jump(frame, &Kind::Going { label }, place, bank, states)

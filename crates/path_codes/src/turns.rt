@@ -34,7 +34,8 @@ impl<'a, C: Calls, X> Steps<'a, C, X> {
     ) -> Result<Evaluated, WalkFault>
         requires ready { Stays (C.ready self.now.scene.now) bank.old }
         requires states { AreStates bank.old states.now }
-        ensures { IfOk result (TestsTo (C.around self.now.scene.now) frame.now self.now.room at (Some test.now) bank.old bank.new states.now place) }
+        ensures { IfOk result (TestsTo (C.around self.now.scene.now) frame.now self.now.room at (Some test.now)
+            bank.old bank.new states.now place) }
     {
         let Evaluated { over, on, next } = self.evaluate(frame, test, place, bank, states)?;
         let Parted { yes, no } = part(self.alloc, bank, at, on.as_slice())?;
@@ -58,7 +59,8 @@ impl<'a, C: Calls, X> Steps<'a, C, X> {
     ) -> Result<Evaluated, WalkFault>
         requires ready { Stays (C.ready self.now.scene.now) bank.old }
         requires states { AreStates bank.old states.now }
-        ensures { (at : _) → IfOk result (TestsTo (C.around self.now.scene.now) frame.now self.now.room at None bank.old bank.new states.now place) }
+        ensures { (at : _) → IfOk result (TestsTo (C.around self.now.scene.now) frame.now self.now.room at None
+            bank.old bank.new states.now place) }
     {
         let Sifted { running, others } = sift(self.alloc, states)?;
         Ok(Evaluated {
@@ -80,7 +82,8 @@ impl<'a, C: Calls, X> Steps<'a, C, X> {
     ) -> Result<Evaluated, WalkFault>
         requires ready { Stays (C.ready self.now.scene.now) bank.old }
         requires states { AreStates bank.old states.now }
-        ensures { IfOk result (TestsTo (C.around self.now.scene.now) frame.now self.now.room at test.now bank.old bank.new states.now place) }
+        ensures { IfOk result (TestsTo (C.around self.now.scene.now) frame.now self.now.room at test.now bank.old
+            bank.new states.now place) }
     {
         match test {
             Some(test) => self.condition(frame, at, test.get(), place, bank, states),
@@ -119,7 +122,8 @@ impl<
         requires codes { ReachesCode C.around C.ready X.Fn self.now.scene self.now.room self.now.height self.now.code }
         requires ready { Stays (C.ready self.now.scene.now) bank.old }
         requires states { AreStates bank.old states.now }
-        ensures { IfOk result (TurnsTo (C.around self.now.scene.now) frame.now self.now.room at test.now body.now step.now bank.old bank.new states.now place) }
+        ensures { IfOk result (TurnsTo (C.around self.now.scene.now) frame.now self.now.room at test.now body.now
+            step.now bank.old bank.new states.now place) }
     {
         let Evaluated { over, on, next } = self.test(frame, at, test, place, bank, states)?;
         let Coded {
@@ -197,7 +201,9 @@ impl<
         requires codes { ReachesCode C.around C.ready X.Fn self.now.scene self.now.room self.now.height self.now.code }
         requires ready { Stays (C.ready self.now.scene.now) bank.old }
         requires states { AreStates bank.old states.now }
-        ensures { IfOk result (WalksItem (C.around self.now.scene.now) frame.now self.now.room (form.looped at (option_map value test.now) (option_map value step.now) (form.code body.now)) bank.old bank.new states.now place) }
+        ensures { IfOk result (WalksItem (C.around self.now.scene.now) frame.now self.now.room (form.looped at
+            (option_map value test.now) (option_map value step.now) (form.code body.now)) bank.old bank.new
+            states.now place) }
     {
         let room = room_of_loop(self.scene, test, step, body)?;
         let next = sum(place, room)?;
@@ -222,7 +228,8 @@ impl<
         requires codes { ReachesCode C.around C.ready X.Fn self.now.scene self.now.room self.now.height self.now.code }
         requires ready { Stays (C.ready self.now.scene.now) bank.old }
         requires states { AreStates bank.old states.now }
-        ensures { IfOk result (RoundsTo (C.around self.now.scene.now) frame.now self.now.room at body.now test.now bank.old bank.new states.now place) }
+        ensures { IfOk result (RoundsTo (C.around self.now.scene.now) frame.now self.now.room at body.now test.now
+            bank.old bank.new states.now place) }
     {
         let Coded { states: ran, next } = self.part(frame, body, place, bank, states)?;
         let there = arrive(self.alloc, &Point::EndOfTurn, ran.as_slice())?;
@@ -281,7 +288,8 @@ impl<
         requires codes { ReachesCode C.around C.ready X.Fn self.now.scene self.now.room self.now.height self.now.code }
         requires ready { Stays (C.ready self.now.scene.now) bank.old }
         requires states { AreStates bank.old states.now }
-        ensures { IfOk result (WalksItem (C.around self.now.scene.now) frame.now self.now.room (form.repeated at (form.code body.now) (value test.now)) bank.old bank.new states.now place) }
+        ensures { IfOk result (WalksItem (C.around self.now.scene.now) frame.now self.now.room (form.repeated at
+            (form.code body.now) (value test.now)) bank.old bank.new states.now place) }
     {
         let room = room_of_repeat(self.scene, test, body)?;
         let next = sum(place, room)?;

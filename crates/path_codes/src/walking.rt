@@ -42,7 +42,8 @@ impl<
         requires codes { ReachesCode C.around C.ready X.Fn self.now.scene self.now.room self.now.height self.now.code }
         requires ready { Stays (C.ready self.now.scene.now) bank.old }
         requires states { AreStates bank.old states.now }
-        ensures { IfOk result (WalksItem (C.around self.now.scene.now) frame.now self.now.room (form.code code.now) bank.old bank.new states.now place) }
+        ensures { IfOk result (WalksItem (C.around self.now.scene.now) frame.now self.now.room (form.code code.now)
+            bank.old bank.new states.now place) }
     {
         match code {
             Code::Nothing { .. } => self.nothing(frame, place, bank, states),
@@ -136,7 +137,8 @@ pub fn walk_code<C: Calls>(
 ) -> Result<Coded, WalkFault>
     requires ready { Stays (C.ready scene.now) bank.old }
     requires states { AreStates bank.old states.now }
-    ensures { IfOk result (WalksItem (C.around scene.now) frame.now room (form.code code.now) bank.old bank.new states.now place) }
+    ensures { IfOk result (WalksItem (C.around scene.now) frame.now room (form.code code.now) bank.old bank.new
+        states.now place) }
 {
     if height == 0 {
         return Err(WalkFault::TooFar);
@@ -165,7 +167,8 @@ pub fn walk_items<C: Calls>(
 ) -> Result<Coded, WalkFault>
     requires ready { Stays (C.ready scene.now) bank.old }
     requires states { AreStates bank.old states.now }
-    ensures { IfOk result (WalksLived (C.around scene.now) frame.now room items.now bank.old bank.new states.now place) }
+    ensures { IfOk result (WalksLived (C.around scene.now) frame.now room items.now bank.old bank.new states.now
+        place) }
 {
     let steps = Steps {
         alloc,

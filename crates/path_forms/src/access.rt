@@ -44,7 +44,8 @@ fn local_distance(frame: &[Placed], room: u64, at: u32) -> Option<u64>
 
 /// The start of an object that lives throughout the run.
 fn fixed_distance(place: u64) -> Option<u64>
-    ensures { IfSome result (λ n. (x : Around) (frame : List PlacedType) (room : _) → IsNamed x frame room (e.Fixed place) n) }
+    ensures { IfSome result (λ n. (x : Around) (frame : List PlacedType) (room : _) → IsNamed x frame room (e.Fixed
+        place) n) }
 {
     if place < 0x1_0000_0000 { Some(0) } else { None }
 }

@@ -45,7 +45,8 @@ fn call_none<C: Calls>(
     site: CallSite,
 ) -> Result<Walked, WalkFault>
     requires { Stays (C.ready scene.now) bank.old }
-    ensures { IfOk result (λ w. Walks room bank.old bank.new [] w (call_way (C.around scene.now) frame.now callee.now site)) }
+    ensures { IfOk result (λ w. Walks room bank.old bank.new [] w (call_way (C.around scene.now) frame.now
+        callee.now site)) }
 {
     let state = nobody(alloc, bank)?;
     let walked = scene.call(alloc, bank, frame, room, callee, site, &state)?;
@@ -68,7 +69,8 @@ fn call_some<C: Calls>(
     requires calls { Stays (C.ready scene.now) bank.old }
     requires first { IsState bank.old first.now }
     requires rest { AreStates bank.old rest.now }
-    ensures { IfOk result (λ w. Walks room bank.old bank.new (first.now ∷ rest.now) w (call_way (C.around scene.now) frame.now callee.now site)) }
+    ensures { IfOk result (λ w. Walks room bank.old bank.new (first.now ∷ rest.now) w (call_way (C.around scene.now)
+        frame.now callee.now site)) }
 {
     let mut walked = scene.call(alloc, bank, frame, room, callee, site, first)?;
     for state in rest {
@@ -92,7 +94,8 @@ fn call_all<C: Calls>(
 ) -> Result<Walked, WalkFault>
     requires calls { Stays (C.ready scene.now) bank.old }
     requires states { AreStates bank.old states.now }
-    ensures { IfOk result (λ w. Walks room bank.old bank.new states.now w (call_way (C.around scene.now) frame.now callee.now site)) }
+    ensures { IfOk result (λ w. Walks room bank.old bank.new states.now w (call_way (C.around scene.now) frame.now
+        callee.now site)) }
 {
     match states.split_first() {
         Some((first, rest)) => call_some(
@@ -115,7 +118,8 @@ fn call_behind<C: Calls>(
 ) -> Result<Walked, WalkFault>
     requires calls { Stays (C.ready scene.now) bank.old }
     requires ready { Ready bank.old walked }
-    ensures { IfOk result (λ w. Reaches room bank.old bank.new walked w (call_way (C.around scene.now) frame.now callee.now site)) }
+    ensures { IfOk result (λ w. Reaches room bank.old bank.new walked w (call_way (C.around scene.now) frame.now
+        callee.now site)) }
 {
     let Walked { going, ended } = walked;
     let mut ended = ended;
@@ -159,7 +163,8 @@ pub fn call_each<C: Calls>(
 ) -> Result<(), WalkFault>
     requires calls { Stays (C.ready scene.now) bank.old }
     requires ready { Ready bank.old walked.old }
-    ensures { OnOk result (Reaches room bank.old bank.new walked.old walked.new (call_way (C.around scene.now) frame.now callee.now site)) }
+    ensures { OnOk result (Reaches room bank.old bank.new walked.old walked.new (call_way (C.around scene.now)
+        frame.now callee.now site)) }
 {
     let now = replace(walked, settled(alloc));
     let called = call_behind(alloc, scene, bank, frame, room, callee, site, now)?;

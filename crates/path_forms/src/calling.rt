@@ -51,5 +51,6 @@ pub trait Calls {
     ) -> Result<Walked, WalkFault>
         requires ready { Stays (ready self.now) bank.old }
         requires state { IsState bank.old state.now }
-        ensures { IfOk result (λ w. Tries room bank.old bank.new state.now w (call_way (around self.now) frame.now callee.now site)) };
+        ensures { IfOk result (λ w. Tries room bank.old bank.new state.now w (call_way (around self.now) frame.now
+            callee.now site)) };
 }

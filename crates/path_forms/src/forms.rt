@@ -171,7 +171,8 @@ fn raise_stored(
 ) -> Result<(), WalkFault>
     requires ready { Ready bank.old walked.old }
     requires scalar { IsScalar access.stored }
-    ensures { OnOk result (Reaches room bank.old bank.new walked.old walked.new (raised_way at operator access a.Stored)) }
+    ensures { OnOk result (Reaches room bank.old bank.new walked.old walked.new (raised_way at operator access
+        a.Stored)) }
 {
     leaf(alloc, bank, room, Leaf::Constant { value: 1 }, walked)?;
     operate(alloc, bank, room, at, operator, walked)?;
@@ -191,7 +192,8 @@ fn raise_before(
 ) -> Result<(), WalkFault>
     requires ready { Ready bank.old walked.old }
     requires scalar { IsScalar access.stored }
-    ensures { OnOk result (Reaches room bank.old bank.new walked.old walked.new (raised_way at operator access a.Before)) }
+    ensures { OnOk result (Reaches room bank.old bank.new walked.old walked.new (raised_way at operator access
+        a.Before)) }
 {
     leaf(alloc, bank, room, Leaf::Tuck, walked)?;
     leaf(alloc, bank, room, Leaf::Constant { value: 1 }, walked)?;
@@ -214,7 +216,8 @@ pub fn raise(
 ) -> Result<(), WalkFault>
     requires ready { Ready bank.old walked.old }
     requires scalar { IsScalar access.stored }
-    ensures { OnOk result (Reaches room bank.old bank.new walked.old walked.new (raised_way at operator access answer)) }
+    ensures { OnOk result (Reaches room bank.old bank.new walked.old walked.new (raised_way at operator access
+        answer)) }
 {
     match answer {
         Answered::Before => {

@@ -81,7 +81,8 @@ pub(crate) fn meet_all(
     arguments: &[Number],
 ) -> Result<Node, BankFault>
     requires { AreNumbers bank.old arguments.now }
-    ensures { IfOk result (λ n. Truthful bank.old bank.new n (λ v. meet_all_in constraints.now (args_in v arguments.now))) }
+    ensures { IfOk result (λ n. Truthful bank.old bank.new n (λ v. meet_all_in constraints.now (args_in v
+        arguments.now))) }
 {
     let Some((constraint, others)) = constraints.split_first() else {
         let truth = bank.truth(arguments.is_empty())?;

@@ -67,7 +67,8 @@ fn end_print(
 ) -> Result<Items<State>, BankFault>
     requires state { IsState bank.old state.now }
     requires seen { AreNumbers bank.old seen.now }
-    ensures { IfOk result (λ ts. (room : ℕ) → Steps room bank.old bank.new state.now ts (print_way site.at site.answer from seen.now)) }
+    ensures { IfOk result (λ ts. (room : ℕ) → Steps room bank.old bank.new state.now ts (print_way site.at
+        site.answer from seen.now)) }
 {
     let length = state.position.saturating_sub(from) as u64;
     let always = bank.truth(true)?;
@@ -90,7 +91,8 @@ fn end_prints(
 ) -> Result<Items<State>, BankFault>
     requires states { AreStates bank.old states.now }
     requires seen { AreNumbers bank.old seen.now }
-    ensures { IfOk result (λ ts. (room : ℕ) → Goes room bank.old bank.new states.now ts (print_way site.at site.answer from seen.now)) }
+    ensures { IfOk result (λ ts. (room : ℕ) → Goes room bank.old bank.new states.now ts (print_way site.at
+        site.answer from seen.now)) }
 {
     let mut all = Items::new(alloc);
     for state in states {

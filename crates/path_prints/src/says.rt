@@ -59,7 +59,8 @@ fn say_on(
     requires arguments { AreNumbers bank.old arguments.now }
     requires integers { takes_integers_in piece.now ≡ true }
     requires enough { length arguments.now ≡ length (piece_kinds piece.now) }
-    ensures { IfOk result (λ ts. (room : ℕ) → Steps room bank.old bank.new state.now ts (piece_way log.now piece.now arguments.now)) }
+    ensures { IfOk result (λ ts. (room : ℕ) → Steps room bank.old bank.new state.now ts (piece_way log.now piece.now
+        arguments.now)) }
 {
     keeps_bank(bank);
     let from = state.position;
@@ -87,7 +88,8 @@ fn say_each(
     requires arguments { AreNumbers bank.old arguments.now }
     requires integers { takes_integers_in piece.now ≡ true }
     requires enough { length arguments.now ≡ length (piece_kinds piece.now) }
-    ensures { IfOk result (λ ts. (room : ℕ) → Goes room bank.old bank.new states.now ts (piece_way log.now piece.now arguments.now)) }
+    ensures { IfOk result (λ ts. (room : ℕ) → Goes room bank.old bank.new states.now ts (piece_way log.now piece.now
+        arguments.now)) }
 {
     let mut behind = Items::new(alloc);
     for state in states {

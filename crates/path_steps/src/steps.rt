@@ -1,4 +1,5 @@
-ghost use Rattle.std.specs.Prelude.{◌≡◌, ◌++◌, ◌∷◌, [], ◌<◌, ◌+◌, ◌-◌, ◌^◌, ◌≤ℤ◌, pos, negsuc, ℕ, IfOk, unsigned_abs, Some, Ok};
+ghost use Rattle.std.specs.Prelude.{◌≡◌, ◌++◌, ◌∷◌, [], IfOk, Some, Ok};
+ghost use Rattle.std.specs.Prelude.{◌<◌, ◌+◌, ◌-◌, ◌^◌, ◌≤ℤ◌, pos, negsuc, ℕ, unsigned_abs};
 ghost use Rattle.c_type_terms.specs.Integers.{is_zero, number_of};
 ghost use Rattle.core_tree.specs.Numbers.{converted_to, turned as turned_in, worked as worked_in};
 ghost use Rattle.core_tree.specs.States.{found, or_stop};

@@ -25,7 +25,8 @@ pub(crate) fn beyond(
     state: &State,
 ) -> Result<Walked, WalkFault>
     requires { IsState bank.old state.now }
-    ensures { IfOk result (λ w. (x : Surroundings) (frame : List PlacedType) (room f : ℕ) → ((e : EnvironmentType) → x.calls e ≡ None)
+    ensures { IfOk result (λ w. (x : Surroundings) (frame : List PlacedType) (room f : ℕ) → ((e : EnvironmentType) →
+        x.calls e ≡ None)
         → Tries room bank.old bank.new state.now w (call_way x frame (c.Body f) site)) }
 {
     let mut now = state.copy(alloc)?;

@@ -121,7 +121,8 @@ impl<'a> Calls for Level<'a> {
 
 /// How many places a function takes that is called. It fails where 64 bits don't count them.
 fn room_below<'a>(level: &Level<'a>, function: u32) -> Result<u64, WalkFault>
-    ensures { IfOk result (λ n. n ≡ (measures_in (tour_of level.now.core.now level.now.log.now level.now.bounds.now level.now.ends.now) level.now.left level.now.function.now).room function) }
+    ensures { IfOk result (λ n. n ≡ (measures_in (tour_of level.now.core.now level.now.log.now level.now.bounds.now
+        level.now.ends.now) level.now.left level.now.function.now).room function) }
 {
     if level.left == 0 {
         return Ok(0);
@@ -163,9 +164,12 @@ fn call_body<'a>(
     site: CallSite,
     state: &State,
 ) -> Result<Walked, WalkFault>
-    requires ready { IsReady (tour_of level.now.core.now level.now.log.now level.now.bounds.now level.now.ends.now) level.now.left level.now.table.now bank.old }
+    requires ready { IsReady (tour_of level.now.core.now level.now.log.now level.now.bounds.now level.now.ends.now)
+        level.now.left level.now.table.now bank.old }
     requires state { IsState bank.old state.now }
-    ensures { IfOk result (λ w. (frame : List PlacedType) → Tries room bank.old bank.new state.now w (call_way (around_in (tour_of level.now.core.now level.now.log.now level.now.bounds.now level.now.ends.now) level.now.left level.now.function.now) frame (c.Body function) site)) }
+    ensures { IfOk result (λ w. (frame : List PlacedType) → Tries room bank.old bank.new state.now w (call_way
+        (around_in (tour_of level.now.core.now level.now.log.now level.now.bounds.now level.now.ends.now)
+        level.now.left level.now.function.now) frame (c.Body function) site)) }
 {
     if level.left == 0 {
         let walked = beyond(alloc, bank, site, state)?;

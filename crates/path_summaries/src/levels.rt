@@ -47,8 +47,10 @@ fn walk_key<'a>(
     bank: &mut Bank,
     table: &mut Summaries,
 ) -> Result<(), WalkFault>
-    requires { Based (tour_of floor.now.core.now floor.now.log.now floor.now.bounds.now floor.now.ends.now) floor.now.left floor.now.table.now floor.now.rooms.now bank.old }
-    ensures { OnOk result (FillsKey (tour_of floor.now.core.now floor.now.log.now floor.now.bounds.now floor.now.ends.now) bank.old bank.new floor.now.left function start table.old table.new) }
+    requires { Based (tour_of floor.now.core.now floor.now.log.now floor.now.bounds.now floor.now.ends.now)
+        floor.now.left floor.now.table.now floor.now.rooms.now bank.old }
+    ensures { OnOk result (FillsKey (tour_of floor.now.core.now floor.now.log.now floor.now.bounds.now
+        floor.now.ends.now) bank.old bank.new floor.now.left function start table.old table.new) }
 {
     let depth = next_number(floor.left)?;
     if !is_key(floor.ends, function, depth, start) {
@@ -83,8 +85,10 @@ fn walk_entry<'a>(
     bank: &mut Bank,
     table: &mut Summaries,
 ) -> Result<(), WalkFault>
-    requires { Based (tour_of floor.now.core.now floor.now.log.now floor.now.bounds.now floor.now.ends.now) floor.now.left floor.now.table.now floor.now.rooms.now bank.old }
-    ensures { OnOk result (FillsEntry (tour_of floor.now.core.now floor.now.log.now floor.now.bounds.now floor.now.ends.now) bank.old bank.new floor.now.left start entry.now table.old table.new) }
+    requires { Based (tour_of floor.now.core.now floor.now.log.now floor.now.bounds.now floor.now.ends.now)
+        floor.now.left floor.now.table.now floor.now.rooms.now bank.old }
+    ensures { OnOk result (FillsEntry (tour_of floor.now.core.now floor.now.log.now floor.now.bounds.now
+        floor.now.ends.now) bank.old bank.new floor.now.left start entry.now table.old table.new) }
 {
     let depth = next_number(floor.left)?;
     if entry.depth != depth {
@@ -103,8 +107,10 @@ fn walk_row<'a>(
     bank: &mut Bank,
     table: &mut Summaries,
 ) -> Result<(), WalkFault>
-    requires { Based (tour_of floor.now.core.now floor.now.log.now floor.now.bounds.now floor.now.ends.now) floor.now.left floor.now.table.now floor.now.rooms.now bank.old }
-    ensures { OnOk result (FillsRow (tour_of floor.now.core.now floor.now.log.now floor.now.bounds.now floor.now.ends.now) bank.old bank.new floor.now.left start entries.now table.old table.new) }
+    requires { Based (tour_of floor.now.core.now floor.now.log.now floor.now.bounds.now floor.now.ends.now)
+        floor.now.left floor.now.table.now floor.now.rooms.now bank.old }
+    ensures { OnOk result (FillsRow (tour_of floor.now.core.now floor.now.log.now floor.now.bounds.now
+        floor.now.ends.now) bank.old bank.new floor.now.left start entries.now table.old table.new) }
 {
     match entries.split_first() {
         None => Ok(()),
@@ -123,8 +129,10 @@ fn walk_rows<'a>(
     bank: &mut Bank,
     table: &mut Summaries,
 ) -> Result<(), WalkFault>
-    requires { Based (tour_of floor.now.core.now floor.now.log.now floor.now.bounds.now floor.now.ends.now) floor.now.left floor.now.table.now floor.now.rooms.now bank.old }
-    ensures { OnOk result (FillsRows (tour_of floor.now.core.now floor.now.log.now floor.now.bounds.now floor.now.ends.now) bank.old bank.new floor.now.left (length floor.now.ends.now) table.old table.new) }
+    requires { Based (tour_of floor.now.core.now floor.now.log.now floor.now.bounds.now floor.now.ends.now)
+        floor.now.left floor.now.table.now floor.now.rooms.now bank.old }
+    ensures { OnOk result (FillsRows (tour_of floor.now.core.now floor.now.log.now floor.now.bounds.now
+        floor.now.ends.now) bank.old bank.new floor.now.left (length floor.now.ends.now) table.old table.new) }
 {
     let mut start = 0;
     'starts: while start < floor.ends.len() {
@@ -136,8 +144,10 @@ fn walk_rows<'a>(
 
 /// How many places a function takes on the level: none where 64 bits don't count them.
 fn room_with<'a>(floor: &Floor<'a>, function: &'a Function) -> Option<u64>
-    requires { HoldsRooms (tour_of floor.now.core.now floor.now.log.now floor.now.bounds.now floor.now.ends.now) floor.now.left floor.now.rooms.now }
-    ensures { IfSome result (λ n. n ≡ room_in (tour_of floor.now.core.now floor.now.log.now floor.now.bounds.now floor.now.ends.now) floor.now.left function.now) }
+    requires { HoldsRooms (tour_of floor.now.core.now floor.now.log.now floor.now.bounds.now floor.now.ends.now)
+        floor.now.left floor.now.rooms.now }
+    ensures { IfSome result (λ n. n ≡ room_in (tour_of floor.now.core.now floor.now.log.now floor.now.bounds.now
+        floor.now.ends.now) floor.now.left function.now) }
 {
     let level = Level {
         core: floor.core,
@@ -161,8 +171,10 @@ fn add_rooms<'a>(
     functions: &'a [Function],
     rooms: &mut Items<Option<u64>>,
 ) -> Result<(), AllocError>
-    requires { HoldsRooms (tour_of floor.now.core.now floor.now.log.now floor.now.bounds.now floor.now.ends.now) floor.now.left floor.now.rooms.now }
-    ensures { OnOk result (PutsRooms (tour_of floor.now.core.now floor.now.log.now floor.now.bounds.now floor.now.ends.now) floor.now.left functions.now rooms.old rooms.new) }
+    requires { HoldsRooms (tour_of floor.now.core.now floor.now.log.now floor.now.bounds.now floor.now.ends.now)
+        floor.now.left floor.now.rooms.now }
+    ensures { OnOk result (PutsRooms (tour_of floor.now.core.now floor.now.log.now floor.now.bounds.now
+        floor.now.ends.now) floor.now.left functions.now rooms.old rooms.new) }
 {
     match functions.split_first() {
         None => Ok(()),
@@ -177,8 +189,10 @@ fn add_rooms<'a>(
 
 /// A level: the summaries of all its keys, and the rooms of all functions on it.
 fn level_on<'a>(alloc: Global, floor: &Floor<'a>, bank: &mut Bank) -> Result<Levelled, WalkFault>
-    requires { Based (tour_of floor.now.core.now floor.now.log.now floor.now.bounds.now floor.now.ends.now) floor.now.left floor.now.table.now floor.now.rooms.now bank.old }
-    ensures { IfOk result (λ l. Levels (tour_of floor.now.core.now floor.now.log.now floor.now.bounds.now floor.now.ends.now) bank.old bank.new (suc floor.now.left) l) }
+    requires { Based (tour_of floor.now.core.now floor.now.log.now floor.now.bounds.now floor.now.ends.now)
+        floor.now.left floor.now.table.now floor.now.rooms.now bank.old }
+    ensures { IfOk result (λ l. Levels (tour_of floor.now.core.now floor.now.log.now floor.now.bounds.now
+        floor.now.ends.now) bank.old bank.new (suc floor.now.left) l) }
 {
     let mut table = Summaries::new(alloc);
     let mut rooms = Items::new(alloc);
@@ -237,7 +251,8 @@ pub fn summarize(
     bank: &mut Bank,
 ) -> Result<Levelled, WalkFault>
     requires { IsSound core.now log.now (limits_of bounds.now) bounds.now.depth ends.now }
-    ensures { IfOk result (λ l. Levels (tour_of core.now log.now bounds.now ends.now) bank.old bank.new bounds.now.depth l) }
+    ensures { IfOk result (λ l. Levels (tour_of core.now log.now bounds.now ends.now) bank.old bank.new
+        bounds.now.depth l) }
 {
     let mut below = no_level(alloc);
     let mut left = 0;

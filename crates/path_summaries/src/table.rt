@@ -76,7 +76,8 @@ impl Summaries {
 
     /// Makes rows up to a position.
     fn reach(&mut self, alloc: Global, start: usize) -> Result<(), AllocError>
-        ensures stand { OnOk result ((t : Tour) (b : List ShapeType) → AllStand t b 0 self.old → AllStand t b 0 self.new) }
+        ensures stand { OnOk result ((t : Tour) (b : List ShapeType) → AllStand t b 0 self.old → AllStand t b 0
+            self.new) }
         ensures within { OnOk result (start < length self.new) }
     {
         'rows: while self.rows.len() <= start {
@@ -94,7 +95,8 @@ impl Summaries {
         start: usize,
         summary: Summary,
     ) -> Result<(), AllocError>
-        ensures { OnOk result ((t : Tour) (b : List ShapeType) → AllStand t b 0 self.old → StandsFor t b function left start summary
+        ensures { OnOk result ((t : Tour) (b : List ShapeType) → AllStand t b 0 self.old → StandsFor t b function
+            left start summary
             → AllStand t b 0 self.new) }
     {
         self.reach(alloc, start)?;

@@ -96,7 +96,8 @@ fn enter(
 
 /// How many places the function takes. It fails where 64 bits don't count them.
 pub(crate) fn room_of_body<'a>(level: &Level<'a>) -> Result<u64, WalkFault>
-    ensures { IfOk result (λ n. n ≡ room_in (tour_of level.now.core.now level.now.log.now level.now.bounds.now level.now.ends.now) level.now.left level.now.function.now) }
+    ensures { IfOk result (λ n. n ≡ room_in (tour_of level.now.core.now level.now.log.now level.now.bounds.now
+        level.now.ends.now) level.now.left level.now.function.now) }
 {
     let items = room_of_items(level, level.function.items.as_slice())?;
     let room = sum(level.function.parameters.len() as u64, items)?;
@@ -120,10 +121,12 @@ pub fn walk<'a>(
     start: usize,
     bank: &mut Bank,
 ) -> Result<Summary, WalkFault>
-    requires ready { Stays (IsReady (tour_of level.now.core.now level.now.log.now level.now.bounds.now level.now.ends.now) level.now.left level.now.table.now) bank.old }
+    requires ready { Stays (IsReady (tour_of level.now.core.now level.now.log.now level.now.bounds.now
+        level.now.ends.now) level.now.left level.now.table.now) bank.old }
     requires function { slice_get level.now.core.now.functions function ≡ Some level.now.function.now }
     requires key { has_ends (ends_at level.now.ends.now function (suc level.now.left) start) ≡ true }
-    ensures { IfOk result (λ s. Walks (tour_of level.now.core.now level.now.log.now level.now.bounds.now level.now.ends.now) bank.old bank.new function level.now.left start s) }
+    ensures { IfOk result (λ s. Walks (tour_of level.now.core.now level.now.log.now level.now.bounds.now
+        level.now.ends.now) bank.old bank.new function level.now.left start s) }
 {
     let mut parameters = Items::new(alloc);
     let mut numbers = Items::new(alloc);

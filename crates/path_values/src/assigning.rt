@@ -44,7 +44,8 @@ impl<
         requires values { ReachesValue C.around C.ready V.Fn self.now }
         requires starts { StartsIn C.ready self.now bank.old walked.old }
         ensures same { OnOk result (waiting.new ≡ waiting.old) }
-        ensures evaluated { IfOk result (λ n. EvaluatedIn C.around C.ready self.now (e.Store at access target.now value.now) bank.old bank.new walked.old walked.new place n) }
+        ensures evaluated { IfOk result (λ n. EvaluatedIn C.around C.ready self.now (e.Store at access target.now
+            value.now) bank.old bank.new walked.old walked.new place n) }
     {
         check_access(self.frame, self.room, access, target)?;
         let second = self.value(target, place, bank, walked, waiting)?;
@@ -75,7 +76,8 @@ impl<
         requires values { ReachesValue C.around C.ready V.Fn self.now }
         requires starts { StartsIn C.ready self.now bank.old walked.old }
         ensures same { OnOk result (waiting.new ≡ waiting.old) }
-        ensures evaluated { IfOk result (λ n. EvaluatedIn C.around C.ready self.now (e.Update at operator access target.now value.now) bank.old bank.new walked.old walked.new place n) }
+        ensures evaluated { IfOk result (λ n. EvaluatedIn C.around C.ready self.now (e.Update at operator access
+            target.now value.now) bank.old bank.new walked.old walked.new place n) }
     {
         check_access(self.frame, self.room, access, target)?;
         let behind = self.value(target, place, bank, walked, waiting)?;

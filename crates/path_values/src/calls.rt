@@ -40,7 +40,8 @@ impl<
         requires values { ReachesValue C.around C.ready V.Fn self.now }
         requires starts { StartsIn C.ready self.now bank.old walked.old }
         ensures same { OnOk result (waiting.new ≡ waiting.old) }
-        ensures evaluated { IfOk result (λ n. AllEvaluatedIn C.around C.ready self.now items.now bank.old bank.new walked.old walked.new place n) }
+        ensures evaluated { IfOk result (λ n. AllEvaluatedIn C.around C.ready self.now items.now bank.old bank.new
+            walked.old walked.new place n) }
     {
         match items.split_first() {
             Some((first, rest)) => {
@@ -68,7 +69,8 @@ impl<
         requires values { ReachesValue C.around C.ready V.Fn self.now }
         requires starts { StartsIn C.ready self.now bank.old walked.old }
         ensures same { OnOk result (waiting.new ≡ waiting.old) }
-        ensures evaluated { IfOk result (λ n. EvaluatedIn C.around C.ready self.now (e.Call at items.now callee.now answer is_used) bank.old bank.new walked.old walked.new place n) }
+        ensures evaluated { IfOk result (λ n. EvaluatedIn C.around C.ready self.now (e.Call at items.now callee.now
+            answer is_used) bank.old bank.new walked.old walked.new place n) }
     {
         let behind = self.arguments(items, place, bank, walked, waiting)?;
         let site = CallSite {

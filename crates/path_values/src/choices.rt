@@ -44,7 +44,8 @@ impl<
         requires values { ReachesValue C.around C.ready V.Fn self.now }
         requires starts { StartsIn C.ready self.now bank.old walked.old }
         ensures same { OnOk result (waiting.new ≡ waiting.old) }
-        ensures evaluated { IfOk result (λ n. EvaluatedIn C.around C.ready self.now (e.And at left.now right.now) bank.old bank.new walked.old walked.new place n) }
+        ensures evaluated { IfOk result (λ n. EvaluatedIn C.around C.ready self.now (e.And at left.now right.now)
+            bank.old bank.new walked.old walked.new place n) }
     {
         let behind = self.value(left, place, bank, walked, waiting)?;
         take_yes(self.alloc, bank, at, walked, waiting)?;
@@ -67,7 +68,8 @@ impl<
         requires values { ReachesValue C.around C.ready V.Fn self.now }
         requires starts { StartsIn C.ready self.now bank.old walked.old }
         ensures same { OnOk result (waiting.new ≡ waiting.old) }
-        ensures evaluated { IfOk result (λ n. EvaluatedIn C.around C.ready self.now (e.Or at left.now right.now) bank.old bank.new walked.old walked.new place n) }
+        ensures evaluated { IfOk result (λ n. EvaluatedIn C.around C.ready self.now (e.Or at left.now right.now)
+            bank.old bank.new walked.old walked.new place n) }
     {
         let behind = self.value(left, place, bank, walked, waiting)?;
         take_no(self.alloc, bank, at, walked, waiting)?;
@@ -91,7 +93,8 @@ impl<
         requires values { ReachesValue C.around C.ready V.Fn self.now }
         requires starts { StartsIn C.ready self.now bank.old walked.old }
         ensures same { OnOk result (waiting.new ≡ waiting.old) }
-        ensures evaluated { IfOk result (λ n. EvaluatedIn C.around C.ready self.now (e.Choose at condition.now positive.now negative.now) bank.old bank.new walked.old walked.new place n) }
+        ensures evaluated { IfOk result (λ n. EvaluatedIn C.around C.ready self.now (e.Choose at condition.now
+            positive.now negative.now) bank.old bank.new walked.old walked.new place n) }
     {
         let first = self.value(condition, place, bank, walked, waiting)?;
         take_yes(self.alloc, bank, at, walked, waiting)?;

@@ -39,7 +39,8 @@ impl<
         requires values { ReachesValue C.around C.ready V.Fn self.now }
         requires starts { StartsIn C.ready self.now bank.old walked.old }
         ensures same { OnOk result (waiting.new ≡ waiting.old) }
-        ensures evaluated { IfOk result (λ n. EvaluatedIn C.around C.ready self.now expression.now bank.old bank.new walked.old walked.new place n) }
+        ensures evaluated { IfOk result (λ n. EvaluatedIn C.around C.ready self.now expression.now bank.old bank.new
+            walked.old walked.new place n) }
     {
         match expression {
             Expr::Constant { value } => self.constant(value, place, bank, walked),

@@ -42,7 +42,8 @@ impl<
         requires values { ReachesValue C.around C.ready V.Fn self.now }
         requires starts { StartsIn C.ready self.now bank.old walked.old }
         ensures same { OnOk result (waiting.new ≡ waiting.old) }
-        ensures evaluated { IfOk result (λ n. EvaluatedIn C.around C.ready self.now (e.Load access address.now) bank.old bank.new walked.old walked.new place n) }
+        ensures evaluated { IfOk result (λ n. EvaluatedIn C.around C.ready self.now (e.Load access address.now)
+            bank.old bank.new walked.old walked.new place n) }
     {
         check_access(self.frame, self.room, access, address)?;
         let next = self.value(address, place, bank, walked, waiting)?;
@@ -66,7 +67,8 @@ impl<
         requires values { ReachesValue C.around C.ready V.Fn self.now }
         requires starts { StartsIn C.ready self.now bank.old walked.old }
         ensures same { OnOk result (waiting.new ≡ waiting.old) }
-        ensures evaluated { IfOk result (λ n. EvaluatedIn C.around C.ready self.now (e.Step at operator access answer target.now) bank.old bank.new walked.old walked.new place n) }
+        ensures evaluated { IfOk result (λ n. EvaluatedIn C.around C.ready self.now (e.Step at operator access
+            answer target.now) bank.old bank.new walked.old walked.new place n) }
     {
         check_access(self.frame, self.room, access, target)?;
         let next = self.value(target, place, bank, walked, waiting)?;

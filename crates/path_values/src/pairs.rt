@@ -44,7 +44,8 @@ impl<
         requires values { ReachesValue C.around C.ready V.Fn self.now }
         requires starts { StartsIn C.ready self.now bank.old walked.old }
         ensures same { OnOk result (waiting.new ≡ waiting.old) }
-        ensures evaluated { (is_constant : _) → IfOk result (λ n. EvaluatedIn C.around C.ready self.now (e.Operate at operator is_constant left.now right.now) bank.old bank.new walked.old walked.new place n) }
+        ensures evaluated { (is_constant : _) → IfOk result (λ n. EvaluatedIn C.around C.ready self.now (e.Operate
+            at operator is_constant left.now right.now) bank.old bank.new walked.old walked.new place n) }
     {
         let behind = self.value(left, place, bank, walked, waiting)?;
         let next = self.value(right, behind, bank, walked, waiting)?;
@@ -65,7 +66,8 @@ impl<
         requires values { ReachesValue C.around C.ready V.Fn self.now }
         requires starts { StartsIn C.ready self.now bank.old walked.old }
         ensures same { OnOk result (waiting.new ≡ waiting.old) }
-        ensures evaluated { IfOk result (λ n. EvaluatedIn C.around C.ready self.now (e.Comma first.now second.now) bank.old bank.new walked.old walked.new place n) }
+        ensures evaluated { IfOk result (λ n. EvaluatedIn C.around C.ready self.now (e.Comma first.now second.now)
+            bank.old bank.new walked.old walked.new place n) }
     {
         let behind = self.value(first, place, bank, walked, waiting)?;
         leaf(self.alloc, bank, self.room, Leaf::Drop, walked)?;

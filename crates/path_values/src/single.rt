@@ -38,7 +38,8 @@ impl<
         walked: &mut Walked,
     ) -> Result<u64, WalkFault>
         requires { StartsIn C.ready self.now bank.old walked.old }
-        ensures { IfOk result (λ n. EvaluatedIn C.around C.ready self.now (e.Constant value.now) bank.old bank.new walked.old walked.new place n) }
+        ensures { IfOk result (λ n. EvaluatedIn C.around C.ready self.now (e.Constant value.now) bank.old bank.new
+            walked.old walked.new place n) }
     {
         constant(self.alloc, bank, self.room, value, walked)?;
         Ok(place)
@@ -53,7 +54,8 @@ impl<
         walked: &mut Walked,
     ) -> Result<u64, WalkFault>
         requires { StartsIn C.ready self.now bank.old walked.old }
-        ensures { IfOk result (λ n. EvaluatedIn C.around C.ready self.now (e.Fixed object) bank.old bank.new walked.old walked.new place n) }
+        ensures { IfOk result (λ n. EvaluatedIn C.around C.ready self.now (e.Fixed object) bank.old bank.new
+            walked.old walked.new place n) }
     {
         fixed(self.alloc, bank, self.room, object, walked)?;
         Ok(place)
@@ -68,7 +70,8 @@ impl<
         walked: &mut Walked,
     ) -> Result<u64, WalkFault>
         requires { StartsIn C.ready self.now bank.old walked.old }
-        ensures { IfOk result (λ n. EvaluatedIn C.around C.ready self.now (e.Local at) bank.old bank.new walked.old walked.new place n) }
+        ensures { IfOk result (λ n. EvaluatedIn C.around C.ready self.now (e.Local at) bank.old bank.new walked.old
+            walked.new place n) }
     {
         local(self.alloc, bank, self.frame, self.room, at, walked)?;
         Ok(place)
@@ -86,7 +89,8 @@ impl<
         requires values { ReachesValue C.around C.ready V.Fn self.now }
         requires starts { StartsIn C.ready self.now bank.old walked.old }
         ensures same { OnOk result (waiting.new ≡ waiting.old) }
-        ensures evaluated { IfOk result (λ n. EvaluatedIn C.around C.ready self.now (e.Target operand.now) bank.old bank.new walked.old walked.new place n) }
+        ensures evaluated { IfOk result (λ n. EvaluatedIn C.around C.ready self.now (e.Target operand.now) bank.old
+            bank.new walked.old walked.new place n) }
     {
         let next = self.value(operand, place, bank, walked, waiting)?;
         let address = Leaf::Convert {
@@ -108,7 +112,8 @@ impl<
         requires values { ReachesValue C.around C.ready V.Fn self.now }
         requires starts { StartsIn C.ready self.now bank.old walked.old }
         ensures same { OnOk result (waiting.new ≡ waiting.old) }
-        ensures evaluated { IfOk result (λ n. EvaluatedIn C.around C.ready self.now (e.Pointer operand.now) bank.old bank.new walked.old walked.new place n) }
+        ensures evaluated { IfOk result (λ n. EvaluatedIn C.around C.ready self.now (e.Pointer operand.now) bank.old
+            bank.new walked.old walked.new place n) }
     {
         let next = self.value(operand, place, bank, walked, waiting)?;
         Ok(next)
@@ -127,7 +132,8 @@ impl<
         requires values { ReachesValue C.around C.ready V.Fn self.now }
         requires starts { StartsIn C.ready self.now bank.old walked.old }
         ensures same { OnOk result (waiting.new ≡ waiting.old) }
-        ensures evaluated { IfOk result (λ n. EvaluatedIn C.around C.ready self.now (e.Offset bytes operand.now) bank.old bank.new walked.old walked.new place n) }
+        ensures evaluated { IfOk result (λ n. EvaluatedIn C.around C.ready self.now (e.Offset bytes operand.now)
+            bank.old bank.new walked.old walked.new place n) }
     {
         let next = self.value(operand, place, bank, walked, waiting)?;
         leaf(self.alloc, bank, self.room, Leaf::Offset { bytes }, walked)?;
@@ -147,7 +153,8 @@ impl<
         requires values { ReachesValue C.around C.ready V.Fn self.now }
         requires starts { StartsIn C.ready self.now bank.old walked.old }
         ensures same { OnOk result (waiting.new ≡ waiting.old) }
-        ensures evaluated { IfOk result (λ n. EvaluatedIn C.around C.ready self.now (e.Convert to operand.now) bank.old bank.new walked.old walked.new place n) }
+        ensures evaluated { IfOk result (λ n. EvaluatedIn C.around C.ready self.now (e.Convert to operand.now)
+            bank.old bank.new walked.old walked.new place n) }
     {
         let next = self.value(operand, place, bank, walked, waiting)?;
         leaf(self.alloc, bank, self.room, Leaf::Convert { to }, walked)?;
@@ -167,7 +174,8 @@ impl<
         requires values { ReachesValue C.around C.ready V.Fn self.now }
         requires starts { StartsIn C.ready self.now bank.old walked.old }
         ensures same { OnOk result (waiting.new ≡ waiting.old) }
-        ensures evaluated { IfOk result (λ n. EvaluatedIn C.around C.ready self.now (e.Cast to operand.now) bank.old bank.new walked.old walked.new place n) }
+        ensures evaluated { IfOk result (λ n. EvaluatedIn C.around C.ready self.now (e.Cast to operand.now) bank.old
+            bank.new walked.old walked.new place n) }
     {
         let next = self.value(operand, place, bank, walked, waiting)?;
         leaf(self.alloc, bank, self.room, Leaf::Convert { to }, walked)?;
@@ -189,7 +197,8 @@ impl<
         requires values { ReachesValue C.around C.ready V.Fn self.now }
         requires starts { StartsIn C.ready self.now bank.old walked.old }
         ensures same { OnOk result (waiting.new ≡ waiting.old) }
-        ensures evaluated { (is_constant : _) → IfOk result (λ n. EvaluatedIn C.around C.ready self.now (e.Turn at operator word is_constant operand.now) bank.old bank.new walked.old walked.new place n) }
+        ensures evaluated { (is_constant : _) → IfOk result (λ n. EvaluatedIn C.around C.ready self.now (e.Turn at
+            operator word is_constant operand.now) bank.old bank.new walked.old walked.new place n) }
     {
         let next = self.value(operand, place, bank, walked, waiting)?;
         let turn = Leaf::Turn { at, operator, word };
@@ -209,7 +218,8 @@ impl<
         requires values { ReachesValue C.around C.ready V.Fn self.now }
         requires starts { StartsIn C.ready self.now bank.old walked.old }
         ensures same { OnOk result (waiting.new ≡ waiting.old) }
-        ensures evaluated { IfOk result (λ n. EvaluatedIn C.around C.ready self.now (e.Not operand.now) bank.old bank.new walked.old walked.new place n) }
+        ensures evaluated { IfOk result (λ n. EvaluatedIn C.around C.ready self.now (e.Not operand.now) bank.old
+            bank.new walked.old walked.new place n) }
     {
         let next = self.value(operand, place, bank, walked, waiting)?;
         leaf(self.alloc, bank, self.room, Leaf::Not, walked)?;

@@ -31,7 +31,8 @@ fn value_of<C: Calls>(
 ) -> Result<u64, WalkFault>
     requires starts { Starts (C.ready scene.now) bank.old walked.old }
     ensures same { OnOk result (waiting.new ≡ waiting.old) }
-    ensures evaluated { IfOk result (λ n. Evaluated (C.around scene.now) (C.ready scene.now) frame.now room expression.now bank.old bank.new walked.old walked.new place n) }
+    ensures evaluated { IfOk result (λ n. Evaluated (C.around scene.now) (C.ready scene.now) frame.now room
+        expression.now bank.old bank.new walked.old walked.new place n) }
 {
     if height == 0 {
         return Err(WalkFault::Unwalked);
@@ -81,7 +82,8 @@ pub fn walk_value<C: Calls>(
 ) -> Result<Valued, WalkFault>
     requires calls { Stays (C.ready scene.now) bank.old }
     requires states { AreStates bank.old states.now }
-    ensures { IfOk result (λ x. WalksValue (C.around scene.now) frame.now room expression.now bank.old bank.new states.now x.walked place x.next) }
+    ensures { IfOk result (λ x. WalksValue (C.around scene.now) frame.now room expression.now bank.old bank.new
+        states.now x.walked place x.next) }
 {
     let going = copies(alloc, states)?;
     let mut walked = Walked {

@@ -142,7 +142,8 @@ pub(crate) fn table_of(
     roots: &[Node],
     nodes: &[Node],
 ) -> Result<HashMap<u32, Node>, AllocError>
-    ensures { IfOk result (λ images. (old new : List ShapeType) (put : BindingType) → AreImages (HasImage old new put) roots.now nodes.now
+    ensures { IfOk result (λ images. (old new : List ShapeType) (put : BindingType) → AreImages (HasImage old new
+        put) roots.now nodes.now
         → Pictures old new put (image_at images) roots.now) }
 {
     let mut images = HashMap::new(alloc);
