@@ -1,11 +1,13 @@
 #!/usr/bin/env python3
 """Makes a copy of the repository for checking one crate before the crates below it are proved: each crate that is named
-with `=` keeps its types, traits and definitions, and loses its functions, but for those listed, whose bodies give up.
+with `=` keeps its types, traits and definitions, and loses its functions and methods, but for those listed, whose bodies give
+up, or stay where the error is `=` (`len:=`).
 
     tools/outline.py FOLDER CRATE[=CALL:ERROR,..] ..
 
 A crate without `=` is copied as it stands. The order doesn't matter; crates.txt of the copy has the crates that were
-named, and of each the libraries that were. Lemmas (proofs/) are left out of an outline. For instance, to check `replayer`:
+named, and of each the libraries that were. Lemmas (proofs/) are left out of an outline that hasn't
+`lemmas:=` among its calls. For instance, to check `replayer`:
 
     tools/outline.py /tmp/root plain_data bit_words .. core_units=core_of:NoCore::Memory acceptance replayer
 
@@ -21,6 +23,7 @@ import sys
 HERE = os.path.dirname(os.path.dirname(os.path.abspath(__file__)))
 # Traits whose implementations types need; of any other trait an outline has none.
 KEPT_TRAITS = {"Model", "Clone", "Copy", "Drop", "From", "PartialEq", "Eq", "HasName"}
+INHERENT = re.compile(r"impl\s*(<[^{]*>)?\s*\w+(<[^{]*>)?\s*\{")
 FUNCTION = re.compile(r"(?:pub(?:\([a-z]+\))? )?(?:const )?fn (\w+)")
 
 
@@ -78,6 +81,22 @@ def is_end(text, start, at):
     return line.strip() == "" or bool(re.search(r"->|\)\s*$", line)) and not re.search(r"\b(ensures|requires)\b", line)
 
 
+def given_up(item, error):
+    """A function whose body gives up with the error, or as it stands where the error is `=`."""
+    if error == "=":
+        return item
+    front = re.sub(r"#\[tactic\(.*?\)\]\n", "", item[:body_start(item)])
+    return f"{front}{{\n    Err({error})\n}}"
+
+
+def methods(item, calls):
+    """An `impl` of a type's own methods, with those of the calls alone; nothing where it has none."""
+    opened = re.search(INHERENT, item).end()
+    found = [it for it in items(item[opened:item.rindex("}")]) if FUNCTION.match(head(it))]
+    kept = [given_up(it, calls[FUNCTION.match(head(it))[1]]) for it in found if FUNCTION.match(head(it))[1] in calls]
+    return item[:opened] + "".join(kept) + "\n}" if kept else ""
+
+
 def outlined(text, calls, is_root):
     """A file's types, traits and kept calls."""
     if is_root:
@@ -89,12 +108,13 @@ def outlined(text, calls, is_root):
         trait = re.match(r"impl(?:<.*?>)? ?([\w:]+)(?:<[^{]*>)? for ", top)
         if function:
             if function[1] in calls:
-                front = re.sub(r"#\[tactic\(.*?\)\]\n", "", item[:body_start(item)])
-                kept.append(f"{front}{{\n    Err({calls[function[1]]})\n}}")
+                kept.append(given_up(item, calls[function[1]]))
         elif trait:
             if trait[1].split("::")[-1] in KEPT_TRAITS:
                 kept.append(item)
-        elif not re.match(r"impl(<[^>]*>)? \w+(<[^>]*>)? \{", top):
+        elif re.match(INHERENT, top):
+            kept.append(methods(item, calls))
+        else:
             kept.append(item)
     return imports("".join(kept), calls, False)
 
@@ -131,6 +151,15 @@ def outline(name, calls, folder):
                 made.write(outlined(source.read(), calls, path == "lib.rt"))
 
 
+def lemmas(name, folder):
+    """Copies the files of lemmas, without the answers of functions, which stand in folders."""
+    top = f"{HERE}/crates/{name}/proofs"
+    os.makedirs(f"{folder}/proofs", exist_ok=True)
+    for file in os.listdir(top):
+        if file.endswith(".antt"):
+            shutil.copy(f"{top}/{file}", f"{folder}/proofs/{file}")
+
+
 def main():
     root, named = sys.argv[1], dict(word.partition("=")[::2] for word in sys.argv[2:])
     outlines = {word.partition("=")[0] for word in sys.argv[2:] if "=" in word}
@@ -141,6 +170,8 @@ def main():
             shutil.rmtree(f"{folder}/{part}", ignore_errors=True)
         if name in outlines:
             outline(name, dict(call.split(":", 1) for call in calls.split(",") if call), folder)
+            if "lemmas:=" in calls.split(","):
+                lemmas(name, folder)
         else:
             copied(name, folder)
     with open(f"{HERE}/crates.txt", encoding="utf-8") as file:

@@ -212,7 +212,7 @@ fn resume(
 }
 
 /// The states of a summary over the nodes that are put in for its entry's memory, parameters and base.
-fn put_in(
+pub fn put_in(
     alloc: Global,
     bank: &mut Bank,
     states: &[State],

@@ -7,5 +7,5 @@ mod images;
 mod nodes;
 mod summary;
 
-pub use composing::compose;
+pub use composing::{compose, put_in};
 pub use summary::Summary;

@@ -1,0 +1,10 @@
+//! The formula of a program's runs along a log: terms over the world alone that say which runs fit, which leave the
+//! bounds, and on which each fact holds.
+#![tactic(auto)]
+
+mod starts;
+mod texts;
+mod whole;
+
+pub use starts::start_memory;
+pub use whole::run_states;
