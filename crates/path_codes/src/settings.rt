@@ -43,8 +43,8 @@ impl<'a, C: Calls, X> Steps<'a, C, X> {
         Ok(Coded { states: all, next })
     }
 
-    /// One setting of an object.
-    fn set(
+    /// One setting of the object of a place behind the base.
+    pub fn set(
         &self,
         frame: &[Placed],
         object: u64,

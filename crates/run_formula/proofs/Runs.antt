@@ -153,4 +153,3 @@ runs_all t a b c d f l place memory base s ss some none bare levels room begins 
       ∙ ap (λ p. to_list (bared (does t (t.depth - 1) (world_in e) t.core.main [] p x.entry 0))) (at ∙ room.behind ∙ behind_none t.core.places)
       ∙ ap (λ q. to_list (bared (does t (t.depth - 1) (world_in e) t.core.main [] (suc t.core.places + 0) q 0))) store
       ∙ ap (λ o. to_list (bared o)) (sym (whole_run t (world_in e) none bare))
-

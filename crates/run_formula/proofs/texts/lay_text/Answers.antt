@@ -6,12 +6,11 @@ pub bytes-init : goal.bytes-init
 bytes-init c = (laid_none c.args.bank.now c.args.memory c.args.place c.args.text.now c.requires.memory, (search rules))
 
 pub bytes-preserved : goal.bytes-preserved
-bytes-preserved c =
-    (
-      laid_more _ _ _ c.args.memory c.bytes.laid c.in_ok-laid.laid c.args.place c.bytes.at c.byte_at-byte.result c.args.text.now (search rules)
+bytes-preserved c = (
+  laid_more _ _ _ c.args.memory c.bytes.laid c.in_ok-laid.laid c.args.place c.bytes.at c.byte_at-byte.result c.args.text.now (search rules)
       c.byte_at-byte.ensures c.bytes.invariant.0 (rw c.start_of-from.ensures at c.in_ok-laid.ensures),
-      (search rules),
-    )
+  (search rules),
+)
 
 pub returns : goal.returns
 returns c =
