@@ -6,3 +6,4 @@ mod facts;
 mod tests_of;
 
 pub use facts::{fits, holds, value_is};
+pub use tests_of::{aborts, exits, returns, same_side, stays_in, stops_at, stops_by};

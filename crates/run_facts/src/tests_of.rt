@@ -7,7 +7,8 @@ ghost use Rattle.log_text.specs.Shown as spec;
 use bit_words::{Event, Finish, Happening, Side, Undefined};
 use log_text::LogText;
 
-pub(crate) fn same_side(side: Side, wanted: Side) -> bool
+/// Whether two sides of a branch are the same.
+pub fn same_side(side: Side, wanted: Side) -> bool
     ensures { (result ≡ true) ↔ (side ≡ wanted) }
 {
     side == wanted
@@ -68,7 +69,8 @@ pub(crate) fn begins_in(log: &LogText, line: u32, event: &Event) -> bool
     log.line_of(event.printed as usize) == line as usize
 }
 
-pub(crate) fn stays_in(finish: Finish) -> bool
+/// Whether a run that ends so stays within its bounds.
+pub fn stays_in(finish: Finish) -> bool
     ensures { (result ≡ true) ↔ spec.StaysIn finish }
 {
     match finish {
@@ -77,7 +79,8 @@ pub(crate) fn stays_in(finish: Finish) -> bool
     }
 }
 
-pub(crate) fn returns(finish: Finish) -> bool
+/// Whether `main` returns.
+pub fn returns(finish: Finish) -> bool
     ensures { (result ≡ true) ↔ spec.Returns finish }
 {
     match finish {
@@ -86,7 +89,8 @@ pub(crate) fn returns(finish: Finish) -> bool
     }
 }
 
-pub(crate) fn exits(finish: Finish) -> bool
+/// Whether `exit` ends the run.
+pub fn exits(finish: Finish) -> bool
     ensures { (result ≡ true) ↔ spec.Exits finish }
 {
     match finish {
@@ -95,7 +99,8 @@ pub(crate) fn exits(finish: Finish) -> bool
     }
 }
 
-pub(crate) fn aborts(finish: Finish) -> bool
+/// Whether `abort` ends the run.
+pub fn aborts(finish: Finish) -> bool
     ensures { (result ≡ true) ↔ (finish ≡ FinishType.Abort) }
 {
     match finish {
@@ -104,7 +109,8 @@ pub(crate) fn aborts(finish: Finish) -> bool
     }
 }
 
-pub(crate) fn stops_at(finish: Finish, kind: Undefined, at: u32) -> bool
+/// Whether the run ends by undefined behaviour of this kind at this token.
+pub fn stops_at(finish: Finish, kind: Undefined, at: u32) -> bool
     ensures { (result ≡ true) ↔ (finish ≡ FinishType.Stopped kind at) }
 {
     match finish {
@@ -116,7 +122,8 @@ pub(crate) fn stops_at(finish: Finish, kind: Undefined, at: u32) -> bool
     }
 }
 
-pub(crate) fn stops_by(finish: Finish, kind: Undefined) -> bool
+/// Whether the run ends by undefined behaviour of this kind.
+pub fn stops_by(finish: Finish, kind: Undefined) -> bool
     ensures { (result ≡ true) ↔ spec.StopsBy kind finish }
 {
     match finish {

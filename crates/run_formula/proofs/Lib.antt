@@ -1,2 +1,4 @@
 pub mod Started
 pub mod Runs
+pub mod Asked
+pub mod Laws

@@ -1,2 +1,4 @@
 pub mod Starts
 pub mod Whole
+pub mod Questions
+pub mod Formula

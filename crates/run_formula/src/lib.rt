@@ -2,9 +2,16 @@
 //! bounds, and on which each fact holds.
 #![tactic(auto)]
 
+mod asking;
+mod events;
+mod formula;
+mod questions;
 mod starts;
 mod texts;
 mod whole;
 
+pub use asking::ask;
+pub use formula::{RunFormula, run_formula};
+pub use questions::Question;
 pub use starts::start_memory;
 pub use whole::run_states;

@@ -1,0 +1,61 @@
+-- What the formula of a program's runs says of each world.
+use Rattle.std.specs.Prelude.{◌≡◌, ◌↔◌, ℕ, List, [], ◌∷◌, true, nat_eq, Option, Some, None}
+use Rattle.std.specs.List.{starts_with}
+use Rattle.bit_words.specs.declared.fact.Fact.{Fact}
+use Rattle.bit_words.specs.declared.run.Run.{Run}
+use Rattle.log_text.specs.Shown.{StaysIn, Fits, Holds}
+use Rattle.core_tree.specs.Programs.{run_of}
+use Rattle.term_bank.specs.declared.sort.Sort.TheVariants.{Truth}
+use Rattle.term_bank.specs.declared.sort.Node.{Node}
+use Rattle.term_bank.specs.declared.shape.Shape.{Shape}
+use Rattle.term_bank.specs.Terms.{IsTerm}
+use Rattle.term_bank.specs.Values.{Environment, Values, Models, Grows}
+use Rattle.summary_compose.specs.Summaries.{world_in}
+use Rattle.path_summaries.specs.Tours.{Tour}
+use Rattle.run_formula.specs.declared.formula.RunFormula.{RunFormula}
+
+-- ---- the program's run in the world of an environment
+
+-- P holds of the run
+abbrev pub OfRun : (Run → Type 0) → Option Run → Type 0
+OfRun P None = ⊥
+OfRun P (Some r) = P r
+
+abbrev pub the_run : Tour → Environment → Option Run
+the_run t e = run_of t.core (world_in e) t.limits t.depth
+
+-- it prints exactly the log and stays within the bounds
+abbrev pub FitsIn : Tour → Environment → Type 0
+FitsIn t e = OfRun (Fits t.log) (the_run t e)
+
+-- it leaves the bounds, and what it has printed begins the log
+abbrev pub LeavesIn : Tour → Environment → Type 0
+LeavesIn t e = OfRun (λ r. (StaysIn r.finish → ⊥) × (starts_with nat_eq t.log r.printed ≡ true)) (the_run t e)
+
+abbrev pub HoldsIn : Tour → Environment → Fact → Type 0
+HoldsIn t e f = OfRun (λ r. Holds t.log r f) (the_run t e)
+
+-- ---- truths over the world
+
+-- a truth that says so in each world
+pub record SaysWhere (b : List Shape) (P : Environment → Type 0) (n : Node) : Type 0 where
+  pub term : IsTerm b Truth n
+  pub is : (e : Environment) (v : Values) → Models b e v → ((v n.index).truth ≡ true) ↔ P e
+
+-- a truth that says of each world whose run fits whether the fact holds on it
+pub record SaysFact (t : Tour) (b : List Shape) (f : Fact) (n : Node) : Type 0 where
+  pub term : IsTerm b Truth n
+  pub is : (e : Environment) (v : Values) → Models b e v → FitsIn t e → ((v n.index).truth ≡ true) ↔ HoldsIn t e f
+
+-- of each fact, in order
+abbrev pub SayFacts : Tour → List Shape → List Fact → List Node → Type 0
+SayFacts t b [] [] = Unit {0}
+SayFacts t b [] (n ∷ ns) = ⊥
+SayFacts t b (f ∷ fs) [] = ⊥
+SayFacts t b (f ∷ fs) (n ∷ ns) = SaysFact t b f n × SayFacts t b fs ns
+
+pub record IsFormula (t : Tour) (a b : List Shape) (fs : List Fact) (r : RunFormula) : Type 0 where
+  pub grows : Grows a b
+  pub fits : SaysWhere b (FitsIn t) r.fits
+  pub left : SaysWhere b (LeavesIn t) r.left
+  pub facts : SayFacts t b fs r.facts

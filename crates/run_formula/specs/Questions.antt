@@ -1,0 +1,106 @@
+-- What is asked of a run along a log.
+use Rattle.std.specs.Prelude.{◌≡◌, ◌↔◌, ◌⊎◌, ℕ, List, [], ◌∷◌, length, take, true, Option, Some, None}
+use Rattle.bit_words.specs.declared.fact.Fact.{Fact}
+use Rattle.bit_words.specs.declared.fact.Fact.TheVariants as fact
+use Rattle.bit_words.specs.declared.run.Event.{Event}
+use Rattle.bit_words.specs.declared.run.Finish.{Finish}
+use Rattle.bit_words.specs.declared.run.Finish.TheVariants as finish
+use Rattle.bit_words.specs.declared.run.Run.{Run}
+use Rattle.log_text.specs.Shown.{StaysIn, BeginsIn, IsBranch, IsCall, IsPrint, Returns, Exits, StopsBy, Holds}
+use Rattle.c_runs.specs.Runs.{finish_of}
+use Rattle.core_tree.specs.States.{Done}
+use Rattle.term_bank.specs.declared.sort.Sort.TheVariants.{Truth}
+use Rattle.term_bank.specs.declared.sort.Node.{Node}
+use Rattle.term_bank.specs.declared.shape.Shape.{Shape}
+use Rattle.term_bank.specs.Terms.{IsTerm}
+use Rattle.term_bank.specs.Values.{Environment, Values, Models, Grows}
+use Rattle.path_states.specs.declared.state.PathEvent.{PathEvent}
+use Rattle.path_states.specs.declared.state.State.{State}
+use Rattle.path_states.specs.States.{Held, seen, done_in, standing}
+use Rattle.run_formula.specs.declared.questions.Question.{Question}
+use Rattle.run_formula.specs.declared.questions.Question.TheVariants as question
+
+-- P holds of one of them at least
+abbrev pub OneOf : {A : Type 0} → (A → Type 0) → List A → Type 0
+OneOf P [] = ⊥
+OneOf P (x ∷ xs) = P x ⊎ OneOf P xs
+
+-- ---- what a fact speaks of
+
+-- the events on which a fact holds
+abbrev pub IsMeant : List ℕ → Fact → Event → Type 0
+IsMeant log (fact.Branch at side) e = IsBranch at side e.what
+IsMeant log (fact.BranchIn at side line) e = IsBranch at side e.what × BeginsIn log line e
+IsMeant log (fact.Call at) e = IsCall at e.what
+IsMeant log (fact.CallIn at line) e = IsCall at e.what × BeginsIn log line e
+IsMeant log (fact.Print at line) e = IsPrint at e.what × BeginsIn log line e
+IsMeant log _ e = ⊥
+
+-- the ends of a run on which a fact holds
+abbrev pub EndsSo : Fact → Finish → Type 0
+EndsSo (fact.StopAt kind at) f = f ≡ finish.Stopped kind at
+EndsSo fact.Returned f = Returns f
+EndsSo fact.Exited f = Exits f
+EndsSo fact.Aborted f = f ≡ finish.Abort
+EndsSo (fact.StopOf kind) f = StopsBy kind f
+EndsSo _ f = ⊥
+
+-- two ends that are the same, but for the value that `main` returns
+abbrev pub SameEnd : Finish → Finish → Type 0
+SameEnd (finish.Return x) (finish.Return y) = Unit {0}
+SameEnd f g = f ≡ g
+
+-- ---- runs
+
+-- what a run along a log has shown
+abbrev pub shown : List ℕ → Done ℕ → Run
+shown log d = record { printed = take d.out log; events = d.events; finish = finish_of d.kind d.value }
+
+-- the answer is yes
+abbrev pub Meets : List ℕ → Question → Done ℕ → Type 0
+Meets log question.Fits d = StaysIn (shown log d).finish × (d.out ≡ length log)
+Meets log question.Left d = StaysIn (shown log d).finish → ⊥
+Meets log (question.Holds f) d = Holds log (shown log d) f
+
+-- of a run that goes on along the log
+abbrev pub MeetsOn : List ℕ → Question → Option (Done ℕ) → Type 0
+MeetsOn log q None = ⊥
+MeetsOn log q (Some d) = Meets log q d
+
+-- ---- nodes
+
+-- true where one of the events that were seen is meant
+pub record TellsEvents (a b : List Shape) (log : List ℕ) (f : Fact) (xs : List PathEvent) (n : Node) : Type 0 where
+  pub grows : Grows a b
+  pub term : IsTerm b Truth n
+  pub is : (e : Environment) (v : Values) → Models b e v → ((v n.index).truth ≡ true) ↔ OneOf (IsMeant log f) (seen v xs)
+
+-- true where the answer is yes on what a state says of a run
+pub record TellsState (a b : List Shape) (log : List ℕ) (q : Question) (s : State) (n : Node) : Type 0 where
+  pub grows : Grows a b
+  pub term : IsTerm b Truth n
+  pub is : (e : Environment) (v : Values) → Models b e v → ((v n.index).truth ≡ true) ↔ Meets log q (done_in v s)
+
+-- true where the answer is yes on one of those that stand
+pub record TellsStates (a b : List Shape) (log : List ℕ) (q : Question) (ss : List State) (n : Node) : Type 0 where
+  pub grows : Grows a b
+  pub term : IsTerm b Truth n
+  pub is : (e : Environment) (v : Values) → Models b e v
+      → ((v n.index).truth ≡ true) ↔ OneOf (λ (h : Held). Meets log q h.done) (standing v ss)
+
+-- the same, of a bank that has grown since
+pub record IsAnswer (b : List Shape) (log : List ℕ) (q : Question) (ss : List State) (n : Node) : Type 0 where
+  pub term : IsTerm b Truth n
+  pub is : (e : Environment) (v : Values) → Models b e v
+      → ((v n.index).truth ≡ true) ↔ OneOf (λ (h : Held). Meets log q h.done) (standing v ss)
+
+-- of each fact, in order
+abbrev pub AnswerAll : List Shape → List ℕ → List State → List Fact → List Node → Type 0
+AnswerAll b log ss [] [] = Unit {0}
+AnswerAll b log ss [] (n ∷ ns) = ⊥
+AnswerAll b log ss (f ∷ fs) [] = ⊥
+AnswerAll b log ss (f ∷ fs) (n ∷ ns) = IsAnswer b log (question.Holds f) ss n × AnswerAll b log ss fs ns
+
+pub record AsksAll (a b : List Shape) (log : List ℕ) (ss : List State) (fs : List Fact) (ns : List Node) : Type 0 where
+  pub grows : Grows a b
+  pub answers : AnswerAll b log ss fs ns

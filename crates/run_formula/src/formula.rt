@@ -1,0 +1,72 @@
+//! The formula of a program's runs.
+ghost use Rattle.std.specs.Prelude.{IfOk};
+ghost use Rattle.c_runs.specs.Units.{limits_of};
+ghost use Rattle.log_expr.specs.Sound.{IsSound};
+ghost use Rattle.path_states.specs.States.{AreStates};
+ghost use Rattle.path_summaries.specs.Tours.{tour_of};
+ghost use Rattle.run_formula.specs.Questions.{AsksAll};
+ghost use Rattle.run_formula.specs.Formula.{IsFormula};
+
+use crate::asking::ask;
+use crate::questions::Question;
+use crate::whole::run_states;
+use bit_words::{Bounds, Fact};
+use core_tree::Core;
+use log_expr::EndTable;
+use log_text::LogText;
+use path_forms::WalkFault;
+use path_states::State;
+use plain_data::Items;
+use std::alloc::Global;
+use term_bank::{Bank, BankFault, Node};
+
+/// What is said of a program's run in every world, by truths over the world alone.
+#[derive(Drop)]
+pub struct RunFormula {
+    /// The run fits the log: it prints exactly the log, and stays within the bounds.
+    pub fits: Node,
+    /// The run leaves the bounds, and what it has printed begins the log.
+    pub left: Node,
+    /// Of each fact, in order: it holds on the run, where this fits.
+    pub facts: Items<Node>,
+}
+
+/// The answers on all facts, in order. It fails for want of memory alone.
+fn ask_all(
+    alloc: Global,
+    bank: &mut Bank,
+    states: &[State],
+    facts: &[Fact],
+    log: &LogText,
+) -> Result<Items<Node>, BankFault>
+    requires { AreStates bank.old states.now }
+    ensures { IfOk result (AsksAll bank.old bank.new log.now states.now facts.now) }
+{
+    let mut nodes = Items::new(alloc);
+    for fact in facts {
+        let node = ask(bank, states, Question::Holds(*fact), log)?;
+        nodes.push(node)?;
+    }
+    Ok(nodes)
+}
+
+/// The formula of a program's runs along a log, for these facts. It fails for want of memory, and where the walk can't do
+/// a step yet (`run_states`).
+pub fn run_formula(
+    alloc: Global,
+    core: &Core,
+    log: &LogText,
+    bounds: &Bounds,
+    ends: &EndTable,
+    facts: &[Fact],
+    bank: &mut Bank,
+) -> Result<RunFormula, WalkFault>
+    requires { IsSound core.now log.now (limits_of bounds.now) bounds.now.depth ends.now }
+    ensures { IfOk result (IsFormula (tour_of core.now log.now bounds.now ends.now) bank.old bank.new facts.now) }
+{
+    let states = run_states(alloc, core, log.bytes(), bounds, ends, bank)?;
+    let fits = ask(bank, states.as_slice(), Question::Fits, log)?;
+    let left = ask(bank, states.as_slice(), Question::Left, log)?;
+    let facts = ask_all(alloc, bank, states.as_slice(), facts, log)?;
+    Ok(RunFormula { fits, left, facts })
+}

@@ -1,0 +1,44 @@
+//! What is asked of a run along a log.
+ghost use Rattle.std.specs.Prelude.{◌≡◌, ◌↔◌, ℤ, Option, true};
+ghost use Rattle.log_text.specs.Shown.{StaysIn};
+ghost use Rattle.c_runs.specs.Runs.{finish_of as end_of};
+ghost use Rattle.run_formula.specs.Questions.{EndsSo, SameEnd};
+
+use bit_words::{Fact, Finish};
+use c_means::Kind;
+use run_facts::{aborts, exits, returns, stops_at, stops_by};
+
+/// What is asked of a run along a log.
+#[derive(Clone, Copy)]
+pub enum Question {
+    /// Whether it is at the log's end, within the bounds.
+    Fits,
+    /// Whether it left the bounds.
+    Left,
+    /// Whether a fact holds on it.
+    Holds(Fact),
+}
+
+/// The end of a run of this kind; a run that has not ended returns from `main`, with whatever value.
+pub(crate) fn finish_of(kind: &Kind) -> Finish
+    ensures { (value : Option ℤ) → SameEnd result (end_of kind.now value) }
+{
+    match kind {
+        Kind::Ended(finish) => *finish,
+        _ => Finish::Return(0),
+    }
+}
+
+/// Whether a fact of a run's end holds on one that ends so; a fact of another kind doesn't.
+pub(crate) fn ends_so(finish: Finish, fact: &Fact) -> bool
+    ensures { (result ≡ true) ↔ EndsSo fact.now finish }
+{
+    match *fact {
+        Fact::StopAt { kind, at } => stops_at(finish, kind, at),
+        Fact::Returned => returns(finish),
+        Fact::Exited => exits(finish),
+        Fact::Aborted => aborts(finish),
+        Fact::StopOf { kind } => stops_by(finish, kind),
+        _ => false,
+    }
+}
