@@ -1,5 +1,5 @@
 -- Answers to questions, of one state and of all.
-use Rattle.std.proofs.Common.{◌≡◌, ◌↔◌, ◌⊎◌, inl, inr, ◌<◌, ℕ, zero, suc, ℤ, List, [], ◌∷◌, ◌++◌, length, Bool, true, false, cond, Option, Some, None, refl, sym, ap, subst, ◌∙◌, arith, get_or}
+use Rattle.std.proofs.Common.{◌≡◌, ◌↔◌, ◌⊎◌, inl, inr, ◌<◌, ℕ, zero, suc, List, [], ◌∷◌, ◌++◌, length, Bool, true, false, cond, Option, Some, None, refl, sym, ap, subst, ◌∙◌, arith, get_or}
 use Rattle.std.specs.Prelude.{Ok}
 use Rattle.std.specs.List.{Any, slice_index_or}
 use Rattle.bit_words.specs.declared.fact.Fact.{Fact}
@@ -10,12 +10,11 @@ use Rattle.bit_words.specs.declared.run.Finish.TheVariants as finish
 use Rattle.bit_words.specs.declared.run.Run.{Run}
 use Rattle.log_text.specs.Shown.{StaysIn, Holds}
 use Rattle.core_tree.specs.States.{Done}
-use Rattle.term_bank.specs.declared.sort.Sort.TheVariants.{Truth}
 use Rattle.term_bank.specs.declared.sort.Node.{Node}
 use Rattle.term_bank.specs.declared.shape.Connective.TheVariants as connective
 use Rattle.term_bank.specs.declared.shape.Shape.{Shape}
 use Rattle.term_bank.specs.declared.shape.Shape.TheVariants as shape
-use Rattle.term_bank.specs.Terms.{IsTerm, Makes}
+use Rattle.term_bank.specs.Terms.{Makes}
 use Rattle.term_bank.specs.Values.{Environment, Values, Models, Grows, Worth}
 use Rattle.term_bank.proofs.BankLemmas.{weaken, stays, grows_on}
 use Rattle.term_bank.proofs.TermLemmas.{term_grown}
@@ -24,7 +23,7 @@ use Rattle.path_states.specs.declared.state.State.{State}
 use Rattle.path_states.specs.States.{Held, IsEvent, AreEvents, event_in, seen, done_in, run_in, standing}
 use Rattle.path_states.specs.Ways.{to_list}
 use Rattle.path_states.proofs.Growth.{seen_joined, standing_joined}
-use Rattle.path_arrows.specs.Arrows.{bare, bared}
+use Rattle.path_arrows.specs.Arrows.{bared}
 use Rattle.path_summaries.specs.Tours.{Tour}
 use Rattle.run_formula.specs.declared.questions.Question.{Question}
 use Rattle.run_formula.specs.declared.questions.Question.TheVariants as question

@@ -1,14 +1,13 @@
 -- What the run along a log says is what the run that prints says.
-use Rattle.std.proofs.Common.{◌≡◌, ◌↔◌, ◌+◌, ℕ, zero, suc, List, [], ◌∷◌, ◌++◌, length, Bool, true, false, cond, ◌&&◌, nat_eq, Option, Some, None, refl, sym, ap, subst, ◌∙◌, arith}
+use Rattle.std.proofs.Common.{◌≡◌, ◌↔◌, ◌+◌, ℕ, List, [], ◌∷◌, length, Bool, true, false, cond, ◌&&◌, nat_eq, Option, Some, None, refl, sym, ap, subst, ◌∙◌, arith}
 use Rattle.std.specs.List.{starts_with}
 use Rattle.bit_words.specs.declared.fact.Fact.{Fact}
 use Rattle.bit_words.specs.declared.fact.Fact.TheVariants as fact
 use Rattle.log_text.specs.Shown.{StaysIn, Fits, Holds}
-use Rattle.c_runs.specs.Runs.{finish_of}
 use Rattle.core_tree.specs.States.{Done, Output, follows, plain}
 use Rattle.core_tree.specs.Programs.{machine, end_of, nothing_left, ran, maybe_ran}
 use Rattle.core_tree.proofs.Cut.{end_cut}
-use Rattle.core_tree.proofs.CutStates.{prefix, starts_prefix, seen_as, where_on, CutsState}
+use Rattle.core_tree.proofs.CutStates.{prefix, starts_prefix, seen_as, CutsState}
 use Rattle.term_bank.specs.declared.sort.Node.{Node}
 use Rattle.term_bank.specs.declared.shape.Shape.{Shape}
 use Rattle.term_bank.specs.Values.{Environment, Values, Models}
@@ -16,12 +15,11 @@ use Rattle.term_bank.proofs.BankLemmas.{weaken, grows_on}
 use Rattle.path_states.specs.declared.state.State.{State}
 use Rattle.summary_compose.specs.Summaries.{world_in}
 use Rattle.path_summaries.specs.Tours.{Tour}
-use Rattle.run_formula.specs.declared.formula.RunFormula.{RunFormula}
 use Rattle.run_formula.specs.declared.questions.Question.{Question}
 use Rattle.run_formula.specs.declared.questions.Question.TheVariants as question
 use Rattle.run_formula.specs.Whole.{run_in_world, RunsAll}
-use Rattle.run_formula.specs.Questions.{shown, Meets, MeetsOn, IsAnswer, AnswerAll, AsksAll, TellsStates}
-use Rattle.run_formula.specs.Formula.{OfRun, the_run, FitsIn, LeavesIn, HoldsIn, SaysWhere, SaysFact, SayFacts, IsFormula}
+use Rattle.run_formula.specs.Questions.{shown, MeetsOn, IsAnswer, AnswerAll, AsksAll, TellsStates}
+use Rattle.run_formula.specs.Formula.{OfRun, FitsIn, LeavesIn, HoldsIn, SaysWhere, SaysFact, SayFacts, IsFormula}
 use Rattle.run_formula.proofs.Asked.{both, answer_of, answer_grown, answers_run}
 
 -- ---- texts

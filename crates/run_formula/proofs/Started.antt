@@ -1,5 +1,5 @@
 -- Memories in which a run begins.
-use Rattle.std.proofs.Common.{◌≡◌, ◌<◌, ◌≤◌, ◌+◌, ◌*◌, ◌-◌, ◌^◌, ◌%◌, ℕ, zero, suc, List, [], ◌∷◌, ◌++◌, Bool, true, false, cond, Some, None, refl, sym, ap, subst, ◌∙◌, arith, nat_eq, nat_le, nat_lt, length, get_or}
+use Rattle.std.proofs.Common.{◌≡◌, ◌<◌, ◌≤◌, ◌+◌, ◌-◌, ◌^◌, ◌%◌, ℕ, zero, suc, List, [], ◌∷◌, ◌++◌, Bool, true, false, cond, Some, refl, sym, ap, subst, ◌∙◌, arith, nat_eq, length, get_or}
 use Rattle.std.specs.Prelude.{Ok}
 use Rattle.std.proofs.lemmas.Bool.Decides.{nat_tests}
 use Rattle.bit_words.specs.declared.width.Width.TheVariants.{W8, W64}
@@ -8,7 +8,6 @@ use Rattle.c_store.specs.declared.object.ObjectKind.{ObjectKind}
 use Rattle.c_store.specs.Store.{Store, start, make, lay, write, zero_range, initial, within, byte_of}
 use Rattle.c_store.proofs.Laws.{store_ext}
 use Rattle.c_runs.specs.Initials.{text_byte}
-use Rattle.core_tree.specs.declared.program.Contents.TheVariants as contents
 use Rattle.core_tree.specs.declared.program.LastingObject.{LastingObject}
 use Rattle.core_tree.specs.Programs.{filled_with}
 use Rattle.term_bank.specs.declared.sort.Sort.TheVariants.{Memory}
@@ -17,7 +16,7 @@ use Rattle.term_bank.specs.declared.shape.Shape.{Shape}
 use Rattle.term_bank.specs.declared.shape.Shape.TheVariants as shape
 use Rattle.term_bank.specs.Memories as wrapping
 use Rattle.term_bank.specs.Terms.{IsTerm, Makes}
-use Rattle.term_bank.specs.Values.{Environment, Worth}
+use Rattle.term_bank.specs.Values.{Worth}
 use Rattle.term_bank.proofs.BankLemmas.{weaken, stays, grows_on}
 use Rattle.mem_terms.proofs.Space.{write_store, zero_store}
 use Rattle.path_states.specs.States.{IsSized}

@@ -1,5 +1,5 @@
 -- What the formula of a program's runs says of each world.
-use Rattle.std.specs.Prelude.{◌≡◌, ◌↔◌, ℕ, List, [], ◌∷◌, true, nat_eq, Option, Some, None}
+use Rattle.std.specs.Prelude.{◌≡◌, ◌↔◌, List, [], ◌∷◌, true, nat_eq, Option, Some, None}
 use Rattle.std.specs.List.{starts_with}
 use Rattle.bit_words.specs.declared.fact.Fact.{Fact}
 use Rattle.bit_words.specs.declared.run.Run.{Run}

@@ -1,4 +1,5 @@
 pub mod Starts
+pub mod Settings
 pub mod Whole
 pub mod Questions
 pub mod Formula

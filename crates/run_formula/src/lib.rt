@@ -3,9 +3,11 @@
 #![tactic(auto)]
 
 mod asking;
+mod entering;
 mod events;
 mod formula;
 mod questions;
+mod settings;
 mod starts;
 mod texts;
 mod whole;

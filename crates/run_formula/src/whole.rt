@@ -3,11 +3,11 @@ ghost use Rattle.std.specs.Prelude.{◌≡◌, Some, IfOk, slice_get};
 ghost use Rattle.c_runs.specs.Units.{limits_of};
 ghost use Rattle.log_expr.specs.Sound.{IsSound};
 ghost use Rattle.path_summaries.specs.Tours.{tour_of};
-ghost use Rattle.term_bank.specs.Banks.{IsBank};
 ghost use Rattle.run_formula.specs.Whole.{HasRoom, RunsAll};
 
-use crate::starts::start_memory;
-use bit_words::{Bounds, Width};
+use crate::entering::enter_all;
+use crate::settings::ready;
+use bit_words::Bounds;
 use core_tree::Core;
 use log_expr::EndTable;
 use path_forms::WalkFault;
@@ -15,15 +15,7 @@ use path_states::State;
 use path_summaries::{Levelled, summarize};
 use plain_data::Items;
 use std::alloc::Global;
-use summary_compose::put_in;
-use term_bank::{Bank, Binding};
-
-/// The bank keeps its invariant, which proofs learn here.
-fn keeps_bank(bank: &Bank)
-    ensures { IsBank bank.now }
-{
-    let _ = bank.len();
-}
+use term_bank::Bank;
 
 /// A room that was told. It fails where none was.
 fn told(room: Option<u64>) -> Result<u64, WalkFault>
@@ -62,8 +54,8 @@ fn place_of_main(core: &Core, rooms: &[Option<u64>]) -> Result<u64, WalkFault>
 }
 
 /// The ends of the program's runs along the log in all worlds at once, as states over the world alone. It fails for want
-/// of memory, where the walk can't do a step yet, where `main` is given arguments or an object has an initializer, which
-/// aren't walked yet, and where there are more places than numbers.
+/// of memory, where the walk can't do a step yet, where `main` is given arguments, which isn't walked yet, and where
+/// there are more places than numbers.
 pub fn run_states(
     alloc: Global,
     core: &Core,
@@ -75,26 +67,19 @@ pub fn run_states(
     requires { IsSound core.now log.now (limits_of bounds.now) bounds.now.depth ends.now }
     ensures { IfOk result (λ ss. RunsAll (tour_of core.now log.now bounds.now ends.now) bank.old bank.new ss) }
 {
-    if core.has_arguments || !core.settings.is_empty() {
+    if core.has_arguments {
         return Err(WalkFault::Unwalked);
     }
     let levels = summarize(alloc, core, log, bounds, ends, bank)?;
     let place = place_of_main(core, levels.rooms.as_slice())?;
-    let memory = start_memory(bank, core.objects.as_slice())?;
-    let base = bank.word(place, Width::W64)?;
-    keeps_bank(bank);
+    let readied = ready(alloc, core, log, bounds, bank)?;
     match levels.table.find(core.main, bounds.depth - 1, 0) {
         None => Err(WalkFault::Unwalked),
         Some(summary) => {
             if !summary.parameters.is_empty() {
                 return Err(WalkFault::Unwalked);
             }
-            let binding = Binding {
-                entry: memory,
-                parameters: Items::new(alloc),
-                base,
-            };
-            let states = put_in(alloc, bank, summary.states.as_slice(), &binding)?;
+            let states = enter_all(alloc, bank, summary, place, readied.as_slice())?;
             Ok(states)
         }
     }

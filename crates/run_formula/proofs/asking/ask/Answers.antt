@@ -2,7 +2,6 @@ use Rattle.std.proofs.Common.{take}
 use Rattle.std.proofs.lemmas.List.{take_all}
 use Rattle.term_bank.proofs.BankLemmas.{grows_on}
 use Rattle.term_bank.proofs.TermLemmas.{term_grown}
-use Rattle.path_states.specs.States.{IsState}
 use Rattle.path_states.proofs.Growth.{state_grown}
 use Rattle.path_states.proofs.Paths.{item_of, more_of}
 use Rattle.run_formula.proofs.Asked.{states_none, states_more}

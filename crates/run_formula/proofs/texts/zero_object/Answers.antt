@@ -1,4 +1,4 @@
-use Rattle.std.proofs.Common.{rules, ◌≡◌, ap, sym, subst}
+use Rattle.std.proofs.Common.{rules}
 use Rattle.term_bank.proofs.BankLemmas.{grows_on}
 use Rattle.term_bank.proofs.TermLemmas.{term_grown}
 use Rattle.run_formula.proofs.Started.{zeroed}

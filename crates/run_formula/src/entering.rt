@@ -1,0 +1,130 @@
+//! `main`, entered from what was before it (C99 5.1.2.2.1).
+ghost use Rattle.std.specs.Prelude.{◌≡◌, ◌∷◌, [], IfOk};
+ghost use Rattle.term_bank.specs.declared.sort.Sort.TheVariants.{Truth};
+ghost use Rattle.term_bank.specs.Banks.{IsBank};
+ghost use Rattle.term_bank.specs.Terms.{IsTerm};
+ghost use Rattle.path_states.specs.States.{IsState, AreStates};
+ghost use Rattle.path_arrows.specs.Arrows.{is_running as runs};
+ghost use Rattle.run_formula.specs.Whole.{Guards, EntersOne, EntersAll};
+
+use bit_words::Width;
+use c_means::Kind;
+use path_forms::WalkFault;
+use path_states::{State, alone};
+use plain_data::Items;
+use std::alloc::{AllocError, Global};
+use summary_compose::{Summary, put_in};
+use term_bank::{Bank, BankFault, Binding, Connective, Node};
+
+/// The bank keeps its invariant, which proofs learn here.
+fn keeps_bank(bank: &Bank)
+    ensures { IsBank bank.now }
+{
+    let _ = bank.len();
+}
+
+fn is_running(kind: &Kind) -> bool
+    ensures { result ≡ runs kind.now }
+{
+    match kind {
+        Kind::Running => true,
+        Kind::Breaking
+        | Kind::Continuing
+        | Kind::Returning
+        | Kind::Going { .. }
+        | Kind::Choosing { .. }
+        | Kind::Defaulting
+        | Kind::Ended(_) => false,
+    }
+}
+
+/// A state with another guard.
+fn with_guard(alloc: Global, guard: Node, state: &State) -> Result<State, AllocError>
+    ensures { IfOk result (λ t. t ≡ record state.now { guard = guard }) }
+{
+    let mut next = state.copy(alloc)?;
+    next.guard = guard;
+    Ok(next)
+}
+
+/// States, where a guard is true besides their own. It fails for want of memory alone.
+fn under_guard(
+    alloc: Global,
+    bank: &mut Bank,
+    guard: Node,
+    states: &[State],
+) -> Result<Items<State>, BankFault>
+    requires guard { IsTerm bank.old Truth guard }
+    requires states { AreStates bank.old states.now }
+    ensures { IfOk result (Guards bank.old bank.new guard states.now) }
+{
+    let mut all = Items::new(alloc);
+    for state in states {
+        let both = bank.connect(Connective::And, guard, state.guard)?;
+        let next = with_guard(alloc, both, state)?;
+        all.push(next)?;
+    }
+    Ok(all)
+}
+
+/// The state as it is, without operands.
+fn pass_one(alloc: Global, state: &State) -> Result<Items<State>, AllocError>
+    ensures { IfOk result (λ ts. ts ≡ record state.now { operands = [] } ∷ []) }
+{
+    let mut next = state.copy(alloc)?;
+    next.operands = Items::new(alloc);
+    let all = alone(alloc, next)?;
+    Ok(all)
+}
+
+/// The ends of `main`, from the summary of it and its first place, behind a state.
+fn enter_one(
+    alloc: Global,
+    bank: &mut Bank,
+    summary: &Summary,
+    place: u64,
+    state: &State,
+) -> Result<Items<State>, WalkFault>
+    requires ends { AreStates bank.old summary.now.states }
+    requires state { IsState bank.old state.now }
+    ensures { IfOk result (EntersOne bank.old bank.new summary.now place state.now) }
+{
+    if !is_running(&state.kind) {
+        let all = pass_one(alloc, state)?;
+        return Ok(all);
+    }
+    if state.position != 0 {
+        return Err(WalkFault::Unwalked);
+    }
+    let base = bank.word(place, Width::W64)?;
+    keeps_bank(bank);
+    let binding = Binding {
+        entry: state.memory,
+        parameters: Items::new(alloc),
+        base,
+    };
+    let ends = put_in(alloc, bank, summary.states.as_slice(), &binding)?;
+    let all = under_guard(alloc, bank, state.guard, ends.as_slice())?;
+    Ok(all)
+}
+
+/// The ends of `main` behind states of which one stands at most. It fails for want of memory, and where something was
+/// printed before `main`, which nothing does.
+pub(crate) fn enter_all(
+    alloc: Global,
+    bank: &mut Bank,
+    summary: &Summary,
+    place: u64,
+    states: &[State],
+) -> Result<Items<State>, WalkFault>
+    requires ends { AreStates bank.old summary.now.states }
+    requires states { AreStates bank.old states.now }
+    ensures { IfOk result (EntersAll bank.old bank.new summary.now place states.now) }
+{
+    let mut all = Items::new(alloc);
+    for state in states {
+        let ends = enter_one(alloc, bank, summary, place, state)?;
+        all.append(ends)?;
+    }
+    Ok(all)
+}
