@@ -40,19 +40,24 @@ claimed-holds v (Unknown l) = plain (literal_holds v l)
     plain true = refl
     plain false = refl
 
-pub joined-holds : (v : Valuation) (xs : List (List Literal)) (x : Bit) → formula_holds v (xs ++ claimed x) ≡ (formula_holds v xs && bit_holds v x)
-joined-holds v xs x = list_all-append (clause_holds v) xs (claimed x) ∙ ap (λ b. formula_holds v xs && b) (claimed-holds v x)
+pub joined-holds : (v : Valuation) (xs : List (List Literal)) (x : Bit)
+    → formula_holds v (xs ++ claimed x) ≡ (formula_holds v xs && bit_holds v x)
+joined-holds v xs x =
+    list_all-append (clause_holds v) xs (claimed x) ∙ ap (λ b. formula_holds v xs && b) (claimed-holds v x)
 
-pub holds-both : (v : Valuation) (xs : List (List Literal)) (x : Bit) → formula_holds v xs ≡ true → bit_holds v x ≡ true → formula_holds v (xs ++ claimed x) ≡ true
+pub holds-both : (v : Valuation) (xs : List (List Literal)) (x : Bit) → formula_holds v xs ≡ true
+    → bit_holds v x ≡ true → formula_holds v (xs ++ claimed x) ≡ true
 holds-both v xs x h k = joined-holds v xs x ∙ and_from (formula_holds v xs) (bit_holds v x) h k
 
-pub holds-parts : (v : Valuation) (xs : List (List Literal)) (x : Bit) → formula_holds v (xs ++ claimed x) ≡ true → (formula_holds v xs ≡ true) × (bit_holds v x ≡ true)
+pub holds-parts : (v : Valuation) (xs : List (List Literal)) (x : Bit) → formula_holds v (xs ++ claimed x) ≡ true
+    → (formula_holds v xs ≡ true) × (bit_holds v x ≡ true)
 holds-parts v xs x h = and_parts (formula_holds v xs) (bit_holds v x) (sym (joined-holds v xs x) ∙ h)
 
 -- ---- lists of clauses
 
 -- one clause more was put behind those that were
-pub more-put : (old now next xs : List (List Literal)) (i : ℕ) (x : List Literal) → slice_get xs i ≡ Some x → now ≡ old ++ take i xs → next ≡ now ++ x ∷ [] → next ≡ old ++ take (i + 1) xs
+pub more-put : (old now next xs : List (List Literal)) (i : ℕ) (x : List Literal) → slice_get xs i ≡ Some x
+    → now ≡ old ++ take i xs → next ≡ now ++ x ∷ [] → next ≡ old ++ take (i + 1) xs
 more-put old now next xs i x at put more =
     let within : i < length xs = slice_get_within xs i x at in
     let read : Some x ≡ Some (get_or xs i x) = sym at ∙ slice_get-get_or xs i x within in

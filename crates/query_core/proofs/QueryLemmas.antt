@@ -1,5 +1,5 @@
 -- The query of a run formula.
-use Rattle.std.proofs.Common.{◌≡◌, ◌↔◌, ◌+◌, ◌∷◌, [], ℕ, zero, suc, List, Some, Bool, true, length, refl, sym, ap, ◌∙◌, subst, arith}
+use Rattle.std.proofs.Common.{◌≡◌, ◌↔◌, ◌≤◌, ◌+◌, ◌∷◌, [], ℕ, zero, suc, List, Some, Bool, true, length, refl, sym, ap, ◌∙◌, subst, arith}
 use Rattle.std.specs.List.{slice_get}
 use Rattle.bit_words.specs.declared.fact.Fact.{Fact}
 use Rattle.bit_words.specs.Worlds.{WorldTables}
@@ -24,7 +24,8 @@ use Rattle.path_summaries.specs.Tours.{Tour}
 use Rattle.run_formula.specs.declared.formula.RunFormula.{RunFormula}
 use Rattle.run_formula.specs.Formula.{FitsIn, HoldsIn, SaysFact, SayFacts, IsFormula}
 use Rattle.query_core.specs.declared.query.Query.{Query}
-use Rattle.query_core.specs.Claims.{fact_at, asked_nodes, first_bit, root_bit, run_clauses, IsMade, IsWhole, IsDecoded, TellsFacts, HasRun, FitsAs, IsQuery}
+use Rattle.query_core.specs.declared.target.Target.TheVariants.{Having, Lacking}
+use Rattle.query_core.specs.Claims.{fact_at, asked_nodes, first_bit, root_bit, run_clauses, IsMade, IsWhole, IsAbout, IsDecoded, TellsFacts, HasRun, FitsAs, IsQuery}
 use Rattle.query_core.proofs.BitLemmas.{first-holds, holds-both, holds-parts}
 
 -- ---- the nodes that are asked
@@ -39,22 +40,29 @@ facts-nodes t b (f ∷ fs) [] h = absurd h
 facts-nodes t b (f ∷ fs) (n ∷ ns) h = (term-node b n h.0.term, facts-nodes t b fs ns h.1)
 
 -- the truths of a run formula are nodes of its bank
-pub asked-stand : (t : Tour) (a b : List Shape) (fs : List Fact) (r : RunFormula) → IsFormula t a b fs r → Each (IsNode b) (asked_nodes r)
+pub asked-stand : (t : Tour) (a b : List Shape) (fs : List Fact) (r : RunFormula) → IsFormula t a b fs r
+    → Each (IsNode b) (asked_nodes r)
 asked-stand t a b fs r h = (term-node b r.fits h.fits.term, facts-nodes t b fs r.facts h.facts)
 
 -- ---- bits of truths
 
-truth-bit : (b : List Shape) (n : Node) (v : Valuation) (values : Values) (w : List Bit) → IsTerm b Truth n → spelled v w ≡ amount n.sort (values n.index) → bit_holds v (first_bit w) ≡ (values n.index).truth
+truth-bit : (b : List Shape) (n : Node) (v : Valuation) (values : Values) (w : List Bit) → IsTerm b Truth n
+    → spelled v w ≡ amount n.sort (values n.index) → bit_holds v (first_bit w) ≡ (values n.index).truth
 truth-bit b n v values w h e = first-holds v w (values n.index).truth (e ∙ ap (λ s. amount s (values n.index)) h.same)
 
 told-by : {A : Type 0} (x y : Bool) → x ≡ y → (y ≡ true) ↔ A → (x ≡ true) ↔ A
 told-by x y e h = (λ k. h.0 (sym e ∙ k), λ a. e ∙ h.1 a)
 
 module _ (t : Tour) (b : List Shape) (v : Valuation) (values : Values) (e : Environment) (m : Models b e values) where
-  fact-told : (f : Fact) (n : Node) (w : List Bit) → FitsIn t e → SaysFact t b f n → spelled v w ≡ amount n.sort (values n.index) → (bit_holds v (first_bit w) ≡ true) ↔ HoldsIn t e f
-  fact-told f n w fits says spells = told-by (bit_holds v (first_bit w)) (values n.index).truth (truth-bit b n v values w says.term spells) (says.is e values m fits)
+  fact-told : (f : Fact) (n : Node) (w : List Bit) → FitsIn t e → SaysFact t b f n
+      → spelled v w ≡ amount n.sort (values n.index) → (bit_holds v (first_bit w) ≡ true) ↔ HoldsIn t e f
+  fact-told f n w fits says spells =
+      told-by (bit_holds v (first_bit w)) (values n.index).truth (truth-bit b n v values w says.term spells)
+      (says.is e values m fits)
 
-  facts-told : (fs : List Fact) (ns : List Node) (ws : List (List Bit)) → FitsIn t e → SayFacts t b fs ns → HaveValues v values ns ws → (k : ℕ) (f : Fact) → slice_get fs k ≡ Some f → (bit_holds v (root_bit ws k) ≡ true) ↔ HoldsIn t e f
+  facts-told : (fs : List Fact) (ns : List Node) (ws : List (List Bit)) → FitsIn t e → SayFacts t b fs ns
+      → HaveValues v values ns ws → (k : ℕ) (f : Fact) → slice_get fs k ≡ Some f
+      → (bit_holds v (root_bit ws k) ≡ true) ↔ HoldsIn t e f
   facts-told [] ns ws fits say have k f is = absurd (cc)
   facts-told (g ∷ fs) [] ws fits say have k f is = absurd say
   facts-told (g ∷ fs) (n ∷ ns) [] fits say have k f is = absurd have
@@ -63,44 +71,69 @@ module _ (t : Tour) (b : List Shape) (v : Valuation) (values : Values) (e : Envi
       subst (λ x. (bit_holds v (first_bit w) ≡ true) ↔ HoldsIn t e x) same (fact-told g n w fits say.0 have.0)
   facts-told (g ∷ fs) (n ∷ ns) (w ∷ ws) fits say have (suc k) f is = facts-told fs ns ws fits say.1 have.1 k f is
 
-  numbered : (fs : List Fact) (ns : List Node) (w : List Bit) (ws : List (List Bit)) → FitsIn t e → SayFacts t b fs ns → HaveValues v values ns ws → (k : ℕ) (f : Fact) → fact_at fs k ≡ Some f → (bit_holds v (root_bit (w ∷ ws) k) ≡ true) ↔ HoldsIn t e f
+  numbered : (fs : List Fact) (ns : List Node) (w : List Bit) (ws : List (List Bit)) → FitsIn t e
+      → SayFacts t b fs ns → HaveValues v values ns ws → (k : ℕ) (f : Fact) → fact_at fs k ≡ Some f
+      → (bit_holds v (root_bit (w ∷ ws) k) ≡ true) ↔ HoldsIn t e f
   numbered fs ns w ws fits say have zero f is = absurd (cc)
   numbered fs ns w ws fits say have (suc k) f is = facts-told fs ns ws fits say have k f is
 
-  all-told : (fs : List Fact) (n : Node) (ns : List Node) (roots : List (List Bit)) → FitsIn t e → SayFacts t b fs ns → HaveValues v values (n ∷ ns) roots → TellsFacts t fs roots v e
+  all-told : (fs : List Fact) (n : Node) (ns : List Node) (roots : List (List Bit)) → FitsIn t e
+      → SayFacts t b fs ns → HaveValues v values (n ∷ ns) roots → TellsFacts t fs roots v e
   all-told fs n ns [] fits say have = absurd have
   all-told fs n ns (w ∷ ws) fits say have = record { is = numbered fs ns w ws fits say have.1 }
 
-  fits-bit : (n : Node) (ns : List Node) (roots : List (List Bit)) → IsTerm b Truth n → HaveValues v values (n ∷ ns) roots → bit_holds v (root_bit roots 0) ≡ (values n.index).truth
+  fits-bit : (n : Node) (ns : List Node) (roots : List (List Bit)) → IsTerm b Truth n
+      → HaveValues v values (n ∷ ns) roots → bit_holds v (root_bit roots 0) ≡ (values n.index).truth
   fits-bit n ns [] h have = absurd have
   fits-bit n ns (w ∷ ws) h have = truth-bit b n v values w h have.0
 
 -- ---- how many
 
-many-facts : (t : Tour) (b : List Shape) (v : Valuation) (values : Values) (fs : List Fact) (ns : List Node) (ws : List (List Bit)) → SayFacts t b fs ns → HaveValues v values ns ws → length ws ≡ length fs
+many-facts : (t : Tour) (b : List Shape) (v : Valuation) (values : Values) (fs : List Fact) (ns : List Node)
+    (ws : List (List Bit))
+    → SayFacts t b fs ns → HaveValues v values ns ws → length ws ≡ length fs
 many-facts t b v values [] [] [] say have = refl
 many-facts t b v values [] [] (w ∷ ws) say have = absurd have
 many-facts t b v values [] (n ∷ ns) ws say have = absurd say
 many-facts t b v values (f ∷ fs) [] ws say have = absurd say
 many-facts t b v values (f ∷ fs) (n ∷ ns) [] say have = absurd have
-many-facts t b v values (f ∷ fs) (n ∷ ns) (w ∷ ws) say have = let h : length ws ≡ length fs = many-facts t b v values fs ns ws say.1 have.1 in omega (arith, h)
+many-facts t b v values (f ∷ fs) (n ∷ ns) (w ∷ ws) say have =
+    let h : length ws ≡ length fs = many-facts t b v values fs ns ws say.1 have.1 in omega (arith, h)
 
-many-roots : (t : Tour) (b : List Shape) (v : Valuation) (values : Values) (fs : List Fact) (n : Node) (ns : List Node) (roots : List (List Bit)) → SayFacts t b fs ns → HaveValues v values (n ∷ ns) roots → length roots ≡ suc (length fs)
+many-roots : (t : Tour) (b : List Shape) (v : Valuation) (values : Values) (fs : List Fact) (n : Node) (ns : List Node)
+    (roots : List (List Bit))
+    → SayFacts t b fs ns → HaveValues v values (n ∷ ns) roots → length roots ≡ suc (length fs)
 many-roots t b v values fs n ns [] say have = absurd have
-many-roots t b v values fs n ns (w ∷ ws) say have = let h : length ws ≡ length fs = many-facts t b v values fs ns ws say have.1 in omega (arith, h)
+many-roots t b v values fs n ns (w ∷ ws) say have =
+    let h : length ws ≡ length fs = many-facts t b v values fs ns ws say have.1 in omega (arith, h)
 
 -- an environment in which everything is 0
 empty_environment : Environment
-empty_environment = record { entry = initial (λ _. 0); parameters = []; base = 0; words = λ _. 0; bytes = λ _. 0; rows = λ _ _. 0 }
+empty_environment = record {
+  entry = initial (λ _. 0);
+  parameters = [];
+  base = 0;
+  words = λ _. 0;
+  bytes = λ _. 0;
+  rows = λ _ _. 0;
+}
 
 -- ---- the query
 
-module _ (t : Tour) (a b c : List Shape) (fs : List Fact) (r : RunFormula) (q : Query) (h : IsFormula t a b fs r) (g : Grows b c) (bank : IsBank c) (blasted : IsBlasted c (asked_nodes r) q.blasted) (whole : IsWhole q) where
-  clauses-hold : (v : Valuation) → formula_holds v q.blasted.formula ≡ true → bit_holds v (root_bit q.blasted.roots 0) ≡ true → formula_holds v q.solver ≡ true
-  clauses-hold v k x = subst (λ s. formula_holds v s ≡ true) (sym whole.clauses) (holds-both v q.blasted.formula (root_bit q.blasted.roots 0) k x)
+module _ (t : Tour) (a b c : List Shape) (fs : List Fact) (r : RunFormula) (q : Query)
+    (h : IsFormula t a b fs r) (g : Grows b c) (bank : IsBank c)
+    (blasted : IsBlasted c (asked_nodes r) q.blasted) (whole : IsWhole q) where
+  clauses-hold : (v : Valuation) → formula_holds v q.blasted.formula ≡ true
+      → bit_holds v (root_bit q.blasted.roots 0) ≡ true → formula_holds v q.solver ≡ true
+  clauses-hold v k x =
+      subst (λ s. formula_holds v s ≡ true) (sym whole.clauses)
+      (holds-both v q.blasted.formula (root_bit q.blasted.roots 0) k x)
 
-  clauses-parts : (v : Valuation) → formula_holds v q.solver ≡ true → (formula_holds v q.blasted.formula ≡ true) × (bit_holds v (root_bit q.blasted.roots 0) ≡ true)
-  clauses-parts v k = holds-parts v q.blasted.formula (root_bit q.blasted.roots 0) (subst (λ s. formula_holds v s ≡ true) whole.clauses k)
+  clauses-parts : (v : Valuation) → formula_holds v q.solver ≡ true
+      → (formula_holds v q.blasted.formula ≡ true) × (bit_holds v (root_bit q.blasted.roots 0) ≡ true)
+  clauses-parts v k =
+      holds-parts v q.blasted.formula (root_bit q.blasted.roots 0)
+      (subst (λ s. formula_holds v s ≡ true) whole.clauses k)
 
   has-run : (e : Environment) → IsHonest e → FitsIn t e → (values : Values) → Models c e values → HasRun t fs q e
   has-run e honest fits values m =
@@ -113,7 +146,8 @@ module _ (t : Tour) (a b c : List Shape) (fs : List Fact) (r : RunFormula) (q : 
         tells = all-told t b found.model values e old fs r.fits r.facts q.blasted.roots fits h.facts found.are;
       }
 
-  fits-as : (v : Valuation) (world : WorldTables) → formula_holds v q.solver ≡ true → IsDecoded q.blasted v world → (e : Environment) → IsOfWorld world e → (values : Values) → Models c e values → FitsAs t fs q v e
+  fits-as : (v : Valuation) (world : WorldTables) → formula_holds v q.solver ≡ true → IsDecoded q.blasted v world
+      → (e : Environment) → IsOfWorld world e → (values : Values) → Models c e values → FitsAs t fs q v e
   fits-as v world k decoded e of values m =
       let parts = clauses-parts v k in
       let old = weaken g m in
@@ -149,6 +183,14 @@ whole-is c ns b q h m = record {
 }
 
 -- the query that was made of a formula's truths
-pub query-made : (t : Tour) (a b c : List Shape) (fs : List Fact) (r : RunFormula) (x : Blasted) (q : Query) → Grows b c → IsBank c → IsBlasted c (asked_nodes r) x → IsMade x q → IsFormula t a b fs r → IsQuery t fs q
+pub query-made : (t : Tour) (a b c : List Shape) (fs : List Fact) (r : RunFormula) (x : Blasted) (q : Query)
+    → Grows b c → IsBank c → IsBlasted c (asked_nodes r) x → IsMade x q → IsFormula t a b fs r → IsQuery t fs q
 query-made t a b c fs r x q g bank blasted made h =
-    query-is t a b c fs r q h g bank (subst (IsBlasted c (asked_nodes r)) (sym made.same) blasted) (whole-is c (asked_nodes r) x q blasted made)
+    query-is t a b c fs r q h g bank (subst (IsBlasted c (asked_nodes r)) (sym made.same) blasted)
+    (whole-is c (asked_nodes r) x q blasted made)
+
+-- a target may name the number of each fact
+pub about-fact : (t : Tour) (fs : List Fact) (q : Query) (k : ℕ) → IsQuery t fs q → 1 ≤ k → k ≤ length fs
+    → IsAbout q (Having k) × IsAbout q (Lacking k)
+about-fact t fs q k h one within =
+    ((one, omega (arith, h.count, within)), (one, omega (arith, h.count, within)))

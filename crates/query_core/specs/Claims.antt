@@ -99,12 +99,15 @@ IsAbout q Fits = Unit {0}
 IsAbout q (Having k) = (1 ≤ k) × (k < length q.blasted.roots)
 IsAbout q (Lacking k) = (1 ≤ k) × (k < length q.blasted.roots)
 
--- the world is one that is decoded from a model of the clauses of terms
+-- the world is decoded from a valuation: where this is a model of the terms' clauses, the terms have on the world the
+-- values that their bits spell
 pub record IsDecoded (b : Blasted) (v : Valuation) (world : WorldTables) : Type 0 where
-  pub shows : (shapes : List Shape) (roots : List Node) → IsBlasted shapes roots b → formula_holds v b.formula ≡ true → Shows shapes roots b v world
+  pub shows : (shapes : List Shape) (roots : List Node) → IsBlasted shapes roots b
+      → formula_holds v b.formula ≡ true → Shows shapes roots b v world
 
 -- each fact's bit is true exactly where the fact holds on the run
-pub record TellsFacts (t : Tour) (fs : List Fact) (roots : List (List Bit)) (v : Valuation) (e : Environment) : Type 0 where
+pub record TellsFacts (t : Tour) (fs : List Fact) (roots : List (List Bit)) (v : Valuation) (e : Environment)
+    : Type 0 where
   pub is : (k : ℕ) (f : Fact) → fact_at fs k ≡ Some f → (bit_holds v (root_bit roots k) ≡ true) ↔ HoldsIn t e f
 
 -- a model of the query's clauses that tells the facts of the run
@@ -118,10 +121,11 @@ pub record FitsAs (t : Tour) (fs : List Fact) (q : Query) (v : Valuation) (e : E
   pub fits : FitsIn t e
   pub tells : TellsFacts t fs q.blasted.roots v e
 
--- The models of a query's clauses are the runs that fit. For each honest environment whose run fits there is a model that
--- tells its facts; and on the world that is decoded from a model the run fits, and the model tells its facts.
+-- The models of a query's clauses are the runs that fit. For each honest environment whose run fits there is a model
+-- that tells its facts. On the world that is decoded from a model the run fits, and the model tells its facts.
 pub record IsQuery (t : Tour) (fs : List Fact) (q : Query) : Type 0 where
   pub whole : IsWhole q
   pub count : length q.blasted.roots ≡ suc (length fs)
   pub models : (e : Environment) → IsHonest e → FitsIn t e → HasRun t fs q e
-  pub worlds : (v : Valuation) (world : WorldTables) → formula_holds v q.solver ≡ true → IsDecoded q.blasted v world → (e : Environment) → IsOfWorld world e → FitsAs t fs q v e
+  pub worlds : (v : Valuation) (world : WorldTables) → formula_holds v q.solver ≡ true
+      → IsDecoded q.blasted v world → (e : Environment) → IsOfWorld world e → FitsAs t fs q v e

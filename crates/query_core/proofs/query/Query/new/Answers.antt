@@ -9,8 +9,9 @@ pub returns-clause-query : goal.returns-clause-query
 returns-clause-query c =
     let bank = c.blast_reads.new.bank in
     let asked : c.as_slice.result.now ≡ asked_nodes c.args.formula.now = c.as_slice.ensures ∙ c.in_ok-roots.ensures in
-    let found = subst (λ o. IfSome o (IsBlasted bank c.as_slice.result.now)) c.in-Some.is c.in_ok-blast_reads.ensures.blasted in
+    let found =
+    subst (λ o. IfSome o (IsBlasted bank c.as_slice.result.now)) c.in-Some.is c.in_ok-blast_reads.ensures.blasted in
     let blasted = subst (λ ns. IsBlasted bank ns c.in-Some.blasted) asked found in
     λ t a fs h.
-    query-made t a c.args.bank.now bank fs c.args.formula.now c.in-Some.blasted c.in_ok-query-in-Some.query c.in_ok-blast_reads.ensures.grows
-    c.in_ok-blast_reads.ensures.bank blasted c.in_ok-query-in-Some.ensures h
+    query-made t a c.args.bank.now bank fs c.args.formula.now c.in-Some.blasted c.in_ok-query-in-Some.query
+    c.in_ok-blast_reads.ensures.grows c.in_ok-blast_reads.ensures.bank blasted c.in_ok-query-in-Some.ensures h
