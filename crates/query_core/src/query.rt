@@ -80,6 +80,7 @@ impl Query {
         requires roots { Each (IsNode bank.old) (asked_nodes formula.now) }
         ensures query { IfOk result (λ found. IfSome found (λ q. (t : Tour) (a : List Shape) (fs : List Fact) →
             IsFormula t a bank.old fs formula.now → IsQuery t fs q)) }
+        ensures whole { IfOk result (λ found. IfSome found IsWhole) }
         ensures none { IfOk result (λ found. IfNone found (IsNotPlain bank.new (asked_nodes formula.now))) }
         ensures grows { Grows bank.old bank.new }
         ensures bank { IsBank bank.new }
