@@ -1,0 +1,45 @@
+use cdcl::SolveFault;
+use gates::BlastFault;
+use std::alloc::AllocError;
+use thiserror::Error;
+
+/// Why a question has no answer.
+#[derive(Clone, Copy, Debug, PartialEq, Eq, Error)]
+pub enum AskFault {
+    /// Memory, or numbers for variables, clauses or steps, ran out.
+    #[error("out of memory")]
+    Memory,
+}
+
+impl From<AllocError> for AskFault {
+    ghost use Rattle.std.specs.Prelude.{◌≡◌};
+    ghost use Rattle.query_core.specs.declared.fault.AskFault.TheVariants.{Memory};
+
+    ghost from_gives = { λ _ e. e ≡ Memory };
+
+    fn from(_error: AllocError) -> AskFault {
+        AskFault::Memory
+    }
+}
+
+impl From<SolveFault> for AskFault {
+    ghost use Rattle.std.specs.Prelude.{◌≡◌};
+    ghost use Rattle.query_core.specs.declared.fault.AskFault.TheVariants.{Memory};
+
+    ghost from_gives = { λ _ e. e ≡ Memory };
+
+    fn from(_error: SolveFault) -> AskFault {
+        AskFault::Memory
+    }
+}
+
+impl From<BlastFault> for AskFault {
+    ghost use Rattle.std.specs.Prelude.{◌≡◌};
+    ghost use Rattle.query_core.specs.declared.fault.AskFault.TheVariants.{Memory};
+
+    ghost from_gives = { λ _ e. e ≡ Memory };
+
+    fn from(_error: BlastFault) -> AskFault {
+        AskFault::Memory
+    }
+}
