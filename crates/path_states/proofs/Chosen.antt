@@ -1,6 +1,6 @@
 -- Numbers, events and states by the guard of the first.
-use Rattle.std.proofs.Common.{◌≡◌, ℕ, ℤ, zero, suc, ◌<◌, ◌≤◌, ◌+◌, List, [], ◌∷◌, ◌++◌, length, take, Bool, true, false, cond, not}
-use Rattle.std.proofs.Common.{Option, Some, None, get_or, refl, sym, ap, ◌∙◌, arith, append-nil}
+use Rattle.std.proofs.Common.{◌≡◌, ℕ, ℤ, zero, suc, ◌<◌, ◌+◌, List, [], ◌∷◌, ◌++◌, length, take, drop, Bool, true, false, cond, not}
+use Rattle.std.proofs.Common.{Option, Some, None, get_or, refl, sym, ap, ap₂, subst, ◌∙◌, arith, append-nil}
 use Rattle.std.specs.Prelude.{slice_get}
 use Rattle.std.proofs.lemmas.List.{take_more}
 use Rattle.std.proofs.lemmas.Option.{slice_get-get_or}
@@ -8,24 +8,23 @@ use Rattle.bit_words.specs.declared.run.Event.{Event}
 use Rattle.c_store.specs.Store.{Store}
 use Rattle.core_tree.specs.declared.types.WordType.{WordType}
 use Rattle.core_tree.specs.Numbers.{value_of_word}
-use Rattle.core_tree.specs.States.{Done}
 use Rattle.term_bank.specs.declared.sort.Sort.TheVariants.{Truth, Word, Memory}
 use Rattle.term_bank.specs.declared.sort.Node.{Node}
 use Rattle.term_bank.specs.declared.shape.Connective.TheVariants as connective
 use Rattle.term_bank.specs.declared.shape.Shape.{Shape}
 use Rattle.term_bank.specs.declared.shape.Shape.TheVariants.{Not, Connect, Choose}
 use Rattle.term_bank.specs.Terms.{IsTerm}
-use Rattle.term_bank.specs.Values.{Environment, Worth, Values, Models, Grows, IsWorth}
+use Rattle.term_bank.specs.Values.{Worth, Grows, IsWorth}
 use Rattle.term_bank.proofs.BankLemmas.{weaken, stays, grows_on}
 use Rattle.term_bank.proofs.TermLemmas.{term_grown}
 use Rattle.path_states.specs.declared.state.Number.{Number}
 use Rattle.path_states.specs.declared.state.PathEvent.{PathEvent}
 use Rattle.path_states.specs.declared.state.State.{State}
-use Rattle.path_states.specs.States.{Held, IsNumber, AreNumbers, IsMaybeNumber, IsNoted, IsEvent, AreEvents, IsState}
+use Rattle.path_states.specs.States.{Held, IsNumber, AreNumbers, IsEvent, AreEvents}
 use Rattle.path_states.specs.States.{number_in, maybe_number, onto, seen, event_in, run_in}
 use Rattle.path_states.specs.Ways.{Halves}
-use Rattle.path_states.specs.Merges.{AlikeNumbers, AlikeMaybe, Alike, ChosenOne, ChosenMaybe, ChosenAll, Guarded, ChosenEvents, Merges}
-use Rattle.path_states.proofs.Growth.{number_grown, numbers_grown, maybe_grown, events_grown, numbers_joined, events_joined, onto_pushed, seen_joined}
+use Rattle.path_states.specs.Merges.{AlikeNumbers, Alike, ChosenOne, ChosenMaybe, ChosenAll, Guarded, ChosenEvents, IsCommon, Merges}
+use Rattle.path_states.proofs.Growth.{numbers_grown, maybe_grown, events_grown, numbers_joined, events_joined, onto_pushed, seen_joined}
 
 -- ---- numbers
 
@@ -191,6 +190,68 @@ events_chosen a b c d guard other xs ys xs' ys' g is h i = record {
       ∙ both_seen (v guard.index).truth (v other.index).truth (seen v xs) (seen v ys) (seen v xs') (seen v ys')
       (h.are e v mc) (i.are e v m) (ap (λ (w : Worth). w.truth) (is.is e v (weaken h.grows mc)));
 }
+
+-- ---- what both begin with
+
+pub same_more : (xs ys : List Number) (i : ℕ) (d : Number) → i < length xs → i < length ys → take i xs ≡ take i ys → get_or xs i d ≡ get_or ys i d
+    → take (i + 1) xs ≡ take (i + 1) ys
+same_more xs ys i d h k same one =
+    take_more xs i d h ∙ ap₂ (λ l z. l ++ z ∷ []) same one ∙ sym (take_more ys i d k)
+
+cond_front : (g : Bool) (p q r : List Event) → p ++ cond g q r ≡ cond g (p ++ q) (p ++ r)
+cond_front true p q r = refl
+cond_front false p q r = refl
+
+chosen_behind : (a b : List Shape) (guard : Node) (front xs ys zs : List PathEvent) → AreEvents a front → ChosenEvents a b guard xs ys zs
+    → ChosenEvents a b guard (front ++ xs) (front ++ ys) (front ++ zs)
+chosen_behind a b guard front xs ys zs is h = record {
+  grows = h.grows;
+  events = events_joined b front zs (events_grown h.grows front is) h.events;
+  are = λ e v m.
+      seen_joined v front zs
+      ∙ ap (λ l. seen v front ++ l) (h.are e v m)
+      ∙ cond_front (v guard.index).truth (seen v front) (seen v xs) (seen v ys)
+      ∙ ap₂ (λ l r. cond (v guard.index).truth l r) (sym (seen_joined v front xs)) (sym (seen_joined v front ys));
+}
+
+pub events_front : (a : List Shape) (xs ys : List PathEvent) → AreEvents a (xs ++ ys) → AreEvents a xs
+events_front a [] ys h = tt
+events_front a (x ∷ xs) ys h = (h.0, events_front a xs ys h.1)
+
+pub events_back : (a : List Shape) (xs ys : List PathEvent) → AreEvents a (xs ++ ys) → AreEvents a ys
+events_back a [] ys h = h
+events_back a (x ∷ xs) ys h = events_back a xs ys h.1
+
+parted : (n : ℕ) (xs : List PathEvent) → take n xs ++ drop n xs ≡ xs
+parted zero xs = refl
+parted (suc n) [] = refl
+parted (suc n) (x ∷ xs) = ap (λ l. x ∷ l) (parted n xs)
+
+pub taken : (a : List Shape) (n : ℕ) (xs : List PathEvent) → AreEvents a xs → AreEvents a (take n xs)
+taken a n xs h = events_front a (take n xs) (drop n xs) (subst (AreEvents a) (sym (parted n xs)) h)
+
+pub left : (a : List Shape) (n : ℕ) (xs : List PathEvent) → AreEvents a xs → AreEvents a (drop n xs)
+left a n xs h = events_back a (take n xs) (drop n xs) (subst (AreEvents a) (sym (parted n xs)) h)
+
+pub chosen_whole : (a b : List Shape) (guard : Node) (n : ℕ) (xs ys zs : List PathEvent) → IsCommon xs ys n → AreEvents a xs
+    → ChosenEvents a b guard (drop n xs) (drop n ys) zs → ChosenEvents a b guard xs ys (take n xs ++ zs)
+chosen_whole a b guard n xs ys zs common is h =
+    subst (λ l. ChosenEvents a b guard l ys (take n xs ++ zs)) (parted n xs)
+    (subst (λ r. ChosenEvents a b guard (take n xs ++ drop n xs) r (take n xs ++ zs)) (ap (λ l. l ++ drop n ys) common.same ∙ parted n ys)
+    (chosen_behind a b guard (take n xs) (drop n xs) (drop n ys) zs (taken a n xs is) h))
+
+pub common_none : (xs ys : List PathEvent) → IsCommon xs ys 0
+common_none xs ys = record { first = omega arith; second = omega arith; same = refl }
+
+pub common_more : (xs ys : List PathEvent) (n : ℕ) (x y : PathEvent) → IsCommon xs ys n → n < length xs → n < length ys → x ≡ get_or xs n x
+    → y ≡ get_or ys n y → x ≡ y → IsCommon xs ys (n + 1)
+common_more xs ys n x y h inside within ours theirs same = record {
+  first = omega (arith, inside);
+  second = omega (arith, within);
+  same = one_more xs n x inside ours ∙ ap₂ (λ l z. l ++ z ∷ []) h.same same ∙ sym (one_more ys n y within theirs);
+} where
+  one_more : (zs : List PathEvent) (n : ℕ) (z : PathEvent) → n < length zs → z ≡ get_or zs n z → take (n + 1) zs ≡ take n zs ++ z ∷ []
+  one_more zs n z h is = take_more zs n z h ∙ ap (λ t. take n zs ++ t ∷ []) (sym is)
 
 -- ---- states
 

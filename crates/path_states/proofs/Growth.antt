@@ -1,21 +1,15 @@
 -- Banks that grow, and what stays of states in them.
-use Rattle.std.proofs.Common.{◌≡◌, ℕ, ℤ, List, [], ◌∷◌, ◌++◌, true, false, cond, Option, Some, None, refl, ap}
-use Rattle.std.specs.Prelude.{slice_get}
-use Rattle.bit_words.specs.declared.run.Event.{Event}
-use Rattle.core_tree.specs.States.{Done}
-use Rattle.term_bank.specs.declared.sort.Sort.{Sort}
-use Rattle.term_bank.specs.declared.sort.Node.{Node}
+use Rattle.std.proofs.Common.{◌≡◌, ℤ, List, [], ◌∷◌, ◌++◌, true, false, cond, Option, Some, None, refl, ap}
 use Rattle.term_bank.specs.declared.shape.Shape.{Shape}
-use Rattle.term_bank.specs.Values.{Environment, Worth, Values, Models, Grows}
-use Rattle.term_bank.specs.Terms.{IsTerm}
+use Rattle.term_bank.specs.Values.{Values, Grows}
 use Rattle.term_bank.proofs.TermLemmas.{term_grown}
 use Rattle.path_states.specs.declared.state.Number.{Number}
 use Rattle.path_states.specs.declared.state.Noted.{Noted}
 use Rattle.path_states.specs.declared.state.Noted.TheVariants as noted
 use Rattle.path_states.specs.declared.state.PathEvent.{PathEvent}
 use Rattle.path_states.specs.declared.state.State.{State}
-use Rattle.path_states.specs.States.{IsNumber, AreNumbers, IsMaybeNumber, IsNoted, IsEvent, AreEvents, IsState, AreStates}
-use Rattle.path_states.specs.States.{Held, number_in, onto, seen, event_in, run_in, standing}
+use Rattle.path_states.specs.States.{IsNumber, AreNumbers, IsMaybeNumber, IsNoted, AreEvents, IsState, AreStates}
+use Rattle.path_states.specs.States.{number_in, onto, seen, event_in, run_in, standing}
 
 module _ {a b : List Shape} (g : Grows a b) where
   pub number_grown : (x : Number) → IsNumber a x → IsNumber b x

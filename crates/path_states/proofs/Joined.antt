@@ -3,12 +3,12 @@ use Rattle.std.proofs.Common.{◌≡◌, ℕ, zero, suc, List, [], ◌∷◌, �
 use Rattle.std.proofs.Common.{append-nil}
 use Rattle.std.specs.Prelude.{slice_get, slice_set}
 use Rattle.term_bank.specs.declared.shape.Shape.{Shape}
-use Rattle.term_bank.specs.Values.{Environment, Values, Models, Grows}
+use Rattle.term_bank.specs.Values.{Values}
 use Rattle.term_bank.proofs.BankLemmas.{weaken, stays, grows_on}
 use Rattle.path_states.specs.declared.state.State.{State}
-use Rattle.path_states.specs.States.{Held, IsState, AreStates, IsRoomy, IsSized, AllSized, run_in, standing}
-use Rattle.path_states.specs.Ways.{to_list, ◌>>=◌, Way, stay, Goes}
-use Rattle.path_states.specs.Merges.{Alike, Merges}
+use Rattle.path_states.specs.States.{Held, IsState, AreStates, AllSized, run_in, standing}
+use Rattle.path_states.specs.Ways.{to_list, ◌>>=◌, stay, Goes}
+use Rattle.path_states.specs.Merges.{Merges}
 use Rattle.path_states.proofs.Growth.{states_grown, states_joined, standing_joined}
 
 -- of two, at most one stands

@@ -1,8 +1,8 @@
 -- States one behind the other, and lists of them.
-use Rattle.std.proofs.Common.{◌≡◌, ℕ, zero, suc, ◌<◌, ◌≤◌, ◌+◌, List, [], ◌∷◌, ◌++◌, length, take, Bool, true, false, cond}
-use Rattle.std.proofs.Common.{Option, Some, None, get_or, refl, sym, ap, ◌∙◌, arith, append-nil}
+use Rattle.std.proofs.Common.{◌≡◌, ℕ, zero, suc, ◌<◌, ◌+◌, List, [], ◌∷◌, ◌++◌, length, take, Bool, true, false, cond}
+use Rattle.std.proofs.Common.{Option, Some, None, get_or, refl, sym, ap, ◌∙◌, append-nil}
 use Rattle.std.specs.Prelude.{slice_get, Result, Ok, Err}
-use Rattle.std.proofs.lemmas.List.{take_more, take_all}
+use Rattle.std.proofs.lemmas.List.{take_more}
 use Rattle.std.proofs.lemmas.Option.{slice_get_read}
 use Rattle.core_tree.specs.States.{Done}
 use Rattle.term_bank.specs.declared.shape.Shape.{Shape}
@@ -12,7 +12,7 @@ use Rattle.path_states.specs.declared.state.State.{State}
 use Rattle.path_states.specs.declared.state.Walked.{Walked}
 use Rattle.path_states.specs.States.{Held, IsState, AreStates, IsRoomy, IsSized, AllSized, run_in, standing}
 use Rattle.path_states.specs.Ways.{to_list, ◌>>=◌, Way, stay, Steps, Goes, Trial, going, ending, tried, Tries, Walks}
-use Rattle.path_states.proofs.Growth.{state_grown, states_grown, states_joined, standing_joined}
+use Rattle.path_states.proofs.Growth.{states_grown, states_joined, standing_joined}
 
 -- ---- items of lists
 

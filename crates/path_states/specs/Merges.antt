@@ -1,5 +1,5 @@
 -- Two states as one.
-use Rattle.std.specs.Prelude.{◌≡◌, ℕ, ℤ, List, [], ◌∷◌, true, cond, Option, Some, None}
+use Rattle.std.specs.Prelude.{◌≡◌, ◌≤◌, ℕ, ℤ, List, [], ◌∷◌, length, take, true, cond, Option, Some, None}
 use Rattle.bit_words.specs.declared.run.Event.{Event}
 use Rattle.term_bank.specs.declared.sort.Node.{Node}
 use Rattle.term_bank.specs.declared.shape.Shape.{Shape}
@@ -55,6 +55,12 @@ pub record Guarded (a b : List Shape) (guard : Node) (xs zs : List PathEvent) : 
   pub events : AreEvents b zs
   pub are : (e : Environment) (v : Values) → Models b e v
       → seen v zs ≡ cond (v guard.index).truth (seen v xs) []
+
+-- so many events begin both lists
+pub record IsCommon (xs ys : List PathEvent) (n : ℕ) : Type 0 where
+  pub first : n ≤ length xs
+  pub second : n ≤ length ys
+  pub same : take n xs ≡ take n ys
 
 -- the first events where the guard is true, and else the second
 pub record ChosenEvents (a b : List Shape) (guard : Node) (xs ys zs : List PathEvent) : Type 0 where

@@ -1,4 +1,4 @@
-use Rattle.std.proofs.Common.{◌≡◌, ◌<◌, length, true, false, not, arith}
+use Rattle.std.proofs.Common.{◌<◌, length, arith}
 use Rattle.path_states.proofs.Chosen.{alike_more}
 use Rattle.path_states.proofs.joining.are_alike_numbers.Goals as goal
 

@@ -1,4 +1,4 @@
-use Rattle.std.proofs.Common.{take, ◌≡◌, length}
+use Rattle.std.proofs.Common.{take}
 use Rattle.path_states.specs.Merges.{AlikeNumbers}
 use Rattle.path_states.proofs.joining.are_alike_numbers.Given as goal
 

@@ -1,4 +1,4 @@
-use Rattle.std.proofs.Common.{◌≡◌, ◌<◌, length, refl, arith}
+use Rattle.std.proofs.Common.{◌<◌, length, arith}
 use Rattle.std.proofs.lemmas.List.{take_all}
 use Rattle.path_states.proofs.Growth.{numbers_grown}
 use Rattle.path_states.proofs.Chosen.{alike_length, alike_index, number_at, chosen_none, chosen_next}

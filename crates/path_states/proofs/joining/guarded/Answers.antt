@@ -1,13 +1,11 @@
-use Rattle.std.proofs.Common.{◌≡◌, arith, Some}
-use Rattle.std.specs.Prelude.{slice_get}
+use Rattle.std.proofs.Common.{◌≡◌}
 use Rattle.std.proofs.lemmas.Option.{slice_get_read}
 use Rattle.std.proofs.Common.{length, refl}
 use Rattle.term_bank.specs.declared.sort.Sort.TheVariants.{Truth}
 use Rattle.term_bank.proofs.TermLemmas.{term_grown}
-use Rattle.path_states.specs.States.{IsEvent}
 use Rattle.path_states.proofs.Growth.{events_grown}
 use Rattle.path_states.proofs.Paths.{more_of}
-use Rattle.path_states.proofs.Chosen.{guarded_none, guarded_more, event_of}
+use Rattle.path_states.proofs.Chosen.{guarded_more, event_of}
 use Rattle.path_states.proofs.joining.guarded.Goals as goal
 
 pub connect-requires-clause-left : goal.connect-requires-clause-left

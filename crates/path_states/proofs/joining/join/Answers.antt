@@ -1,4 +1,3 @@
-use Rattle.std.proofs.Common.{arith}
 use Rattle.std.proofs.lemmas.List.{take_all}
 use Rattle.path_states.proofs.Growth.{state_grown}
 use Rattle.path_states.proofs.Paths.{item_of, more_of}

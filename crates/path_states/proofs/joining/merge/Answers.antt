@@ -1,4 +1,3 @@
-use Rattle.std.proofs.Common.{refl}
 use Rattle.term_bank.specs.declared.sort.Sort.TheVariants.{Truth, Memory}
 use Rattle.term_bank.proofs.BankLemmas.{grows_on}
 use Rattle.term_bank.proofs.TermLemmas.{term_grown}
