@@ -1,5 +1,6 @@
 -- Answers to questions, of one state and of all.
-use Rattle.std.proofs.Common.{◌≡◌, ◌↔◌, ◌⊎◌, inl, inr, ◌<◌, ℕ, zero, suc, List, [], ◌∷◌, ◌++◌, length, Bool, true, false, cond, Option, Some, None, refl, sym, ap, subst, ◌∙◌, arith, get_or}
+use Rattle.std.proofs.Common.{◌≡◌, ◌↔◌, ◌⊎◌, inl, inr, ◌<◌, ℕ, zero, suc, List, [], ◌∷◌, ◌++◌, length, Bool, true, false, cond}
+use Rattle.std.proofs.Common.{Option, Some, None, refl, sym, ap, subst, ◌∙◌, arith, get_or}
 use Rattle.std.specs.Prelude.{Ok}
 use Rattle.std.specs.List.{Any, slice_index_or}
 use Rattle.bit_words.specs.declared.fact.Fact.{Fact}
@@ -28,7 +29,8 @@ use Rattle.path_summaries.specs.Tours.{Tour}
 use Rattle.run_formula.specs.declared.questions.Question.{Question}
 use Rattle.run_formula.specs.declared.questions.Question.TheVariants as question
 use Rattle.run_formula.specs.Whole.{run_in_world, RunsAll}
-use Rattle.run_formula.specs.Questions.{OneOf, IsMeant, EndsSo, SameEnd, shown, Meets, MeetsOn, TellsEvents, TellsState, TellsStates, IsAnswer, AnswerAll, AsksAll}
+use Rattle.run_formula.specs.Questions.{OneOf, IsMeant, EndsSo, SameEnd, shown, Meets, MeetsOn}
+use Rattle.run_formula.specs.Questions.{TellsEvents, TellsState, TellsStates, IsAnswer, AnswerAll, AsksAll}
 
 -- ---- one of some
 

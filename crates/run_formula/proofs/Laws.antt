@@ -1,5 +1,6 @@
 -- What the run along a log says is what the run that prints says.
-use Rattle.std.proofs.Common.{◌≡◌, ◌↔◌, ◌+◌, ℕ, List, [], ◌∷◌, length, Bool, true, false, cond, ◌&&◌, nat_eq, Option, Some, None, refl, sym, ap, subst, ◌∙◌, arith}
+use Rattle.std.proofs.Common.{◌≡◌, ◌↔◌, ◌+◌, ℕ, List, [], ◌∷◌, length, Bool, true, false}
+use Rattle.std.proofs.Common.{cond, ◌&&◌, nat_eq, Option, Some, None, refl, sym, ap, subst, ◌∙◌, arith}
 use Rattle.std.specs.List.{starts_with}
 use Rattle.bit_words.specs.declared.fact.Fact.{Fact}
 use Rattle.bit_words.specs.declared.fact.Fact.TheVariants as fact
@@ -167,9 +168,11 @@ formula_is t a b c d f ss fits left facts ns runs h k j =
     let bf = grows_on h.grows cf in
     record {
       grows = grows_on runs.grows bf;
-      fits = says_where t a b ss runs f question.Fits fits (FitsIn t) (answer_grown c f t.log question.Fits ss fits cf (answer_of b c t.log question.Fits ss fits h))
+      fits = says_where t a b ss runs f question.Fits fits (FitsIn t)
+          (answer_grown c f t.log question.Fits ss fits cf (answer_of b c t.log question.Fits ss fits h))
           (λ e v m. weaken bf m) (fits_law t);
-      left = says_where t a b ss runs f question.Left left (LeavesIn t) (answer_grown d f t.log question.Left ss left j.grows (answer_of c d t.log question.Left ss left k))
+      left = says_where t a b ss runs f question.Left left (LeavesIn t)
+          (answer_grown d f t.log question.Left ss left j.grows (answer_of c d t.log question.Left ss left k))
           (λ e v m. weaken bf m) (left_law t);
       facts = say_facts t a b ss runs f facts ns j.answers (λ e v m. weaken bf m);
     }

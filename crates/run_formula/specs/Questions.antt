@@ -73,7 +73,8 @@ MeetsOn log q (Some d) = Meets log q d
 pub record TellsEvents (a b : List Shape) (log : List ℕ) (f : Fact) (xs : List PathEvent) (n : Node) : Type 0 where
   pub grows : Grows a b
   pub term : IsTerm b Truth n
-  pub is : (e : Environment) (v : Values) → Models b e v → ((v n.index).truth ≡ true) ↔ OneOf (IsMeant log f) (seen v xs)
+  pub is : (e : Environment) (v : Values) → Models b e v
+      → ((v n.index).truth ≡ true) ↔ OneOf (IsMeant log f) (seen v xs)
 
 -- true where the answer is yes on what a state says of a run
 pub record TellsState (a b : List Shape) (log : List ℕ) (q : Question) (s : State) (n : Node) : Type 0 where

@@ -28,7 +28,8 @@ still_around log b = record {
 
 -- one initializer, of the object of a place behind the base, by a run that is running
 abbrev pub one_set : Around → LastingSetting → Environment → Arrow ℕ
-one_set x s e = running (sets s.setting (start (e.base + s.place)) (level_at x e) (env_at [] e) (e.base + 0))
+one_set x s e =
+    running (sets s.setting (start (e.base + s.place)) (level_at x e) (env_at [] e) (e.base + 0))
 
 abbrev pub all_set : Around → List LastingSetting → Environment → Arrow ℕ
 all_set x [] e d = Some d

@@ -19,8 +19,8 @@ use Rattle.path_summaries.specs.Tours.{Tour, StandsFor, machine_in, does, room_i
 abbrev pub run_in_world : Tour → Environment → Option (Done ℕ)
 run_in_world t e = end_of (machine_in t (world_in e)) 0
 
--- In each environment at most one of the states stands: one does exactly where the run prints on along the log, and says
--- how it ends. Nothing but the environment's world decides.
+-- In each environment at most one of the states stands: one does exactly where the run prints on along the log, and
+-- says how it ends. Nothing but the environment's world decides.
 pub record RunsAll (t : Tour) (a b : List Shape) (ss : List State) : Type 0 where
   pub grows : Grows a b
   pub states : AreStates b ss
@@ -52,7 +52,8 @@ AllSizedIn (h ∷ hs) = IsSized h.done.store × AllSizedIn hs
 pub record Guards (a b : List Shape) (guard : Node) (ss ts : List State) : Type 0 where
   pub grows : Grows a b
   pub states : AreStates b ts
-  pub stand : (e : Environment) (v : Values) → Models b e v → standing v ts ≡ cond (v guard.index).truth (standing v ss) []
+  pub stand : (e : Environment) (v : Values) → Models b e v
+      → standing v ts ≡ cond (v guard.index).truth (standing v ss) []
 
 -- the ends of the runs of a state, by the summary of `main`
 pub record EntersOne (a b : List Shape) (m : Summary) (place : ℕ) (s : State) (ts : List State) : Type 0 where
@@ -66,7 +67,8 @@ pub record EntersOne (a b : List Shape) (m : Summary) (place : ℕ) (s : State) 
 pub record EntersAll (a b : List Shape) (m : Summary) (place : ℕ) (ss ts : List State) : Type 0 where
   pub grows : Grows a b
   pub states : AreStates b ts
-  pub stand : (t : Tour) → IsMain t a m place → (e : Environment) (v : Values) → Models b e v → AllSizedIn (standing v ss)
+  pub stand : (t : Tour) → IsMain t a m place → (e : Environment) (v : Values) → Models b e v
+      → AllSizedIn (standing v ss)
       → standing v ts ≡ each_of (main_list t e) (standing v ss)
 
 -- the place behind those of what lives throughout the run, from which on the places of `main` have numbers below 2^32

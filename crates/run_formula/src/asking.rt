@@ -29,7 +29,8 @@ fn leaves(state: &State) -> bool
 
 /// Whether a fact of a run's end holds on one that stands so.
 fn ends(state: &State, fact: &Fact) -> bool
-    ensures { (log : List ℕ) (v : ValuesType) → (result ≡ true) ↔ EndsSo fact.now (shown log (done_in v state.now)).finish }
+    ensures { (log : List ℕ) (v : ValuesType)
+        → (result ≡ true) ↔ EndsSo fact.now (shown log (done_in v state.now)).finish }
 {
     ends_so(finish_of(&state.kind), fact)
 }

@@ -1,12 +1,12 @@
 //! `main`, entered from what was before it (C99 5.1.2.2.1).
 ghost use Rattle.std.specs.Prelude.{◌≡◌, ◌∷◌, [], IfOk};
 ghost use Rattle.term_bank.specs.declared.sort.Sort.TheVariants.{Truth};
-ghost use Rattle.term_bank.specs.Banks.{IsBank};
 ghost use Rattle.term_bank.specs.Terms.{IsTerm};
 ghost use Rattle.path_states.specs.States.{IsState, AreStates};
 ghost use Rattle.path_arrows.specs.Arrows.{is_running as runs};
 ghost use Rattle.run_formula.specs.Whole.{Guards, EntersOne, EntersAll};
 
+use crate::banks::keeps_bank;
 use bit_words::Width;
 use c_means::Kind;
 use path_forms::WalkFault;
@@ -15,13 +15,6 @@ use plain_data::Items;
 use std::alloc::{AllocError, Global};
 use summary_compose::{Summary, put_in};
 use term_bank::{Bank, BankFault, Binding, Connective, Node};
-
-/// The bank keeps its invariant, which proofs learn here.
-fn keeps_bank(bank: &Bank)
-    ensures { IsBank bank.now }
-{
-    let _ = bank.len();
-}
 
 fn is_running(kind: &Kind) -> bool
     ensures { result ≡ runs kind.now }

@@ -50,8 +50,8 @@ fn ask_all(
     Ok(nodes)
 }
 
-/// The formula of a program's runs along a log, for these facts. It fails for want of memory, and where the walk can't do
-/// a step yet (`run_states`).
+/// The formula of a program's runs along a log, for these facts. It fails for want of memory, and where the walk can't
+/// do a step yet (`run_states`).
 pub fn run_formula(
     alloc: Global,
     core: &Core,

@@ -3,6 +3,7 @@
 #![tactic(auto)]
 
 mod asking;
+mod banks;
 mod entering;
 mod events;
 mod formula;

@@ -1,11 +1,11 @@
 //! Initializers of what lives throughout the run, in order, before `main` is called (C99 5.1.2, 6.7.8p4).
 ghost use Rattle.std.specs.Prelude.{◌≡◌, ◌∷◌, [], ℕ, List, IfOk};
-ghost use Rattle.term_bank.specs.Banks.{IsBank};
 ghost use Rattle.path_states.specs.States.{AreStates};
 ghost use Rattle.log_expr.specs.declared.table.Entry.{Entry as EntryType};
 ghost use Rattle.path_summaries.specs.Tours.{tour_of};
 ghost use Rattle.run_formula.specs.Settings.{still_around, Sets, Starts, Readies};
 
+use crate::banks::keeps_bank;
 use crate::starts::start_memory;
 use bit_words::{Bounds, Width};
 use c_means::Kind;
@@ -116,13 +116,6 @@ fn begin(alloc: Global, bank: &mut Bank) -> Result<Items<State>, BankFault>
     };
     let states = alone(alloc, first)?;
     Ok(states)
-}
-
-/// The bank keeps its invariant, which proofs learn here.
-fn keeps_bank(bank: &Bank)
-    ensures { IsBank bank.now }
-{
-    let _ = bank.len();
 }
 
 /// The states before `main` is called, as states over the world alone. It fails for want of memory, and where an
