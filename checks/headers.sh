@@ -1,7 +1,7 @@
 #!/usr/bin/env bash
 # The standard headers of the machine's C library, preprocessed by each compiler that is installed, as they are and as
-# a release build has them, and the sources of examples/ are accepted: each is reported on, or refused as NotYetRead
-# alone, which comes where no rule is broken. So nothing that a header declares and a program doesn't need is a reason
+# a release build has them, and the sources of examples/ are accepted: each is run in the world of nothing, which only a
+# source that breaks no rule is. So nothing that a header declares and a program doesn't need is a reason
 # to refuse it. A last line says how long the source of all headers takes, beside the compiler's own checks. Skipped
 # where there is no C compiler.
 set -u
@@ -20,16 +20,16 @@ headers="assert.h ctype.h errno.h fenv.h float.h inttypes.h iso646.h limits.h lo
 stdarg.h stdbool.h stddef.h stdint.h stdio.h stdlib.h string.h time.h wchar.h wctype.h math.h complex.h tgmath.h
 dirent.h fcntl.h netinet/in.h poll.h pthread.h sched.h semaphore.h sys/mman.h sys/select.h sys/socket.h sys/stat.h
 sys/time.h sys/types.h sys/wait.h termios.h unistd.h"
-: > "$folder/log"
+printf 'sherlog world 1\nend\n' > "$folder/world"
 failed=0
 accepted=0
 
-# Whether a source is accepted: it is diagnosed, or refused only for a form that is not read so far.
+# Whether a source is accepted: it is run, or too large to be.
 accepts() {
     local said status
-    said=$("$program" diagnose "$1" "$folder/log" 2>&1 > /dev/null)
+    said=$("$program" replay "$1" "$folder/world" 2>&1 > /dev/null)
     status=$?
-    if [ "$status" -gt 1 ] && [ "$said" != "sherlog: 3 NotYetRead" ]; then
+    if [ "$status" -ne 0 ] && [ "$status" -ne 8 ]; then
         echo "headers: $2: status $status: $said"
         return 1
     fi
@@ -88,6 +88,6 @@ milliseconds() {
 }
 
 echo "headers: $accepted sources accepted; all headers of cc, $(wc -l < "$folder/all.i") lines:" \
-    "$(milliseconds "$program" diagnose "$folder/all.i" "$folder/log") ms, and cc -fsyntax-only" \
+    "$(milliseconds "$program" replay "$folder/all.i" "$folder/world") ms, and cc -fsyntax-only" \
     "$(milliseconds cc -fsyntax-only "$folder/all.i") ms"
 exit "$failed"

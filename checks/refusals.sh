@@ -18,10 +18,10 @@ python3 checks/replay_rows.py "$program" checks/refusal_rows.txt both || failed=
 folder=$(mktemp -d) || exit 2
 trap 'rm -rf "$folder"' EXIT
 
-# told NAME: the status of `diagnose` over the source of this name, and the line that it tells.
+# told NAME: the status of `replay` over the source of this name in the world of nothing, and the line that it tells.
 told() {
     local status
-    "$program" diagnose "$1.c" empty >/dev/null 2>"$1.told" </dev/null
+    "$program" replay "$1.c" empty >/dev/null 2>"$1.told" </dev/null
     status=$?
     echo "$status $(head -n 1 "$1.told")"
 }
@@ -31,8 +31,9 @@ taken() {
     gcc -fsyntax-only -std=c99 -pedantic-errors "$1.c" 2>"$1.errors"
 }
 
+# A source that is accepted is run, or too large to be.
 is_accepted() {
-    [ "$1" = "3 sherlog: 3 NotYetRead" ] || [ "${1%% *}" -lt 2 ]
+    [ "${1%% *}" -eq 0 ] || [ "${1%% *}" -eq 8 ]
 }
 
 # refused NAME WHO PLACE RULE: whether the source is refused by whom it must be, with this rule in this line.
@@ -51,8 +52,7 @@ export -f told taken is_accepted refused
 export program
 
 mkdir "$folder/faults" "$folder/random"
-: >"$folder/faults/empty"
-: >"$folder/random/empty"
+printf 'sherlog world 1\nend\n' | tee "$folder/faults/empty" >"$folder/random/empty"
 python3 checks/refusals.py "$folder/faults" 1 || exit 1
 (cd "$folder/faults" && xargs -P 2 -L 1 bash -c 'refused "$1" "$2" "$3" "${*:4}"' refused <faults >differ)
 sort -u "$folder/faults/differ"

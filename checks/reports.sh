@@ -10,8 +10,11 @@
 #     body:      or the statements of its `main`, which stand in the fourth line, `times:` so often
 #     blocks:    or how many blocks stand in one another there
 #     log:       the log p.log, and `-`, by %b; where it is left out there is none
+#     lines:     or a number, and behind it a line, which the log has so often
+#     config:    the configuration c.json, by %b
 #     told:      the status and what is told on standard error
 #     status:    or the status, and behind it the report without its first two lines
+#     prints     or status 0, and behind it all that is printed
 set -u
 cd "$(dirname "$0")/.." || exit 2
 program=$(readlink -f "${1:-$(tools/proved.sh sherlog || tools/trial.sh)}") || exit 1
@@ -29,7 +32,7 @@ repeated() {
 }
 
 clear_row() {
-    words='diagnose p.c p.log' body='printf("hi\n"); return 0;' times=1 source='' status='' told='' report='' first=$1
+    words='diagnose p.c p.log' body='printf("hi\n"); return 0;' times=1 source='' status='' told='' report='' all='' first=$1
     rm -f "$room"/*
 }
 
@@ -42,7 +45,9 @@ run_row() {
         printf 'int printf(const char *, ...);\nint ext(void);\nint main(void) {\n%s\n}\n' \
             "$(repeated "$times" "$body")" >"$room/p.c"
     fi
-    if [ -n "$report" ]; then
+    if [ -n "$all" ]; then
+        printf '%s' "$report"
+    elif [ -n "$report" ]; then
         printf '%s\n%s' "$head" "$report"
     fi >"$room/out"
     printf '%s' "${told:+sherlog: $told
@@ -61,7 +66,7 @@ run_row() {
 }
 
 read_rows() {
-    local line number=0
+    local line k number=0
     clear_row "$1:1"
     while IFS= read -r line || [ -n "$line" ]; do
         number=$((number + 1))
@@ -74,6 +79,11 @@ read_rows() {
         'blocks: '*) body="$(repeated "${line#blocks: }" '{');$(repeated "${line#blocks: }" '}')" ;;
         'times: '*) times=${line#times: } ;;
         'log:'*) line=${line#log:}; printf '%b' "${line# }" | tee "$room/p.log" >"$room/-" ;;
+        'lines: '*)
+            line=${line#lines: }
+            for ((k = 0; k < ${line%% *}; k++)); do printf '%s\n' "${line#* }"; done >"$room/p.log" ;;
+        'config: '*) printf '%b' "${line#config: }" >"$room/c.json" ;;
+        'prints') status=0 all=1 ;;
         'told: '*) told=${line#told: } status=${told%% *} ;;
         'status: '*) status=${line#status: } ;;
         *) [ -n "$status" ] || { echo "reports: $1:$number: no row has this line"; failed=1; }
@@ -83,7 +93,7 @@ read_rows() {
     run_row
 }
 
-for table in words.txt faults.txt form.txt reports.txt; do
+for table in words.txt faults.txt form.txt reports.txt runs.txt sites.txt; do
     read_rows "$table"
 done
 [ "$failed" -eq 0 ] && echo "reports: $rows rows agree"

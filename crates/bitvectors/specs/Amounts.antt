@@ -9,7 +9,7 @@ use Rattle.word_gates.specs.Spelling.{number}
 use Rattle.word_gates.specs.declared.operators.BitOperator.{BitOperator}
 use Rattle.word_gates.specs.declared.operators.BitOperator.TheVariants.{And, Or, Xor}
 use Rattle.term_bank.specs.declared.sort.Sort.{Sort}
-use Rattle.term_bank.specs.declared.sort.Sort.TheVariants.{Truth, Word, Memory}
+use Rattle.term_bank.specs.declared.sort.Sort.TheVariants.{Truth, Word}
 use Rattle.term_bank.specs.Values.{Worth}
 
 -- the number that a bitwise operator gives
@@ -21,17 +21,17 @@ bit_result Xor a b = bit_xor a b
 abbrev pub is_one : ℕ → Bool
 is_one x = nat_eq x 1
 
--- how many bits a value of this sort has: a memory has none
+-- how many bits a value of this sort has: memories, events and lists of numbers have none
 abbrev pub size : Sort → ℕ
 size Truth = 1
 size (Word w) = bits w
-size Memory = 0
+size _ = 0
 
 -- the number that a value's bits spell
 abbrev pub amount : Sort → Worth → ℕ
 amount Truth x = number x.truth
 amount (Word w) x = x.word
-amount Memory x = 0
+amount _ x = 0
 
 -- the bits of each node
 abbrev pub Signals : Type 0

@@ -8,7 +8,7 @@ use Rattle.word_gates.specs.Spelling.{AreBits, spelled}
 use Rattle.input_tables.specs.Rows.{AllFollow}
 use Rattle.input_tables.specs.Tables.{IsTable, rows_of}
 use Rattle.term_bank.specs.declared.sort.Sort.{Sort}
-use Rattle.term_bank.specs.declared.sort.Sort.TheVariants.{Memory}
+use Rattle.term_bank.specs.declared.sort.Sort.TheVariants.{Truth, Word}
 use Rattle.term_bank.specs.declared.sort.Node.{Node}
 use Rattle.term_bank.specs.declared.shape.Shape.{Shape}
 use Rattle.term_bank.specs.declared.shape.Shape.TheVariants.{Flag, Constant, WorldWord, InitialByte, Binary, Test, Convert, Not, Connect, Choose}
@@ -18,9 +18,11 @@ use Rattle.flat_reads.specs.Flats.{IsHonest}
 use Rattle.bitvectors.specs.declared.inputs.Inputs.{Inputs}
 use Rattle.bitvectors.specs.Amounts.{Signals, amount, bits_at, size}
 
-abbrev pub is_no_memory : Sort → Bool
-is_no_memory Memory = false
-is_no_memory _ = true
+-- truths and words are spelled by bits
+abbrev pub is_of_bits : Sort → Bool
+is_of_bits Truth = true
+is_of_bits (Word w) = true
+is_of_bits _ = false
 
 -- whether a shape is of truths and words alone, and depends on the world alone: on its words and its initial bytes
 abbrev pub is_plain : Shape → Bool
@@ -33,7 +35,7 @@ is_plain (Test t w x y) = true
 is_plain (Convert x from to a) = true
 is_plain (Not a) = true
 is_plain (Connect c a b) = true
-is_plain (Choose s c a b) = is_no_memory s
+is_plain (Choose s c a b) = is_of_bits s
 is_plain _ = false
 
 -- ---- inputs

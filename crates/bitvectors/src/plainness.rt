@@ -1,18 +1,18 @@
 ghost use Rattle.std.specs.Prelude.{◌≡◌, ◌↔◌, Some, IsTrue, IfOk, slice_get};
 ghost use Rattle.term_bank.specs.Shapes.{Each, IsNode};
 ghost use Rattle.term_bank.specs.Under.{IsOnly};
-ghost use Rattle.bitvectors.specs.Signals.{is_no_memory, is_plain};
+ghost use Rattle.bitvectors.specs.Signals.{is_of_bits, is_plain};
 
 use std::alloc::{AllocError, Global};
 use term_bank::{Bank, Node, Shape, Sort, nodes_under};
 
-/// Whether a sort is no memory.
+/// Whether values of a sort are spelled by bits.
 fn has_bits(sort: Sort) -> bool
-    ensures { result ≡ is_no_memory sort }
+    ensures { result ≡ is_of_bits sort }
 {
     match sort {
         Sort::Truth | Sort::Word(_) => true,
-        Sort::Memory => false,
+        Sort::Memory | Sort::Events | Sort::Numbers => false,
     }
 }
 

@@ -1,7 +1,7 @@
 ghost use Rattle.std.specs.Prelude.{◌≡◌, true, IfOk};
 ghost use Rattle.term_bank.specs.Shapes.{Each, IsInWidth, parts};
 ghost use Rattle.term_bank.specs.declared.shape.Shape.TheVariants.{Binary, Test, Convert, Not, Connect, Choose};
-ghost use Rattle.bitvectors.specs.Signals.{AreInputs, HasBits, IsSignal, is_no_memory, is_plain};
+ghost use Rattle.bitvectors.specs.Signals.{AreInputs, HasBits, IsSignal, is_of_bits, is_plain};
 
 use crate::inputs::Inputs;
 use crate::leaves::{blast_constant, blast_flag, blast_initial_byte, blast_world_word};
@@ -125,7 +125,7 @@ fn blast_choose(
 ) -> Result<Items<Bit>, BlastFault>
     requires inputs { AreInputs gates.old inputs.now }
     requires parts { Each (HasBits gates.old signals.now) (parts (Choose sort condition yes no)) }
-    requires sort { is_no_memory sort ≡ true }
+    requires sort { is_of_bits sort ≡ true }
     ensures { IfOk result (IsSignal gates.old gates.new inputs.now inputs.now signals.now
         (Choose sort condition yes no)) }
 {

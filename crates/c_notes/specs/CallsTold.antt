@@ -10,8 +10,11 @@ use Rattle.c_means.specs.Parts.{Level, Site}
 use Rattle.c_runs.specs.declared.breach.Breach.{Breach}
 use Rattle.c_runs.specs.declared.profile.FillFunction.{FillFunction}
 use Rattle.c_runs.specs.declared.profile.LogFunction.{LogFunction}
+use Rattle.c_runs.specs.declared.profile.LogText.{LogText}
+use Rattle.c_runs.specs.declared.profile.LogText.TheVariants as log_
 use Rattle.c_runs.specs.declared.profile.Profile.{Profile}
 use Rattle.c_runs.specs.Rules.{Taking, same_taking, declared_taking, library_if, library_named}
+use Rattle.c_runs.specs.Calls.{literal_at}
 use Rattle.c_runs.specs.Rules.{log_of, identity_index, fill_of}
 use Rattle.c_checks.specs.declared.takings.PlainType.{PlainType}
 use Rattle.c_checks.specs.declared.takings.PlainType.TheVariants as plain
@@ -19,6 +22,7 @@ use Rattle.c_checks.specs.Takings.{taking}
 use Rattle.c_checks.specs.Refusals.{least_of}
 use Rattle.c_checks.specs.Calls.{log_breaches, identity_breaches, body_breaches, fill_breaches}
 use Rattle.c_notes.specs.declared.calls.CallNote.{CallNote}
+use Rattle.c_notes.specs.declared.calls.LogFormat.{LogFormat}
 
 -- ---- functions of the prelude, by name and type: how many parameters they have
 
@@ -90,19 +94,24 @@ bodiless_least p at tables e types =
 
 -- ---- what is told of a call
 
+-- the format of a log call, over the texts of those arguments that are string literals
+abbrev pub format_in : List (Option (List ℕ)) → LogText → LogFormat
+format_in texts (log_.Format i newline) = record { bytes = literal_at texts i; newline = newline }
+format_in texts (log_.Text format) = record { bytes = format; newline = false }
+
 -- where the name is that of a log function or an identity function, no body counts
-abbrev pub judged_call : ℕ → Name → Option Breach → CallNote
-judged_call at name b = record { at = at; name = name; arguments = None; breach = b }
+abbrev pub judged_call : ℕ → Name → Option Breach → Option LogFormat → CallNote
+judged_call at name b format = record { at = at; name = name; arguments = None; breach = b; format = format }
 
 abbrev pub open_call : ℕ → Name → ℕ → Option Breach → CallNote
-open_call at name n b = record { at = at; name = name; arguments = Some n; breach = b }
+open_call at name n b = record { at = at; name = name; arguments = Some n; breach = b; format = None }
 
 abbrev pub call_by :
     Profile → ℕ → Tables → Entry → List (Option CType) → List (Option (List ℕ)) → Option LogFunction → Option ℕ →
     CallNote
 call_by p at tables e types texts (Some f) i =
-    judged_call at e.name (least_of (log_breaches at texts types f.text))
-call_by p at tables e types texts None (Some i) = judged_call at e.name (least_of (identity_breaches at types i))
+    judged_call at e.name (least_of (log_breaches at texts types f.text)) (Some (format_in texts f.text))
+call_by p at tables e types texts None (Some i) = judged_call at e.name (least_of (identity_breaches at types i)) None
 call_by p at tables e types texts None None =
     open_call at e.name (length types) (bodiless_least p at tables e types)
 

@@ -13,7 +13,7 @@ mod prelude;
 mod trees;
 
 pub use arguments::ArgumentNotes;
-pub use calls::{CallNote, call_note};
+pub use calls::{CallNote, LogFormat, call_note};
 pub use notes::{ExprNotes, NotedExpr, is_static};
 pub use prelude::prelude_parameters;
 pub use trees::noted;

@@ -1,6 +1,10 @@
 -- What the status of the top call says.
-use Rattle.std.proofs.Common.{◌≡◌, ◌≤◌, ◌<◌, ◌∙◌, ◌⊎◌, inl, inr, ℕ, List, Option, Some, None, Ok, Err, Result, length, map, option_map, arith, ap, refl, sym}
+use Rattle.std.proofs.Common.{◌≡◌, ◌≤◌, ◌<◌, ◌∙◌, ◌⊎◌, inl, inr, ℕ, Bool, true, false, cond, List, Option, Some, None, Ok, Err, Result, length, map, option_map, arith, ap, subst, refl, sym}
 use Rattle.std.specs.Prelude.{◌≢◌}
+use Rattle.std.specs.List.{list_any}
+use Rattle.diagnoses.specs.declared.diagnosis.Diagnosis.{Diagnosis}
+use Rattle.diagnoses.specs.declared.diagnosis.Kept.{Kept}
+use Rattle.diagnoses.specs.declared.diagnosis.Diagnosis.TheVariants.{Found, Nothing, Undecided}
 use Rattle.sl_config.specs.Words.{job_of}
 use Rattle.sl_config.specs.declared.job.Job.{Job}
 use Rattle.sl_config.specs.declared.job.WordsFault.{WordsFault}
@@ -13,9 +17,11 @@ use Rattle.command.specs.Words.{Asked, asked_of, asked_in, asked_where}
 use Rattle.command.specs.Inputs.{limit_of, name_of}
 use Rattle.command.specs.Inputs as inputs
 use Rattle.command.specs.Completeness.{IsAnswerable, IsNoProgram}
-use Rattle.command.specs.Answers.{AllIsWell, IsHeld, IsRefused, Refused}
+use Rattle.command.specs.Answers.{AllIsWell, Answered, IsAnswer, IsHeld, IsOutputOf, IsRefusal, IsRefused, Refused, is_unknown, status_of_diagnosis}
 use Rattle.command.specs.Lines.{TellsAs, TellsOf, line_of, memory_line, status_of}
-use Rattle.command.specs.declared.request.Command.TheVariants.{Replay}
+use Rattle.command.specs.declared.output.Output.{Output}
+use Rattle.command.specs.declared.request.Command.{Command}
+use Rattle.command.specs.declared.request.Command.TheVariants.{Diagnose, Replay, Sites, Match}
 use Rattle.command.specs.declared.request.Request.{Request}
 use Rattle.command.specs.declared.refusal.InputFile.{InputFile}
 use Rattle.command.specs.declared.refusal.Refusal.{Refusal}
@@ -159,12 +165,13 @@ well_status asked before after old new Memory well h = (λ e. omega (arith, e), 
 -- ---- all that is said of a refusal
 
 pub record Refusals (asked : Asked) (before after : ShelfState) (old new err told : SinkState) (result : ℕ) : Type 0 where
-  pub refused : 2 < result → result < 12 → IsRefused asked before after old new err told result
+  pub refused : IsRefusal result → IsRefused asked before after old new err told result
+  pub kinds : IsRefusal result ⊎ (result ≡ 12)
   pub memory : result ≡ 12 → new ≡ old
   pub memory_line : result ≡ 12 → Told err told memory_line
   pub decided : AllIsWell asked before after old new → (result ≡ 6 → ⊥) × (result ≡ 7 → ⊥)
   pub no_program : IsNoProgram asked before after → (result ≡ 3) ⊎ (result ≡ 12)
-  pub complete : IsAnswerable asked before after old new → (result ≡ 12) ⊎ ((result ≡ 3) × (asked.command ≡ Replay))
+  pub complete : IsAnswerable asked before after old new → (result ≡ 12) ⊎ ((result ≡ 3) × (asked.command ≢ Diagnose))
 
 by_status : (result status : ℕ) → result ≡ status → (status ≡ 3) ⊎ (status ≡ 12) → (result ≡ 3) ⊎ (result ≡ 12)
 by_status result status e (inl f) = inl (e ∙ f)
@@ -176,18 +183,46 @@ by_end result status e (inl f) = inl (e ∙ f)
 by_end result status e (inr f) = inr (e ∙ f.0, f.1)
 
 pub whole : {P : Type 0} (result : ℕ) → (result ≡ 12) ⊎ ((result ≡ 3) × P)
-    → (result ≡ 0) ⊎ ((result ≡ 1) ⊎ ((result ≡ 12) ⊎ ((result ≡ 3) × P)))
-whole result h = inr (inr h)
+    → IsAnswer result ⊎ ((result ≡ 12) ⊎ ((result ≡ 3) × P))
+whole result h = inr h
 
-not_between : (result : ℕ) → result ≡ 12 → result < 12 → ⊥
-not_between result is less = omega (arith, is)
+not_memory : (result : ℕ) → result ≡ 12 → IsRefusal result → ⊥
+not_memory result is (inl e) = omega (arith, is, e)
+not_memory result is (inr (inl e)) = omega (arith, is, e)
+not_memory result is (inr (inr (inl e))) = omega (arith, is, e)
+not_memory result is (inr (inr (inr (inl e)))) = omega (arith, is, e)
+not_memory result is (inr (inr (inr (inr (inl e))))) = omega (arith, is, e)
+not_memory result is (inr (inr (inr (inr (inr (inl e)))))) = omega (arith, is, e)
+not_memory result is (inr (inr (inr (inr (inr (inr e)))))) = omega (arith, is, e)
+
+-- the status of a refusal, or of a want of memory
+pub status_kinds : (r : Refusal) → IsRefusal (status_of r) ⊎ (status_of r ≡ 12)
+status_kinds (BadConfig f) = inl (inr (inr (inl refl)))
+status_kinds (BadSource f spot) = inl (inl refl)
+status_kinds NoMain = inl (inl refl)
+status_kinds (Broken rule spot) = inl (inl refl)
+status_kinds NotYetRead = inl (inl refl)
+status_kinds (TooManyLines count) = inl (inr (inl refl))
+status_kinds TooLarge = inl (inr (inr (inr (inr (inr (inl refl))))))
+status_kinds (BadWorld line) = inl (inr (inr (inr (inr (inr (inr refl))))))
+status_kinds Fault = inl (inr (inr (inr (inl refl))))
+status_kinds (TooLong file) = inl (inr (inr (inr (inr (inl refl)))))
+status_kinds Memory = inr refl
+
+pub told_kinds : (asked : Asked) (r : Refusal) (old new : SinkState) (result : ℕ)
+    → TellsAs (status_of r) (line_of asked r) old new result ⊎ ((r ≡ Fault → ⊥) × TellsAs 12 memory_line old new result)
+    → IsRefusal result ⊎ (result ≡ 12)
+told_kinds asked r old new result (inl t) =
+    subst (λ n. IsRefusal n ⊎ (n ≡ 12)) (sym t.is_status) (status_kinds r)
+told_kinds asked r old new result (inr t) = inr t.1.is_status
 
 told_of : (asked : Asked) (before after : ShelfState) (old new err told : SinkState) (r : Refusal) (result : ℕ)
     → Refused asked before after old new r
     → TellsAs (status_of r) (line_of asked r) err told result ⊎ ((r ≡ Fault → ⊥) × TellsAs 12 memory_line err told result)
     → Refusals asked before after old new err told result
 told_of asked before after old new err told r result h (inl t) = record {
-  refused = λ more less. record { refusal = r; is_status = t.is_status; refused = h; line = t.told };
+  kinds = told_kinds asked r err told result (inl t);
+  refused = λ is. record { refusal = r; is_status = t.is_status; refused = h; line = t.told };
   memory = λ e.
       let is = is_memory r (sym e ∙ t.is_status) in
       unwritten asked before after old new r (λ f. fault_memory (sym f ∙ is)) h;
@@ -204,7 +239,8 @@ told_of asked before after old new err told r result h (inl t) = record {
     fault_memory : Fault ≡ Memory → ⊥
     fault_memory e = cc
 told_of asked before after old new err told r result h (inr t) = record {
-  refused = λ more less. absurd (not_between result t.1.is_status less);
+  kinds = told_kinds asked r err told result (inr t);
+  refused = λ is. absurd (not_memory result t.1.is_status is);
   memory = λ e. unwritten asked before after old new r t.0 h;
   memory_line = λ e. t.1.told;
   decided = λ well. (λ e. not_six result t.1.is_status e, λ e. not_seven result t.1.is_status e);
@@ -223,3 +259,58 @@ pub refusals_of : (asked : Asked) (before after : ShelfState) (old new err mid t
     → Refusals asked before after old new err told result
 refusals_of asked before after old new err mid told r result h same t =
     told_of asked before after old new err told r result h (tells asked r err told result (rw same at t))
+
+-- ---- an answer
+
+diagnosis_answer : (d : Diagnosis) → IsAnswer (status_of_diagnosis d)
+diagnosis_answer (Found findings) = found_answer (list_any is_unknown findings.verdicts)
+  where
+    found_answer : (b : Bool) → IsAnswer (cond b 9 0)
+    found_answer true = inr (inr refl)
+    found_answer false = inl refl
+diagnosis_answer (Nothing refutation) = inr (inl refl)
+diagnosis_answer (Undecided trail) = inr (inr refl)
+
+output_answer : (c : Command) (asked : Asked) (files : Option Files) (output : Output) → IsOutputOf c asked files output
+    → IsAnswer output.status
+output_answer Diagnose asked files output h =
+    subst IsAnswer (sym h.on.status) (diagnosis_answer h.on.diagnosed.diagnosis)
+output_answer Replay asked files output h = subst IsAnswer (sym h.status) (inl refl)
+output_answer Sites asked files output h = subst IsAnswer (sym h.status) (inl refl)
+output_answer Match asked files output h = subst IsAnswer (sym h.status) (inl refl)
+
+pub answer_of : (asked : Asked) (files : Option Files) (status : ℕ) (old new err told : SinkState) (kept : Kept)
+    → Answered asked files status old new err told kept → IsAnswer status
+answer_of asked files status old new err told kept h =
+    subst IsAnswer (sym h.verdict) (output_answer asked.command asked files h.output h.just)
+
+refusal_bounds : (status : ℕ) → IsRefusal status → (3 ≤ status) × (status ≡ 9 → ⊥)
+refusal_bounds status (inl e) = (omega (arith, e), λ f. omega (arith, e, f))
+refusal_bounds status (inr (inl e)) = (omega (arith, e), λ f. omega (arith, e, f))
+refusal_bounds status (inr (inr (inl e))) = (omega (arith, e), λ f. omega (arith, e, f))
+refusal_bounds status (inr (inr (inr (inl e)))) = (omega (arith, e), λ f. omega (arith, e, f))
+refusal_bounds status (inr (inr (inr (inr (inl e))))) = (omega (arith, e), λ f. omega (arith, e, f))
+refusal_bounds status (inr (inr (inr (inr (inr (inl e)))))) = (omega (arith, e), λ f. omega (arith, e, f))
+refusal_bounds status (inr (inr (inr (inr (inr (inr e)))))) = (omega (arith, e), λ f. omega (arith, e, f))
+
+pub not_refused : (status : ℕ) → IsAnswer status → IsRefusal status → ⊥
+not_refused status (inl e) r = let b = refusal_bounds status r in omega (arith, e, b.0)
+not_refused status (inr (inl e)) r = let b = refusal_bounds status r in omega (arith, e, b.0)
+not_refused status (inr (inr e)) r = (refusal_bounds status r).1 e
+
+pub not_status : (status other : ℕ) → IsAnswer status → 1 < other → (other ≡ 9 → ⊥) → status ≡ other → ⊥
+not_status status other (inl e) more nine is = omega (arith, e, more, is)
+not_status status other (inr (inl e)) more nine is = omega (arith, e, more, is)
+not_status status other (inr (inr e)) more nine is = nine (sym is ∙ e)
+
+pub no_usage : (status : ℕ) → IsAnswer status → status ≡ 2 → ⊥
+no_usage status h is = not_status status 2 h (omega arith) (λ e. omega (arith, e)) is
+
+pub no_want : (status : ℕ) → IsAnswer status → status ≡ 12 → ⊥
+no_want status h is = not_status status 12 h (omega arith) (λ e. omega (arith, e)) is
+
+pub no_fault : (status : ℕ) → IsAnswer status → (status ≡ 6 → ⊥) × (status ≡ 7 → ⊥)
+no_fault status h = (
+  λ is. not_status status 6 h (omega arith) (λ e. omega (arith, e)) is,
+  λ is. not_status status 7 h (omega arith) (λ e. omega (arith, e)) is,
+)

@@ -1,16 +1,17 @@
 -- Causes of refusals over several gets.
-use Rattle.std.proofs.Common.{◌≡◌, ◌≤◌, ◌+◌, ◌∙◌, ℕ, List, Option, Ok, Err, min, arith, subst, sym, ap, refl}
+use Rattle.std.proofs.Common.{◌≡◌, ◌≤◌, ◌+◌, ◌∙◌, ℕ, Bool, true, List, Option, Ok, Err, min, arith, subst, sym, ap, refl}
+use Rattle.c_tree.specs.declared.unit.External.{External}
 use Rattle.config_text.specs.declared.config.Config.{Config as ConfigType}
+use Rattle.log_text.specs.Stripping.{stripped}
 use Rattle.sl_io.specs.ShelfStates.{Files, ShelfState, CountsOn}
 use Rattle.sl_io.specs.Gets.{Gets}
 use Rattle.sl_io.specs.declared.faults.GetFault.{GetFault}
 use Rattle.sl_io.specs.declared.faults.GetFault.TheVariants as get
 use Rattle.command.specs.Words.{Asked}
-use Rattle.command.specs.Inputs.{Failed, IsTooLong, name_of, limit_of}
-use Rattle.command.specs.Causes.{BreaksRules, Cause, HasBadWorld, HasManyLines, IsConfigured, IsFaulty, IsServed, IsTextOf, IsTooLarge}
-use Rattle.command.specs.Causes.{IsUnserved, Reaches}
-use Rattle.command.specs.Stages.{Configures, Fetches, GetCause, GetsLog, Parses, ReadsWorldFile}
-use Rattle.command.specs.declared.request.Command.{Command}
+use Rattle.command.specs.Inputs.{IsInput, IsTooLong, name_of, limit_of}
+use Rattle.command.specs.Causes.{BreaksRules, Cause, HasBadWorld, HasManyLines, IsAccepted, IsConfigured, IsFaulty, IsPatternOf, IsTextOf, IsTooLarge}
+use Rattle.command.specs.Causes.{IsUnserved, Reaches, takes_log}
+use Rattle.command.specs.Stages.{Configures, Fetches, GetCause, GetsLog, IsManyLines, Parses, ReadsWorldFile, Strips}
 use Rattle.command.specs.declared.refusal.InputFile.{InputFile}
 use Rattle.command.specs.declared.refusal.InputFile.TheVariants.{Source, Log, World}
 use Rattle.command.specs.declared.refusal.Refusal.{Refusal}
@@ -98,17 +99,73 @@ counts_through before mid after first second = record {
 }
 
 -- the log isn't got
-pub log_not_got : (asked : Asked) (before after : ShelfState) (refusal told : Refusal)
-    → Fetches asked Log before after (Err refusal) → told ≡ refusal → GetsLog asked before after (Err told)
-log_not_got asked before after refusal told h is =
+pub log_not_got : (asked : Asked) (prefix : Option (List ℕ)) (drops : Bool) (before after : ShelfState) (refusal told : Refusal)
+    → Fetches asked Log before after (Err refusal) → told ≡ refusal → GetsLog asked prefix drops before after (Err told)
+log_not_got asked prefix drops before after refusal told h is =
     rw is (record {
       counts = h.counts;
       files = h.files;
-      input = tt;
-      few = tt;
-      refused = λ config externals command accepted served.
-          cause_of_get asked Log before after refusal (command, (config, (externals, (accepted, served)))) h.refused;
+      read = tt;
+      refused = λ config externals command accepted.
+          cause_of_get asked Log before after refusal (command, (config, (externals, accepted))) h.refused;
     })
+
+not_many_lines : (asked : Asked) (before after : ShelfState) (bytes : List ℕ) (r : Refusal) → IsInput asked Log before.files bytes
+    → IsManyLines bytes r → (config : ConfigType) (externals : List External) → takes_log asked.command ≡ true
+    → IsAccepted asked before.files config externals → Cause asked before after r
+not_many_lines asked before after bytes (TooManyLines count) input h config externals command accepted = record {
+  logged = command;
+  config = config;
+  externals = externals;
+  accepted = accepted;
+  log = bytes;
+  input = input;
+  is_count = h.0;
+  many = h.1;
+}
+not_many_lines asked before after bytes Memory input h config externals command accepted = tt
+not_many_lines asked before after bytes (BadConfig fault) input h config externals command accepted = absurd h
+not_many_lines asked before after bytes (BadSource fault spot) input h config externals command accepted = absurd h
+not_many_lines asked before after bytes NoMain input h config externals command accepted = absurd h
+not_many_lines asked before after bytes (Broken rule spot) input h config externals command accepted = absurd h
+not_many_lines asked before after bytes NotYetRead input h config externals command accepted = absurd h
+not_many_lines asked before after bytes TooLarge input h config externals command accepted = absurd h
+not_many_lines asked before after bytes (BadWorld line) input h config externals command accepted = absurd h
+not_many_lines asked before after bytes Fault input h config externals command accepted = absurd h
+not_many_lines asked before after bytes (TooLong file) input h config externals command accepted = absurd h
+
+-- the log is got, and not stripped
+pub log_not_stripped : (asked : Asked) (prefix : Option (List ℕ)) (drops : Bool) (before after : ShelfState) (bytes : List ℕ)
+    (refusal told : Refusal) → Fetches asked Log before after (Ok bytes) → Strips prefix drops bytes (Err refusal)
+    → told ≡ refusal → GetsLog asked prefix drops before after (Err told)
+log_not_stripped asked prefix drops before after bytes refusal told h s is =
+    rw is (record {
+      counts = h.counts;
+      files = h.files;
+      read = tt;
+      refused = λ config externals command accepted.
+          not_many_lines asked before after bytes refusal h.input s.refused config externals command accepted;
+    })
+
+-- the log is got and stripped
+pub log_got : (asked : Asked) (prefix : Option (List ℕ)) (drops : Bool) (before after : ShelfState) (bytes log : List ℕ)
+    → Fetches asked Log before after (Ok bytes) → Strips prefix drops bytes (Ok log) → GetsLog asked prefix drops before after (Ok log)
+log_got asked prefix drops before after bytes log h s = record {
+  counts = h.counts;
+  files = h.files;
+  read = λ config command e d. record {
+    logged = command;
+    bytes = bytes;
+    input = h.input;
+    few = s.few;
+    is_stripped = record {
+      pattern = s.is.0;
+      is_pattern = subst (λ p. IsPatternOf p s.is.0) (sym e) s.is.1.0;
+      is = s.is.1.1 ∙ ap (λ b. stripped s.is.0 b bytes) (sym d);
+    };
+  };
+  refused = λ config externals command accepted. tt;
+}
 
 -- the world isn't got
 pub world_not_got : (asked : Asked) (before after : ShelfState) (refusal told : Refusal)
@@ -120,7 +177,7 @@ world_not_got asked before after refusal told h is =
       read = tt;
       refused = λ config externals takes accepted.
           cause_of_get asked World before after refusal
-          (takes, (config, (externals, (accepted, subst (λ (c : Command). IsServed c externals) (sym takes) tt)))) h.refused;
+          (takes, (config, (externals, accepted))) h.refused;
     })
 
 -- the source isn't got, behind the configuration

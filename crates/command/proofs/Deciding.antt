@@ -1,5 +1,5 @@
 -- Where files are told, what they hold decides.
-use Rattle.std.proofs.Common.{◌≡◌, ◌≤◌, ◌<◌, ◌∙◌, ◌⊎◌, inl, inr, ℕ, List, [], Bool, true, false, Option, Some, None, Result, Ok, Err, length}
+use Rattle.std.proofs.Common.{◌≡◌, ◌≤◌, ◌<◌, ◌+◌, ◌*◌, ◌∙◌, ◌⊎◌, inl, inr, ℕ, List, [], Bool, true, false, Option, Some, None, Result, Ok, Err, length}
 use Rattle.std.proofs.Common.{arith, ap, subst, refl, sym}
 use Rattle.std.specs.Prelude.{◌≢◌}
 use Rattle.bit_words.specs.declared.bounds.Bounds.{Bounds}
@@ -19,28 +19,29 @@ use Rattle.cert_text.specs.declared.fault.CertFault.TheVariants as cert
 use Rattle.config_text.specs.Configs.{default_config}
 use Rattle.config_text.specs.declared.config.Config.{Config as ConfigType}
 use Rattle.first_form.specs.Form.{program_of}
-use Rattle.first_runs.specs.Programs.{program_in}
+use Rattle.diagnoses.specs.declared.diagnosis.Kept.{Kept}
 use Rattle.log_text.specs.Lines.{line_count}
+use Rattle.log_text.specs.Stripping.{stripped}
 use Rattle.sl_io.specs.Gets.{HoldsMore}
 use Rattle.sl_io.specs.ShelfStates.{Files, ShelfState, Holds}
 use Rattle.sl_io.specs.SinkStates.{SinkState}
 use Rattle.command.specs.Words.{Asked}
 use Rattle.command.specs.Inputs.{Failed, IsTooLong, limit_of, name_of}
 use Rattle.command.specs.Sources.{HasFault, IsDerived, IsUnparsed}
-use Rattle.command.specs.Causes.{AreInForce, IsAccepted, IsConfigured, IsFaultAt, IsRead, IsServed, Reaches}
-use Rattle.command.specs.Completeness.{HasLog, HasSecond, HasWorld, IsAnswerable, IsAtHand, IsNoProgram, IsProgram}
+use Rattle.command.specs.Causes.{AreInForce, IsAccepted, IsConfigured, IsFaultAt, IsLogRead, IsRead, IsServed, IsStripped, IsTooLarge, Reaches}
+use Rattle.command.specs.Causes.{takes_log}
+use Rattle.command.specs.Completeness.{HasLog, HasSecond, HasShortLog, HasWorld, IsAnswerable, IsAtHand, IsNoProgram, IsProgram}
 use Rattle.command.specs.Answers.{Answered, IsOutput, IsOutputOf, Refused}
 use Rattle.command.specs.Lines.{status_of}
 use Rattle.command.specs.declared.output.Output.{Output}
 use Rattle.command.specs.declared.request.Command.{Command}
-use Rattle.command.specs.declared.request.Command.TheVariants.{Diagnose, Replay}
+use Rattle.command.specs.declared.request.Command.TheVariants.{Diagnose, Replay, Sites, Match}
 use Rattle.command.specs.declared.refusal.InputFile.{InputFile}
 use Rattle.command.specs.declared.refusal.InputFile.TheVariants.{Config, Source, Log, World}
 use Rattle.command.specs.declared.refusal.Refusal.{Refusal}
 use Rattle.command.specs.declared.refusal.Refusal.TheVariants.{BadConfig, BadSource, NoMain, Broken, NotYetRead, TooManyLines, TooLarge, BadWorld, Fault, TooLong, Memory}
 use Rattle.command.specs.declared.refusal.SourceFault.{SourceFault}
 use Rattle.command.specs.declared.refusal.SourceFault.TheVariants as source
-use Rattle.command.proofs.Outputs.{not_both, some_none}
 
 -- ---- a file that is at hand
 
@@ -65,29 +66,30 @@ not_longer asked file before after bytes h long =
 -- ---- the source is no program
 
 none_accepted : (asked : Asked) (before after : ShelfState) (config : ConfigType) (externals : List External)
-    → IsNoProgram asked before after → IsAccepted asked before.files config externals → IsServed asked.command externals → ⊥
-none_accepted asked before after config externals u a served =
+    → IsNoProgram asked before after → IsAccepted asked before.files config externals → ⊥
+none_accepted asked before after config externals u a =
     let same = same_bytes before.files u.at_hand.files asked.source a.read.source u.source a.read.input.held u.at_hand.told
     u.at_hand.held in
     let plain : config ≡ default_config = rw u.plain at a.read.configured in
     u.no_program externals (record {
       is_derived = subst (λ (s : List ℕ). IsDerived asked.source s externals) same a.read.is_derived;
       kept = subst (λ (c : ConfigType). IsAcceptedSource externals c.profile) plain a.kept;
-      served = served;
     })
 
 none_output : (asked : Asked) (before after : ShelfState) (output : Output) (c : Command) → asked.command ≡ c
     → IsNoProgram asked before after → IsOutputOf c asked before.files output → ⊥
 none_output asked before after output Diagnose is u h =
     none_accepted asked before after h.config h.externals u h.accepted
-    (subst (λ (c : Command). IsServed c h.externals) (sym is) (λ e. some_none (program_in h.unit) (sym h.is_unit ∙ e)))
 none_output asked before after output Replay is u h =
     none_accepted asked before after h.config h.externals u h.read.accepted
-    (subst (λ (c : Command). IsServed c h.externals) (sym is) tt)
+none_output asked before after output Sites is u h =
+    none_accepted asked before after h.has.config h.has.externals u h.has.accepted
+none_output asked before after output Match is u h =
+    none_accepted asked before after h.has.config h.has.externals u h.has.accepted
 
-pub none_answered : (asked : Asked) (before after : ShelfState) (found : Bool) (old new err told : SinkState)
-    → IsNoProgram asked before after → Answered asked before.files found old new err told → ⊥
-none_answered asked before after found old new err told u h =
+pub none_answered : (asked : Asked) (before after : ShelfState) (status : ℕ) (old new err told : SinkState) (kept : Kept)
+    → IsNoProgram asked before after → Answered asked before.files status old new err told kept → ⊥
+none_answered asked before after status old new err told kept u h =
     none_output asked before after h.output asked.command refl u h.just
 
 none_reached : (asked : Asked) (before after : ShelfState) (file : InputFile) → IsNoProgram asked before after
@@ -96,14 +98,13 @@ none_reached asked before after Config u reaches h = reaches.0 u.plain
 none_reached asked before after Source u reaches (inl failed) = u.at_hand.got failed
 none_reached asked before after Source u reaches (inr long) = not_longer asked Source before after u.source u.at_hand long
 none_reached asked before after Log u reaches h =
-    none_accepted asked before after reaches.1.0 reaches.1.1.0 u reaches.1.1.1.0 reaches.1.1.1.1
+    none_accepted asked before after reaches.1.0 reaches.1.1.0 u reaches.1.1.1
 none_reached asked before after World u reaches h =
-    none_accepted asked before after reaches.1.0 reaches.1.1.0 u reaches.1.1.1.0 reaches.1.1.1.1
+    none_accepted asked before after reaches.1.0 reaches.1.1.0 u reaches.1.1.1
 
-none_read : (asked : Asked) (before after : ShelfState) (config : ConfigType) (externals : List External)
-    → IsNoProgram asked before after → asked.command ≡ Replay → IsAccepted asked before.files config externals → ⊥
-none_read asked before after config externals u command a =
-    none_accepted asked before after config externals u a (subst (λ (c : Command). IsServed c externals) (sym command) tt)
+none_large : (asked : Asked) (before after : ShelfState) → IsNoProgram asked before after → IsTooLarge asked before.files → ⊥
+none_large asked before after u (inl h) = none_accepted asked before after h.config h.externals u h.read.accepted
+none_large asked before after u (inr h) = none_accepted asked before after h.config h.externals u h.accepted
 
 pub none_status : (asked : Asked) (before after : ShelfState) (old new : SinkState) (r : Refusal)
     → IsNoProgram asked before after → Refused asked before after old new r → (status_of r ≡ 3) ⊎ (status_of r ≡ 12)
@@ -113,11 +114,11 @@ none_status asked before after old new NoMain u h = inl refl
 none_status asked before after old new (Broken rule spot) u h = inl refl
 none_status asked before after old new NotYetRead u h = inl refl
 none_status asked before after old new (TooManyLines count) u h =
-    absurd (none_accepted asked before after h.0.config h.0.externals u h.0.accepted h.0.served)
+    absurd (none_accepted asked before after h.0.config h.0.externals u h.0.accepted)
 none_status asked before after old new TooLarge u h =
-    absurd (none_read asked before after h.0.config h.0.externals u h.0.read.replayed h.0.read.accepted)
+    absurd (none_large asked before after u h.0)
 none_status asked before after old new (BadWorld line) u h =
-    absurd (none_read asked before after h.0.config h.0.externals u h.0.read.replayed h.0.read.accepted)
+    absurd (none_accepted asked before after h.0.config h.0.externals u h.0.read.accepted)
 none_status asked before after old new Fault u (inl h) =
     absurd (none_reached asked before after h.0.0 u h.0.1.0 (inl h.0.1.1))
 none_status asked before after old new Fault u (inr broken) =
@@ -178,6 +179,14 @@ no_fault name bytes xs h source.BadDirective at e = err_ok _ _ _ e h.spelled
 no_fault name bytes xs h source.Syntax at u = underived name bytes xs at h u
 no_fault name bytes xs h source.TooDeep at u = underived name bytes xs at h u
 
+-- a command that reads a log has one at hand
+short_log : (asked : Asked) (before after : ShelfState) (xs : List External) (c : Command) → takes_log c ≡ true
+    → HasSecond c asked before after xs → HasShortLog asked before after
+short_log asked before after xs Diagnose e h = h.short
+short_log asked before after xs Match e h = h
+short_log asked before after xs Replay e h = cc
+short_log asked before after xs Sites e h = cc
+
 module _ (asked : Asked) (before after : ShelfState) (old new : SinkState) (a : IsAnswerable asked before after old new) where
   source_is : (bytes : List ℕ) → Holds before.files asked.source bytes → bytes ≡ a.source
   source_is bytes held = same_bytes before.files a.at_hand.files asked.source bytes a.source held a.at_hand.told a.at_hand.held
@@ -196,8 +205,11 @@ module _ (asked : Asked) (before after : ShelfState) (old new : SinkState) (a : 
       subst (λ (c : ConfigType). IsAcceptedSource xs c.profile) (sym (config_is config r.configured))
       (subst (λ (ys : List External). IsAcceptedSource ys default_config.profile) (sym (externals_are config xs r)) a.program.kept)
 
-  logged : asked.command ≡ Diagnose → HasLog asked before after
-  logged e = subst (λ (c : Command). HasSecond c asked before after a.externals) e a.second
+  logged : takes_log asked.command ≡ true → HasShortLog asked before after
+  logged e = short_log asked before after a.externals asked.command e a.second
+
+  measured : asked.command ≡ Diagnose → HasLog asked before after a.externals
+  measured e = subst (λ (c : Command). HasSecond c asked before after a.externals) e a.second
 
   worlded : asked.command ≡ Replay → HasWorld asked before after a.externals
   worlded e = subst (λ (c : Command). HasSecond c asked before after a.externals) e a.second
@@ -224,6 +236,35 @@ module _ (asked : Asked) (before after : ShelfState) (old new : SinkState) (a : 
       ((worlded command).within bounds
       (subst (λ (c : ConfigType). AreInForce asked c bounds) (config_is config r.configured) in_force)))
 
+  -- a log without its prefixes, where no configuration is named, is the one that is at hand
+  log_is : (config : ConfigType) (log : List ℕ) (l : HasShortLog asked before after)
+      → IsConfigured asked before.files asked.config config → IsLogRead asked before.files config log
+      → log ≡ stripped None false l.log
+  log_is config log l configured r =
+      let same = same_bytes before.files l.at_hand.files asked.second r.bytes l.log r.input.held l.at_hand.told l.at_hand.held in
+      let plain = subst (λ (c : ConfigType). IsStripped c r.bytes log) (config_is config configured) r.is_stripped in
+      plain.is ∙ ap (λ p. stripped p false r.bytes) plain.is_pattern ∙ ap (λ b. stripped None false b) same
+
+  within_log : (config : ConfigType) (xs : List External) (bounds : Bounds) (log : List ℕ) → asked.command ≡ Diagnose
+      → IsRead asked before.files config xs → IsLogRead asked before.files config log → AreInForce asked config bounds
+      → source_size xs config.profile bounds * (line_count log + 1) ≤ 2000000
+  within_log config xs bounds log command r l in_force =
+      subst (λ (c : ConfigType). source_size xs c.profile bounds * (line_count log + 1) ≤ 2000000) (sym (config_is config r.configured))
+      (subst (λ (ys : List External). source_size ys default_config.profile bounds * (line_count log + 1) ≤ 2000000)
+      (sym (externals_are config xs r))
+      (subst (λ (t : List ℕ). source_size a.externals default_config.profile bounds * (line_count t + 1) ≤ 2000000)
+      (sym (log_is config log (measured command).short r.configured l))
+      ((measured command).within bounds
+      (subst (λ (c : ConfigType). AreInForce asked c bounds) (config_is config r.configured) in_force))))
+
+  followed : IsTooLarge asked before.files → ⊥
+  followed (inl h) =
+      smaller (source_size h.externals h.config.profile h.bounds)
+      (within_bounds h.config h.externals h.bounds h.read.accepted.read h.read.replayed h.in_force) h.larger
+  followed (inr h) =
+      smaller (source_size h.externals h.config.profile h.bounds * (line_count h.log + 1))
+      (within_log h.config h.externals h.bounds h.log h.diagnosed h.accepted.read h.read h.in_force) h.larger
+
   world_is_read : (fault : CertFault) (line : ℕ) (text : List ℕ) → asked.command ≡ Replay
       → Holds before.files asked.second text → ReadsWorld text (Err fault) → IsFaultAt fault line → ⊥
   world_is_read fault line text command held reads is =
@@ -232,15 +273,14 @@ module _ (asked : Asked) (before after : ShelfState) (old new : SinkState) (a : 
       let spelled = h.read.ok h.world refl in
       read_not fault h.world (reads.spelled h.world spelled.0 (same ∙ spelled.1) (not_memory fault line is))
 
-  not_served : (xs : List External) (c : Command) → asked.command ≡ c → xs ≡ a.externals
-      → (asked.command ≡ Diagnose → program_of xs ≡ None) → asked.command ≡ Replay
-  not_served xs Replay is same other = is
-  not_served xs Diagnose is same other =
-      absurd (subst (λ (c : Command). IsServed c a.externals) is a.program.served
-      (subst (λ (ys : List External). program_of ys ≡ None) same (other is)))
+  not_served : (xs : List External) → xs ≡ a.externals → (asked.command ≡ Diagnose → program_of xs ≡ None)
+      → asked.command ≢ Diagnose
+  not_served xs same other is =
+      subst (λ (c : Command). IsServed c a.externals) is a.served
+      (subst (λ (ys : List External). program_of ys ≡ None) same (other is))
 
   pub answer_status : (r : Refusal) → Refused asked before after old new r
-      → (status_of r ≡ 12) ⊎ ((status_of r ≡ 3) × (asked.command ≡ Replay))
+      → (status_of r ≡ 12) ⊎ ((status_of r ≡ 3) × (asked.command ≢ Diagnose))
   answer_status (BadConfig f) h = absurd (h.0.named a.plain)
   answer_status (BadSource f spot) h =
       absurd (no_fault asked.source a.source a.externals a.program.is_derived f h.0.has_fault.at
@@ -254,16 +294,14 @@ module _ (asked : Asked) (before after : ShelfState) (old new : SinkState) (a : 
   answer_status NotYetRead h =
       inr (
         refl,
-        not_served h.0.externals asked.command refl
+        not_served h.0.externals
             (externals_are h.0.config h.0.externals h.0.accepted.read) h.0.other,
       )
   answer_status (TooManyLines count) h =
-      let l = logged h.0.diagnosed in
+      let l = logged h.0.logged in
       let same = same_bytes before.files l.at_hand.files asked.second h.0.log l.log h.0.input.held l.at_hand.told l.at_hand.held in
       absurd (not_many h.0.log l.log count same l.few h.0.is_count h.0.many)
-  answer_status TooLarge h =
-      absurd (smaller (source_size h.0.externals h.0.config.profile h.0.bounds)
-      (within_bounds h.0.config h.0.externals h.0.bounds h.0.read.accepted.read h.0.read.replayed h.0.in_force) h.0.larger)
+  answer_status TooLarge h = absurd (followed h.0)
   answer_status (BadWorld line) h =
       absurd (world_is_read h.0.fault line h.0.read.text h.0.read.replayed h.0.read.input.held h.0.read.reads h.0.is_line)
   answer_status Fault (inl h) = absurd (reached_not h.0.0 h.0.1.0 (inl h.0.1.1))

@@ -1,5 +1,5 @@
 -- Why a command line is not answered.
-use Rattle.std.specs.Prelude.{◌≡◌, ◌≢◌, ◌<◌, ℕ, List, Option, Some, None, Result, Ok, Err, ⊤}
+use Rattle.std.specs.Prelude.{◌≡◌, ◌≢◌, ◌≤◌, ◌<◌, ◌+◌, ◌*◌, ◌⊎◌, ℕ, Bool, true, false, List, Option, Some, None, Result, Ok, Err, ⊤}
 use Rattle.bit_words.specs.declared.bounds.Bounds.{Bounds}
 use Rattle.bit_words.specs.Worlds.{WorldTables}
 use Rattle.c_lexer.specs.declared.token.Spot.{Spot}
@@ -12,18 +12,31 @@ use Rattle.config_text.specs.Configs.{Reads, default_config}
 use Rattle.config_text.specs.declared.config.Config.{Config as ConfigType}
 use Rattle.config_text.specs.declared.config.ConfigFault.{ConfigFault}
 use Rattle.first_form.specs.Form.{program_of}
+use Rattle.log_text.specs.declared.prefix.Prefix.{Prefix}
 use Rattle.log_text.specs.Lines.{line_count}
+use Rattle.log_text.specs.Patterns.{IsReadIn, prefix_pattern}
+use Rattle.log_text.specs.Stripping.{stripped}
+use Rattle.regex.specs.Patterns.{Re}
 use Rattle.sl_io.specs.ShelfStates.{Files, ShelfState}
 use Rattle.command.specs.Words.{Asked}
 use Rattle.command.specs.Inputs.{IsInput, Failed, IsTooLong}
 use Rattle.command.specs.Sources.{IsDerived, HasFaultIn, IsRefusedFor}
 use Rattle.command.specs.declared.request.Command.{Command}
-use Rattle.command.specs.declared.request.Command.TheVariants.{Diagnose, Replay}
+use Rattle.command.specs.declared.request.Command.TheVariants.{Diagnose, Replay, Sites, Match}
 use Rattle.command.specs.declared.refusal.InputFile.{InputFile}
 use Rattle.command.specs.declared.refusal.InputFile.TheVariants.{Config, Source, Log, World}
 use Rattle.command.specs.declared.refusal.Refusal.{Refusal}
 use Rattle.command.specs.declared.refusal.Refusal.TheVariants.{BadConfig, BadSource, NoMain, Broken, NotYetRead, TooManyLines, TooLarge, BadWorld, Fault, TooLong, Memory}
 use Rattle.command.specs.declared.refusal.SourceFault.{SourceFault}
+
+-- ---- what commands want
+
+-- a log is read
+abbrev pub takes_log : Command → Bool
+takes_log Diagnose = true
+takes_log Replay = false
+takes_log Sites = false
+takes_log Match = true
 
 -- ---- the configuration
 
@@ -68,31 +81,51 @@ pub record BreaksRules (asked : Asked) (files : Option Files) (refusal : Refusal
   pub read : IsRead asked files config externals
   pub refused : IsRefusedFor asked.source read.source externals config.profile refusal
 
--- the source is accepted, and not of the form that `diagnose` serves; `replay` serves each whose core is made
+-- the source is accepted, and not served; `diagnose` serves each of the first form, other commands each whose core is made
 pub record IsUnserved (asked : Asked) (files : Option Files) : Type 0 where
   pub config : ConfigType
   pub externals : List External
   pub accepted : IsAccepted asked files config externals
   pub other : asked.command ≡ Diagnose → program_of externals ≡ None
 
--- what is served of accepted sources: `diagnose` serves those of the first form
+-- which accepted sources are always served: of `diagnose` those of the first form
 abbrev pub IsServed : Command → List External → Type 0
 IsServed Diagnose externals = program_of externals ≢ None
 IsServed Replay externals = ⊤
+IsServed Sites externals = ⊤
+IsServed Match externals = ⊤
 
 -- ---- the log
 
--- the source is accepted and served, and the log has so many lines, more than are followed
+-- the pattern of a configuration's prefix, where it has one
+abbrev pub IsPatternOf : Option (List ℕ) → Option Re → Type 0
+IsPatternOf None pattern = pattern ≡ None
+IsPatternOf (Some text) pattern = (x : Prefix) × (IsReadIn text x × (pattern ≡ Some (prefix_pattern x)))
+
+-- the source is accepted, and the log has so many lines, more than are followed
 pub record HasManyLines (asked : Asked) (files : Option Files) (count : ℕ) : Type 0 where
-  pub diagnosed : asked.command ≡ Diagnose
+  pub logged : takes_log asked.command ≡ true
   pub config : ConfigType
   pub externals : List External
   pub accepted : IsAccepted asked files config externals
-  pub served : IsServed asked.command externals
   pub log : List ℕ
   pub input : IsInput asked Log files log
   pub is_count : count ≡ line_count log
   pub many : 1000 < count
+
+-- what stripping leaves of a log's bytes, with a configuration's prefix
+pub record IsStripped (config : ConfigType) (bytes log : List ℕ) : Type 0 where
+  pub pattern : Option Re
+  pub is_pattern : IsPatternOf config.prefix pattern
+  pub is : log ≡ stripped pattern config.drop_unmatched bytes
+
+-- the command reads a log, and this is it: that of its file, stripped
+pub record IsLogRead (asked : Asked) (files : Option Files) (config : ConfigType) (log : List ℕ) : Type 0 where
+  pub logged : takes_log asked.command ≡ true
+  pub bytes : List ℕ
+  pub input : IsInput asked Log files bytes
+  pub few : line_count bytes ≤ 1000
+  pub is_stripped : IsStripped config bytes log
 
 -- ---- the world
 
@@ -132,7 +165,7 @@ pub record AreInForce (asked : Asked) (config : ConfigType) (bounds : Bounds) : 
   pub arguments : bounds.arguments ≡ config.arguments
 
 -- the source is accepted, the world is one, and the program unrolls to more nodes than are followed
-pub record IsTooLarge (asked : Asked) (files : Option Files) : Type 0 where
+pub record IsTooLargeToRun (asked : Asked) (files : Option Files) : Type 0 where
   pub config : ConfigType
   pub externals : List External
   pub world : WorldTables
@@ -141,18 +174,34 @@ pub record IsTooLarge (asked : Asked) (files : Option Files) : Type 0 where
   pub in_force : AreInForce asked config bounds
   pub larger : 2000000 < source_size externals config.profile bounds
 
+-- A diagnosis is asked for, the source is accepted, this is the log, and the program unrolls to more nodes than are followed, once for each line of
+-- the log and once for its end.
+pub record IsTooLargeToDiagnose (asked : Asked) (files : Option Files) : Type 0 where
+  pub diagnosed : asked.command ≡ Diagnose
+  pub config : ConfigType
+  pub externals : List External
+  pub accepted : IsAccepted asked files config externals
+  pub log : List ℕ
+  pub read : IsLogRead asked files config log
+  pub bounds : Bounds
+  pub in_force : AreInForce asked config bounds
+  pub larger : 2000000 < source_size externals config.profile bounds * (line_count log + 1)
+
+abbrev pub IsTooLarge : Asked → Option Files → Type 0
+IsTooLarge asked files = IsTooLargeToRun asked files ⊎ IsTooLargeToDiagnose asked files
+
 -- ---- all causes
 
 -- the files that a command reads
 abbrev pub Takes : Asked → InputFile → Type 0
 Takes asked Config = asked.config ≢ None
 Takes asked Source = ⊤
-Takes asked Log = asked.command ≡ Diagnose
+Takes asked Log = takes_log asked.command ≡ true
 Takes asked World = asked.command ≡ Replay
 
 abbrev pub IsAcceptedIn : Asked → Option Files → Type 0
 IsAcceptedIn asked files =
-    (config : ConfigType) × ((externals : List External) × (IsAccepted asked files config externals × IsServed asked.command externals))
+    (config : ConfigType) × ((externals : List External) × IsAccepted asked files config externals)
 
 -- what came before the get of this file: the source is got once there is a configuration, the log and the world once
 -- the source was accepted

@@ -1,5 +1,5 @@
 -- What decides where files are told, and no configuration is named.
-use Rattle.std.specs.Prelude.{◌≡◌, ◌≤◌, ℕ, List, Some, None, Ok, length}
+use Rattle.std.specs.Prelude.{◌≡◌, ◌≤◌, ◌+◌, ◌*◌, ℕ, List, Some, None, Ok, false, length, ⊤}
 use Rattle.bit_words.specs.declared.bounds.Bounds.{Bounds}
 use Rattle.bit_words.specs.Worlds.{WorldTables}
 use Rattle.c_runs.specs.Units.{IsAcceptedSource, source_size}
@@ -7,6 +7,7 @@ use Rattle.c_tree.specs.declared.unit.External.{External}
 use Rattle.cert_text.specs.WorldTexts.{ReadsWorld}
 use Rattle.config_text.specs.Configs.{default_config}
 use Rattle.log_text.specs.Lines.{line_count}
+use Rattle.log_text.specs.Stripping.{stripped}
 use Rattle.sl_io.specs.Counts.{Rose}
 use Rattle.sl_io.specs.ShelfStates.{Files, ShelfState}
 use Rattle.sl_io.specs.SinkStates.{SinkState}
@@ -15,7 +16,7 @@ use Rattle.command.specs.Inputs.{Failed, limit_of, name_of}
 use Rattle.command.specs.Sources.{IsDerived}
 use Rattle.command.specs.Causes.{AreInForce, IsServed}
 use Rattle.command.specs.declared.request.Command.{Command}
-use Rattle.command.specs.declared.request.Command.TheVariants.{Diagnose, Replay}
+use Rattle.command.specs.declared.request.Command.TheVariants.{Diagnose, Replay, Sites, Match}
 use Rattle.command.specs.declared.refusal.InputFile.{InputFile}
 use Rattle.command.specs.declared.refusal.InputFile.TheVariants.{Source, Log, World}
 
@@ -27,11 +28,10 @@ pub record IsAtHand (asked : Asked) (file : InputFile) (before after : ShelfStat
   pub within : length bytes ≤ limit_of file
   pub got : Failed asked file before after → ⊥
 
--- these bytes are a source that is derived, breaks no rule and is served
+-- these bytes are a source that is derived and breaks no rule
 pub record IsProgram (asked : Asked) (source : List ℕ) (externals : List External) : Type 0 where
   pub is_derived : IsDerived asked.source source externals
   pub kept : IsAcceptedSource externals default_config.profile
-  pub served : IsServed asked.command externals
 
 -- the source is at hand, and is no such program
 pub record IsNoProgram (asked : Asked) (before after : ShelfState) : Type 0 where
@@ -40,11 +40,17 @@ pub record IsNoProgram (asked : Asked) (before after : ShelfState) : Type 0 wher
   pub at_hand : IsAtHand asked Source before after source
   pub no_program : (externals : List External) → IsProgram asked source externals → ⊥
 
--- the log is at hand, and has no more lines than are followed
-pub record HasLog (asked : Asked) (before after : ShelfState) : Type 0 where
+-- the log is at hand and has no more lines than are followed
+pub record HasShortLog (asked : Asked) (before after : ShelfState) : Type 0 where
   pub log : List ℕ
   pub at_hand : IsAtHand asked Log before after log
   pub few : line_count log ≤ 1000
+
+-- so, nor has the program more nodes over them
+pub record HasLog (asked : Asked) (before after : ShelfState) (externals : List External) : Type 0 where
+  pub short : HasShortLog asked before after
+  pub within : (bounds : Bounds) → AreInForce asked default_config bounds
+      → source_size externals default_config.profile bounds * (line_count (stripped None false short.log) + 1) ≤ 2000000
 
 -- the world is at hand, and the program unrolls to no more nodes than are followed
 pub record HasWorld (asked : Asked) (before after : ShelfState) (externals : List External) : Type 0 where
@@ -56,15 +62,18 @@ pub record HasWorld (asked : Asked) (before after : ShelfState) (externals : Lis
       → source_size externals default_config.profile bounds ≤ 2000000
 
 abbrev pub HasSecond : Command → Asked → ShelfState → ShelfState → List External → Type 0
-HasSecond Diagnose asked before after externals = HasLog asked before after
+HasSecond Diagnose asked before after externals = HasLog asked before after externals
 HasSecond Replay asked before after externals = HasWorld asked before after externals
+HasSecond Sites asked before after externals = ⊤
+HasSecond Match asked before after externals = HasShortLog asked before after
 
--- both files are at hand, the source is a program, and no write failed
+-- the files are at hand, the source is a program that is served, and no write failed
 pub record IsAnswerable (asked : Asked) (before after : ShelfState) (old new : SinkState) : Type 0 where
   pub plain : asked.config ≡ None
   pub source : List ℕ
   pub at_hand : IsAtHand asked Source before after source
   pub externals : List External
   pub program : IsProgram asked source externals
+  pub served : IsServed asked.command externals
   pub second : HasSecond asked.command asked before after externals
   pub wrote : Rose old.faults new.faults → ⊥

@@ -17,6 +17,8 @@ asked_in request = record {
   config = option_map (λ name. name.now) request.config;
   turns = request.turns;
   depth = request.depth;
+  conflicts = request.conflicts;
+  by_line = request.by_line;
 }
 
 abbrev pub name_of : Asked → InputFile → List ℕ

@@ -14,7 +14,6 @@ use Rattle.command.specs.Words.{Asked}
 use Rattle.command.specs.Inputs.{name_of}
 use Rattle.command.specs.Places.{spot_at, spot_text}
 use Rattle.command.specs.Sources.{fault_name, rule_name}
-use Rattle.command.specs.declared.refusal.InputFile.{InputFile}
 use Rattle.command.specs.declared.refusal.Refusal.{Refusal}
 use Rattle.command.specs.declared.refusal.Refusal.TheVariants.{BadConfig, BadSource, NoMain, Broken, NotYetRead, TooManyLines, TooLarge, BadWorld, Fault, TooLong, Memory}
 

@@ -26,7 +26,7 @@ use Rattle.printf_text.specs.declared.parse.FormatFault.{FormatFault}
 use Rattle.printf_text.specs.declared.parse.FormatFault.TheVariants as format
 use Rattle.command.specs.Places.{spot_at}
 use Rattle.command.specs.declared.refusal.Refusal.{Refusal}
-use Rattle.command.specs.declared.refusal.Refusal.TheVariants.{BadSource, NoMain, Broken, NotYetRead, Memory}
+use Rattle.command.specs.declared.refusal.Refusal.TheVariants.{NoMain, Broken, NotYetRead, Memory}
 use Rattle.command.specs.declared.refusal.SourceFault.{SourceFault}
 use Rattle.command.specs.declared.refusal.SourceFault.TheVariants.{BadByte, OpenText, WideNumber, BadConstant, BadDirective, Syntax, TooDeep}
 

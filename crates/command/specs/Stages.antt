@@ -1,12 +1,11 @@
 -- The steps from a command line to its output, each as what it answers and why it doesn't.
-use Rattle.std.specs.Prelude.{◌≡◌, ◌≤◌, ℕ, List, Bool, Option, Some, None, Result, Ok, Err, IfOk, IfErr, ⊤}
+use Rattle.std.specs.Prelude.{◌≡◌, ◌≤◌, ◌<◌, ℕ, List, Bool, true, Option, None, Result, Ok, Err, IfOk, IfErr, ⊤}
 use Rattle.bit_words.specs.Worlds.{WorldTables}
 use Rattle.c_lexer.specs.Places.{located}
 use Rattle.c_lexer.specs.declared.token.Token.{Token}
 use Rattle.c_reading.specs.declared.fault.ParseFault.{ParseFault}
 use Rattle.c_reading.specs.declared.fault.ParseFault.TheVariants as parser
 use Rattle.c_runs.specs.declared.profile.Profile.{Profile}
-use Rattle.c_runs.specs.Units.{IsAcceptedSource}
 use Rattle.c_tree.specs.declared.unit.External.{External}
 use Rattle.c_tree.specs.declared.unit.Unit.{Unit}
 use Rattle.cert_text.specs.WorldTexts.{ReadsWorld}
@@ -16,23 +15,25 @@ use Rattle.config_text.specs.Values.{InRanges}
 use Rattle.config_text.specs.declared.config.Config.{Config as ConfigType}
 use Rattle.config_text.specs.declared.config.ConfigFault.{ConfigFault}
 use Rattle.config_text.specs.declared.config.ConfigFault.TheVariants as config_fault
+use Rattle.diagnoses.specs.declared.diagnosis.Kept.{Kept}
 use Rattle.first_form.specs.Form.{program_of}
-use Rattle.first_runs.specs.declared.tree.Unit.{Unit as FirstUnit}
-use Rattle.first_runs.specs.Programs.{program_in}
 use Rattle.log_text.specs.Lines.{line_count}
+use Rattle.log_text.specs.Stripping.{stripped}
+use Rattle.regex.specs.Patterns.{Re}
+use Rattle.acceptance.specs.declared.program.Accepted.{Accepted}
 use Rattle.sl_io.specs.ShelfStates.{Files, ShelfState, CountsOn}
 use Rattle.sl_io.specs.SinkStates.{SinkState}
+use Rattle.source_sites.specs.declared.listing.Site.{Site}
 use Rattle.command.specs.Words.{Asked}
 use Rattle.command.specs.Inputs.{IsInput, Failed, IsTooLong}
 use Rattle.command.specs.Sources.{IsUnit, HasFaultIn, IsRefusedFor, start_at}
-use Rattle.command.specs.Causes.{Cause, IsAccepted, IsConfigured, IsRead, IsServed, Takes}
-use Rattle.command.specs.Answers.{Answered, IsOutput, Refused}
-use Rattle.command.specs.declared.request.Command.TheVariants.{Diagnose}
+use Rattle.command.specs.Causes.{Cause, IsAccepted, IsConfigured, IsLogRead, IsPatternOf, Takes, takes_log}
+use Rattle.command.specs.Answers.{Answered, AreSitesIn, IsOutput, Refused}
 use Rattle.command.specs.declared.getting.Parsed.{Parsed}
 use Rattle.command.specs.declared.refusal.InputFile.{InputFile}
-use Rattle.command.specs.declared.refusal.InputFile.TheVariants.{Source, Log, World}
+use Rattle.command.specs.declared.refusal.InputFile.TheVariants.{Source, World}
 use Rattle.command.specs.declared.refusal.Refusal.{Refusal}
-use Rattle.command.specs.declared.refusal.Refusal.TheVariants.{BadConfig, BadSource, NoMain, Broken, NotYetRead, BadWorld, Fault, TooLong, Memory}
+use Rattle.command.specs.declared.refusal.Refusal.TheVariants.{BadConfig, BadSource, NoMain, Broken, NotYetRead, TooManyLines, BadWorld, Fault, TooLong, Memory}
 use Rattle.command.specs.declared.refusal.SourceFault.{SourceFault}
 use Rattle.command.specs.declared.refusal.SourceFault.TheVariants.{Syntax, TooDeep}
 use Rattle.command.specs.declared.output.Output.{Output}
@@ -106,26 +107,49 @@ IsRule (Broken rule spot) = ⊤
 IsRule Memory = ⊤
 IsRule _ = ⊥
 
--- ---- the first form
+-- ---- what is diagnosed
 
--- the program of an accepted source, where it is of the first form
-pub record FormsFirst (name bytes : List ℕ) (unit : Unit) (profile : Profile) (result : Result FirstUnit Refusal) : Type 0 where
-  pub kept : IfOk result (λ first. IsAcceptedSource unit.externals profile)
-  pub of_form : IfOk result (λ first. program_of unit.externals ≡ Some (program_in first))
-  pub places : IfOk result (λ first. first.places ≡ unit.places)
-  pub refused : IfErr result (IsRefusedFor name bytes unit.externals profile)
-  pub other : result ≡ Err NotYetRead → program_of unit.externals ≡ None
+-- an accepted source is not served, which is told of no source of the first form
+abbrev pub IsNotServed : List External → Refusal → Type 0
+IsNotServed externals NotYetRead = program_of externals ≡ None
+IsNotServed externals Memory = ⊤
+IsNotServed externals _ = ⊥
+
+-- the program of a source that is derived, where it is accepted
+pub record Accepts (name bytes : List ℕ) (xs : List External) (f : Profile) (result : Result Accepted Refusal) : Type 0 where
+  pub externals : IfOk result (λ p. p.externals ≡ xs)
+  pub profile : IfOk result (λ p. p.profile ≡ f)
+  pub refused : IfErr result (IsRefusedFor name bytes xs f)
+  pub other : result ≡ Err NotYetRead → program_of xs ≡ None
+
+-- ---- what is listed
+
+-- the log calls of a source that is derived, where it is accepted
+pub record Lists (name bytes : List ℕ) (xs : List External) (f : Profile) (result : Result (List Site) Refusal) : Type 0 where
+  pub found : IfOk result (AreSitesIn xs f)
+  pub refused : IfErr result (IsRefusedFor name bytes xs f)
 
 -- ---- the log
 
-pub record GetsLog (asked : Asked) (before after : ShelfState) (result : Result (List ℕ) Refusal) : Type 0 where
+abbrev pub IsManyLines : List ℕ → Refusal → Type 0
+IsManyLines bytes (TooManyLines count) = (count ≡ line_count bytes) × (1000 < count)
+IsManyLines bytes Memory = ⊤
+IsManyLines bytes _ = ⊥
+
+-- a log's bytes are stripped, or have more lines than are followed
+pub record Strips (prefix : Option (List ℕ)) (drops : Bool) (bytes : List ℕ) (result : Result (List ℕ) Refusal) : Type 0 where
+  pub few : IfOk result (λ log. line_count bytes ≤ 1000)
+  pub is : IfOk result (λ log. (pattern : Option Re) × (IsPatternOf prefix pattern × (log ≡ stripped pattern drops bytes)))
+  pub refused : IfErr result (IsManyLines bytes)
+
+pub record GetsLog (asked : Asked) (prefix : Option (List ℕ)) (drops : Bool) (before after : ShelfState)
+    (result : Result (List ℕ) Refusal) : Type 0 where
   pub counts : CountsOn before after
   pub files : after.files ≡ before.files
-  pub input : IfOk result (IsInput asked Log before.files)
-  pub few : IfOk result (λ log. line_count log ≤ 1000)
-  pub refused : (config : ConfigType) (externals : List External) → asked.command ≡ Diagnose
-      → IsAccepted asked before.files config externals → IsServed asked.command externals
-      → IfErr result (Cause asked before after)
+  pub read : IfOk result (λ log. (config : ConfigType) → takes_log asked.command ≡ true → config.prefix ≡ prefix
+      → config.drop_unmatched ≡ drops → IsLogRead asked before.files config log)
+  pub refused : (config : ConfigType) (externals : List External) → takes_log asked.command ≡ true
+      → IsAccepted asked before.files config externals → IfErr result (Cause asked before after)
 
 -- ---- the world
 
@@ -149,8 +173,8 @@ pub record Forms (asked : Asked) (before after : ShelfState) (result : Result Ou
   pub refused : IfErr result (Cause asked before after)
 
 -- a command line is served
-pub record Serves (asked : Asked) (before after : ShelfState) (old new err told : SinkState) (result : Result Bool Refusal) : Type 0 where
+pub record Serves (asked : Asked) (before after : ShelfState) (old new err told : SinkState) (kept : Kept) (result : Result ℕ Refusal) : Type 0 where
   pub files : after.files ≡ before.files
-  pub answered : IfOk result (λ found. Answered asked before.files found old new err told)
+  pub answered : IfOk result (λ status. Answered asked before.files status old new err told kept)
   pub refused : IfErr result (Refused asked before after old new)
   pub untold : IfErr result (λ _. told ≡ err)

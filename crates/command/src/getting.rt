@@ -1,7 +1,10 @@
 //! Files got, and what they hold.
-ghost use Rattle.std.specs.Prelude.{◌≡◌, ◌≤◌, length};
+ghost use Rattle.std.specs.Prelude.{◌≡◌, ◌≤◌, length, option_map, IfOk, IfErr};
+ghost use Rattle.log_text.specs.Patterns.{prefix_pattern};
+ghost use Rattle.command.specs.Causes.{IsPatternOf};
+ghost use Rattle.command.specs.declared.refusal.Refusal.TheVariants.{Memory as MemoryRefusal};
 ghost use Rattle.command.specs.Inputs.{asked_in};
-ghost use Rattle.command.specs.Stages.{Configures, Fetches, GetsLog, Parses, ReadsWorldFile, config_refusal, world_refusal};
+ghost use Rattle.command.specs.Stages.{Configures, Fetches, GetsLog, Parses, ReadsWorldFile, Strips, config_refusal, world_refusal};
 
 use crate::refusal::{InputFile, Refusal};
 use crate::request::Request;
@@ -10,7 +13,8 @@ use bit_words::{Bytes, World};
 use c_tree::Unit;
 use cert_text::{CertFault, read_world};
 use config_text::{Config, ConfigFault, default_config, read_config};
-use log_text::{LogFault, strip};
+use log_text::{LogFault, LogText, Prefix, strip};
+use sl_config::Name;
 use sl_io::{GetFault, Shelf};
 use std::alloc::Global;
 
@@ -90,20 +94,51 @@ pub fn read_source<H: Shelf>(
     })
 }
 
-/// Gets the log, where it has no more lines than are followed.
-pub fn get_log<H: Shelf>(
-    alloc: Global,
-    request: &Request<'_>,
-    shelf: &mut H,
-) -> Result<Bytes, Refusal>
-    ensures { GetsLog (asked_in request.now) (H.state shelf.old) (H.state shelf.new) result }
+/// The pattern of a configuration's prefix; a configuration's text is one.
+fn pattern_of(alloc: Global, prefix: &Option<Name>) -> Result<Option<Prefix>, Refusal>
+    ensures pattern { IfOk result (λ found. IsPatternOf prefix.now (option_map (λ p. prefix_pattern p) found)) }
+    ensures refused { IfErr result (λ r. r ≡ MemoryRefusal) }
 {
-    let log = fetch(alloc, request, InputFile::Log, shelf)?;
-    match strip(alloc, log.as_slice(), None, false) {
-        Ok(_) => Ok(log),
+    match prefix {
+        None => Ok(None),
+        Some(text) => match Prefix::new(alloc, text.as_str()) {
+            Ok(pattern) => Ok(Some(pattern)),
+            Err(_) => Err(Refusal::Memory),
+        },
+    }
+}
+
+/// A log without the prefixes of its lines, where it has no more lines than are followed.
+fn strip_log(
+    alloc: Global,
+    bytes: &[u8],
+    prefix: &Option<Name>,
+    drops: bool,
+) -> Result<LogText, Refusal>
+    requires { length bytes.now ≤ 65536 }
+    ensures { Strips prefix.now drops bytes.now result }
+{
+    let pattern = pattern_of(alloc, prefix)?;
+    match strip(alloc, bytes, pattern.as_ref(), drops) {
+        Ok(log) => Ok(log),
         Err(LogFault::TooManyLines(count)) => Err(Refusal::TooManyLines(count)),
         Err(LogFault::Memory) => Err(Refusal::Memory),
     }
+}
+
+/// Gets the log, where it has no more lines than are followed, without the prefixes of its lines.
+pub fn get_log<H: Shelf>(
+    alloc: Global,
+    request: &Request<'_>,
+    prefix: &Option<Name>,
+    drops: bool,
+    shelf: &mut H,
+) -> Result<LogText, Refusal>
+    ensures { GetsLog (asked_in request.now) prefix.now drops (H.state shelf.old) (H.state shelf.new) result }
+{
+    let bytes = fetch(alloc, request, InputFile::Log, shelf)?;
+    let log = strip_log(alloc, bytes.as_slice(), prefix, drops)?;
+    Ok(log)
 }
 
 fn refusal_of_world(fault: CertFault) -> Refusal

@@ -7,6 +7,7 @@ mod lines;
 mod output;
 mod places;
 mod refusal;
+mod reporting;
 mod request;
 mod serving;
 mod source;

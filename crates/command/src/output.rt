@@ -1,12 +1,14 @@
 //! What a command writes.
 
 use bit_words::Bytes;
+use diagnoses::Kept;
 
-/// What a command writes to its output, the line on how a run ended, and whether a world was found that fits, as the
-/// world of a run always does.
+/// What a command writes to its output, the line on how a run ended, the status once it is written, and the evidence of a
+/// diagnosis.
 #[derive(Drop)]
 pub struct Output {
     pub text: Bytes,
     pub end: Bytes,
-    pub is_found: bool,
+    pub status: u8,
+    pub evidence: Kept,
 }

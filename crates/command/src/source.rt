@@ -1,5 +1,5 @@
 //! Reading a source: from its bytes to its unit, and why it is refused.
-ghost use Rattle.std.specs.Prelude.{◌≡◌, ◌≤◌, ◌<◌, List, length, Ok, Err, IfOk, IfErr, IfSome};
+ghost use Rattle.std.specs.Prelude.{◌≡◌, ◌≤◌, ◌<◌, List, length, false, Ok, Err, None, IfOk, IfErr, IfSome};
 ghost use Rattle.acceptance.specs.Refusals.{IsRefusal};
 ghost use Rattle.c_lexer.specs.Fault.{Refused as IsFaultOf};
 ghost use Rattle.c_lexer.specs.Reading.{lexed};
@@ -7,20 +7,22 @@ ghost use Rattle.c_lexer.specs.Standing.{StandInOrder, fault_byte};
 ghost use Rattle.c_parser.specs.Parsing.{Refuses as RefusesTokens};
 ghost use Rattle.c_runs.specs.declared.profile.Profile.{Profile as ProfileType};
 ghost use Rattle.c_tree.specs.declared.unit.External.{External as ExternalType};
+ghost use Rattle.first_form.specs.Form.{program_of};
 ghost use Rattle.command.specs.Sources.{HasFault, IsRefusedFor, start_at};
-ghost use Rattle.command.specs.Stages.{FormsFirst, IsRule, IsToldAt, Reads, Tells};
+ghost use Rattle.command.specs.Stages.{Accepts, IsNotServed, IsRule, IsToldAt, Lists, Reads, Tells};
 
 use crate::places::{MAX_SOURCE, spot_at};
 use crate::refusal::{Refusal, SourceFault};
-use acceptance::{Accepted, CheckFault, accept, check};
+use acceptance::{Accepted, CheckFault, accept};
 use c_lexer::{LexFault, Token, Tokens, lex, locate};
 use c_parser::ParseFault;
 use c_parser::unit::parse;
 use c_runs::Profile;
 use c_tree::{External, Unit};
-use first_form::form::{FormFault, read};
+use first_form::{FormFault, read};
 use plain_data::{Items, Shared};
-use std::alloc::Global;
+use source_sites::{Site, sites_of};
+use std::alloc::{AllocError, Global};
 
 /// The refusal of a source whose fault stands at a byte.
 fn bad_source(alloc: Global, name: &str, bytes: &[u8], fault: SourceFault, at: u32) -> Refusal
@@ -143,24 +145,79 @@ pub fn accepted(
     }
 }
 
-/// The first form of a source that is derived, where it is accepted and of the form.
-pub fn first_form(
+/// The same externals once more.
+fn copy_externals(
+    alloc: Global,
+    externals: &[Shared<External>],
+) -> Result<Items<Shared<External>>, AllocError>
+    ensures { IfOk result (λ copy. copy ≡ externals.now) }
+{
+    let mut copy = Items::new(alloc);
+    for external in externals {
+        copy.push(external.clone()?)?;
+    }
+    Ok(copy)
+}
+
+/// Of an accepted source that can't be diagnosed, the refusal: that it isn't served, or for want of memory where it is of
+/// the first form, of which each source is served.
+pub fn unserved(alloc: Global, unit: &Unit) -> Refusal
+    ensures { IsNotServed unit.now.externals result }
+{
+    match is_first_form(alloc, unit) {
+        Ok(false) => Refusal::NotYetRead,
+        _ => Refusal::Memory,
+    }
+}
+
+/// Whether a source is of the first form.
+fn is_first_form(alloc: Global, unit: &Unit) -> Result<bool, AllocError>
+    ensures { IfOk result (λ b. b ≡ false → program_of unit.now.externals ≡ None) }
+{
+    let copy = Unit {
+        externals: copy_externals(alloc, unit.externals.as_slice())?,
+        places: unit.places.clone()?,
+    };
+    match read(alloc, copy) {
+        Ok(_) => Ok(true),
+        Err(FormFault::NotYetRead) => Ok(false),
+        Err(FormFault::Memory) => Err(AllocError),
+    }
+}
+
+/// The program of a source that is derived, where it is accepted, to be diagnosed.
+pub fn diagnosable(
     alloc: Global,
     name: &str,
     bytes: &[u8],
-    unit: Unit,
-    profile: &Profile,
-) -> Result<first_runs::Unit, Refusal>
+    unit: &Unit,
+    profile: Profile,
+) -> Result<Accepted, Refusal>
     requires { length bytes.now ≤ MAX_SOURCE }
-    ensures { FormsFirst name.now bytes.now unit profile.now result }
+    ensures { Accepts name.now bytes.now unit.now.externals profile result }
 {
-    match check(alloc, unit.externals.as_slice(), profile) {
-        Ok(None) => match read(alloc, unit) {
-            Ok(first) => Ok(first),
-            Err(FormFault::NotYetRead) => Err(Refusal::NotYetRead),
-            Err(FormFault::Memory) => Err(Refusal::Memory),
-        },
-        Ok(Some(why)) => Err(refused_for(alloc, name, bytes, why)),
-        Err(_) => Err(Refusal::Memory),
+    let externals = copy_externals(alloc, unit.externals.as_slice())?;
+    match accept(alloc, externals, profile) {
+        Ok(program) => Ok(program),
+        Err(CheckFault::Refused(why)) => Err(refused_for(alloc, name, bytes, why)),
+        Err(CheckFault::NoCore) => Err(unserved(alloc, unit)),
+        Err(CheckFault::Memory) => Err(Refusal::Memory),
     }
+}
+
+/// The log calls of a source that is derived, where it is accepted.
+pub fn listed(
+    alloc: Global,
+    name: &str,
+    bytes: &[u8],
+    unit: &Unit,
+    profile: Profile,
+) -> Result<Items<Site>, Refusal>
+    requires { length bytes.now ≤ MAX_SOURCE }
+    ensures { Lists name.now bytes.now unit.now.externals profile result }
+{
+    let externals = copy_externals(alloc, unit.externals.as_slice())?;
+    let program = accepted(alloc, name, bytes, externals, profile)?;
+    let sites = sites_of(alloc, &program)?;
+    Ok(sites)
 }

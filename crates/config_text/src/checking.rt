@@ -173,8 +173,8 @@ pub(crate) fn first_fault(
     ensures { IfOk result (λ found. found
         ≡ spec.first_fault (spec.setting_fault refused) (members_view members.now.entries)) }
 {
-    for (key, value) in members {
-        if let Some(fault) = setting_fault(alloc, refused, key.as_str(), value)? {
+    for (word, value) in members {
+        if let Some(fault) = setting_fault(alloc, refused, word.as_str(), value)? {
             return Ok(Some(fault));
         }
     }

@@ -7,11 +7,11 @@ use Rattle.c_tree.specs.declared.unit.Stmt.TheOpen as source
 use Rattle.c_tree.specs.declared.unit.Stmt.TheVariants as variant
 use Rattle.c_tree.specs.declared.unit.Stmt.TheVariants.{rolls-Block}
 use Rattle.c_tree.specs.declared.unit.External.{External}
-use Rattle.first_runs.specs.declared.tree.Stmt.{Stmt, fold-roll-Stmt as rolls}
-use Rattle.first_runs.specs.declared.tree.Stmt.TheVariants as stmt
-use Rattle.first_runs.specs.declared.tree.Stmt.TheVariants.{rolls-Block as rolls-items}
-use Rattle.first_runs.specs.declared.tree.Stmt.TheOpen as open_
-use Rattle.first_runs.specs.declared.tree.Declaration.{Declaration}
+use Rattle.first_form.specs.declared.tree.Stmt.{Stmt, fold-roll-Stmt as rolls}
+use Rattle.first_form.specs.declared.tree.Stmt.TheVariants as stmt
+use Rattle.first_form.specs.declared.tree.Stmt.TheVariants.{rolls-Block as rolls-items}
+use Rattle.first_form.specs.declared.tree.Stmt.TheOpen as open_
+use Rattle.first_form.specs.declared.tree.Declaration.{Declaration}
 use Rattle.first_form.specs.declared.form.FormFault.{FormFault}
 use Rattle.first_form.specs.declared.form.FormFault.TheVariants as fault
 use Rattle.first_form.specs.declared.form.Size.{Size}

@@ -27,12 +27,12 @@ use Rattle.c_tree.specs.declared.unit.Body.{Body}
 use Rattle.c_tree.specs.declared.unit.Body.TheVariants as body
 use Rattle.c_tree.specs.declared.unit.External.{External}
 use Rattle.c_tree.specs.declared.unit.External.TheVariants as external
-use Rattle.first_runs.specs.declared.tree.Stmt.{Stmt, fold-Stmt as fold}
-use Rattle.first_runs.specs.declared.tree.Stmt.TheVariants as stmt
-use Rattle.first_runs.specs.declared.tree.Stmt.TheOpen as open_
-use Rattle.first_runs.specs.declared.tree.Declaration.{Declaration}
-use Rattle.first_runs.specs.Programs.{Program}
-use Rattle.first_runs.specs.Names.{is_printf, is_main, is_left_out, is_declared, is_outside}
+use Rattle.first_form.specs.declared.tree.Stmt.{Stmt, fold-Stmt as fold}
+use Rattle.first_form.specs.declared.tree.Stmt.TheVariants as stmt
+use Rattle.first_form.specs.declared.tree.Stmt.TheOpen as open_
+use Rattle.first_form.specs.declared.tree.Declaration.{Declaration}
+use Rattle.first_form.specs.Programs.{Program}
+use Rattle.first_form.specs.Names.{is_printf, is_main, is_left_out, is_declared, is_outside}
 use Rattle.first_form.specs.declared.form.FormFault.{FormFault}
 use Rattle.first_form.specs.declared.form.FormFault.TheVariants as fault
 use Rattle.first_form.specs.declared.form.Size.{Size}

@@ -1,9 +1,3 @@
 pub mod Form
-pub mod Lines
-pub mod LineTable
-pub mod Facts
-pub mod Verdicts
-pub mod Reports
-pub mod Answers
-pub mod Among
-pub mod Candidates
+pub mod Names
+pub mod Programs

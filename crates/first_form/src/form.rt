@@ -3,14 +3,13 @@ ghost use Rattle.std.specs.Prelude.{◌≡◌, IfSome, IfOk, MatchOption, map, [
 ghost use Rattle.first_form.specs.Form as spec;
 ghost use Rattle.first_form.specs.Form.{Gives};
 
+use crate::names::{is_declared, is_left_out, is_main, is_outside, is_printf};
+use crate::tree::{Declaration, Stmt, Unit};
 use bit_words::Bytes;
 use c_lexer::{IntegerConstant, IntegerType};
 use c_tree::{
     Body, Declarator, Expr, External, InitDeclarator, Parameter, Qualifier, Specifier,
     Stmt as Source, TypeWord,
-};
-use first_runs::{
-    Declaration, Stmt, Unit, is_declared, is_left_out, is_main, is_outside, is_printf,
 };
 use plain_data::{Items, Shared};
 use std::alloc::{AllocError, Global};

@@ -1,13 +1,10 @@
-//! Sources of the first form: their grammar, their runs, and the report on one with a log. The form is read
-//! and followed plainly, path by path; all of this goes as the whole of C takes its place.
+//! Sources of the first form, read off the tree: of these it is known that each is diagnosed. It goes once that is known
+//! of all that the walk follows.
 #![tactic(auto)]
 
-pub mod candidate;
-pub mod diagnose;
-pub mod facts;
-pub mod form;
-pub mod lines;
-pub mod listing;
-pub mod report;
-pub mod shown;
-pub mod weigh;
+mod form;
+mod names;
+mod tree;
+
+pub use form::{FormFault, read};
+pub use tree::{Declaration, Stmt, Unit};

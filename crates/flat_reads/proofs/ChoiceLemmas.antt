@@ -13,7 +13,7 @@ use Rattle.term_bank.specs.declared.sort.Sort.{Sort}
 use Rattle.term_bank.specs.declared.sort.Sort.TheVariants.{Truth, Word, Memory}
 use Rattle.term_bank.specs.declared.sort.Node.{Node}
 use Rattle.term_bank.specs.declared.shape.Shape.{Shape}
-use Rattle.term_bank.specs.declared.shape.Shape.TheVariants.{Flag, Constant, Parameter, Base, Entry, Initial, WorldWord, InitialByte, Binary, Test, Convert, Not, Connect, Choose, Write, ZeroRange, CopyRange, Made, Ended, Read, ObjectSize, IsLive, HasKind}
+use Rattle.term_bank.specs.declared.shape.Shape.TheVariants.{Flag, Constant, Parameter, Base, Entry, Initial, WorldWord, InitialByte, Binary, Test, Convert, Not, Connect, Choose, Write, ZeroRange, CopyRange, Made, Ended, Read, ObjectSize, IsLive, HasKind, NoEvents, BranchEvent, CallEvent, PrintEvent, EventsBehind, NoNumbers, NumberBehind}
 use Rattle.term_bank.specs.Shapes.{Each, IsNode, IsWell, memory, word, parts, sort_of}
 use Rattle.term_bank.specs.Values.{Environment, Worth, Values, Models, Grows, IsWorth, worth, of_truth, of_word}
 use Rattle.term_bank.specs.Terms.{IsTerm}
@@ -245,6 +245,13 @@ entry_left (Read w m a) h a1 a2 a3 a4 a5 a6 a7 = absurd (cc)
 entry_left (ObjectSize m p) h a1 a2 a3 a4 a5 a6 a7 = absurd (cc)
 entry_left (IsLive m a n) h a1 a2 a3 a4 a5 a6 a7 = absurd (cc)
 entry_left (HasKind k m p) h a1 a2 a3 a4 a5 a6 a7 = absurd (cc)
+entry_left NoEvents h a1 a2 a3 a4 a5 a6 a7 = absurd (cc)
+entry_left (BranchEvent xs n at side) h a1 a2 a3 a4 a5 a6 a7 = absurd (cc)
+entry_left (CallEvent xs n at) h a1 a2 a3 a4 a5 a6 a7 = absurd (cc)
+entry_left (PrintEvent xs n at length seen) h a1 a2 a3 a4 a5 a6 a7 = absurd (cc)
+entry_left (EventsBehind xs ys) h a1 a2 a3 a4 a5 a6 a7 = absurd (cc)
+entry_left NoNumbers h a1 a2 a3 a4 a5 a6 a7 = absurd (cc)
+entry_left (NumberBehind xs w s x) h a1 a2 a3 a4 a5 a6 a7 = absurd (cc)
 
 -- a read of the entry memory is left
 pub leads_entry : (old shapes : List Shape) (m a : ℕ) (byte : Node) → Grows old shapes → slice_get old m ≡ Some Entry → IsNode shapes byte → byte.sort ≡ Word W8 → IsWorth shapes (Read W8 m a) byte → IsOver shapes (Read W8 m a) byte → Leads shapes (Read W8 m a) (Known byte)

@@ -12,7 +12,7 @@ use Rattle.term_bank.specs.declared.sort.Sort.TheVariants.{Word}
 use Rattle.term_bank.specs.declared.sort.Node.{Node}
 use Rattle.term_bank.specs.declared.bank.BankFault.{BankFault}
 use Rattle.term_bank.specs.declared.shape.Shape.{Shape}
-use Rattle.term_bank.specs.declared.shape.Shape.TheVariants.{Flag, Constant, Parameter, Base, Entry, Initial, WorldWord, InitialByte, Binary, Test, Convert, Not, Connect, Choose, Write, ZeroRange, CopyRange, Made, Ended, Read, ObjectSize, IsLive, HasKind}
+use Rattle.term_bank.specs.declared.shape.Shape.TheVariants.{Flag, Constant, Parameter, Base, Entry, Initial, WorldWord, InitialByte, Binary, Test, Convert, Not, Connect, Choose, Write, ZeroRange, CopyRange, Made, Ended, Read, ObjectSize, IsLive, HasKind, NoEvents, BranchEvent, CallEvent, PrintEvent, EventsBehind, NoNumbers, NumberBehind}
 use Rattle.term_bank.specs.Memories.{octets, read}
 use Rattle.term_bank.specs.Shapes.{Each, IsNode, IsWell, memory, parts, sort_at, sort_of, word}
 use Rattle.term_bank.specs.Values.{Environment, Values, Grows, IsWorth, worth, of_word}
@@ -85,6 +85,13 @@ plain q (Read w m a) no_read no_byte h = absurd (no_read w m a refl)
 plain q (ObjectSize m p) no_read no_byte h = refl
 plain q (IsLive m a n) no_read no_byte h = refl
 plain q (HasKind k m p) no_read no_byte h = refl
+plain q NoEvents no_read no_byte h = refl
+plain q (BranchEvent xs n at side) no_read no_byte h = refl
+plain q (CallEvent xs n at) no_read no_byte h = refl
+plain q (PrintEvent xs n at length seen) no_read no_byte h = refl
+plain q (EventsBehind xs ys) no_read no_byte h = refl
+plain q NoNumbers no_read no_byte h = refl
+plain q (NumberBehind xs w s x) no_read no_byte h = refl
 
 pub flat_other : (new : List Shape) (s : Shape) (r : Result Node BankFault) → ((w : Width) (m a : ℕ) → s ≡ Read w m a → ⊥) → ((r a : ℕ) → s ≡ InitialByte r a → ⊥) → IfOk r (IsNode new) → IfOk r (λ n. n.sort ≡ sort_of s) → IfOk r (IsWorth new s) → IfOk r (IsOver new s) → IfOk r (IsFlattened new s)
 flat_other new s (Ok n) no_read no_byte stands sort h over = record {
@@ -121,6 +128,13 @@ over_value e v f (Read w m a) = refl
 over_value e v f (ObjectSize m p) = refl
 over_value e v f (IsLive m a n) = refl
 over_value e v f (HasKind k m p) = refl
+over_value e v f NoEvents = refl
+over_value e v f (BranchEvent xs n at side) = refl
+over_value e v f (CallEvent xs n at) = refl
+over_value e v f (PrintEvent xs n at length seen) = refl
+over_value e v f (EventsBehind xs ys) = refl
+over_value e v f NoNumbers = refl
+over_value e v f (NumberBehind xs w s x) = refl
 
 over_kept : (q : Shape → Bool) (f : ℕ → ℕ) (s : Shape) → q s ≡ true → IsKept q (over_images f s)
 over_kept q f (Flag b) h = tt
@@ -146,6 +160,13 @@ over_kept q f (Read w m a) h = tt
 over_kept q f (ObjectSize m p) h = tt
 over_kept q f (IsLive m a n) h = tt
 over_kept q f (HasKind k m p) h = tt
+over_kept q f NoEvents h = tt
+over_kept q f (BranchEvent xs n at side) h = tt
+over_kept q f (CallEvent xs n at) h = tt
+over_kept q f (PrintEvent xs n at length seen) h = tt
+over_kept q f (EventsBehind xs ys) h = tt
+over_kept q f NoNumbers h = tt
+over_kept q f (NumberBehind xs w s x) h = tt
 
 over_parts : (P : ℕ → Type 0) (f : ℕ → ℕ) (s : Shape) → Each (λ p. P (f p.index)) (parts s) → Each (λ p. P p.index) (parts (over_images f s))
 over_parts P f (Flag b) h = h
@@ -171,6 +192,13 @@ over_parts P f (Read w m a) h = h
 over_parts P f (ObjectSize m p) h = h
 over_parts P f (IsLive m a n) h = h
 over_parts P f (HasKind k m p) h = h
+over_parts P f NoEvents h = h
+over_parts P f (BranchEvent xs n at side) h = h
+over_parts P f (CallEvent xs n at) h = h
+over_parts P f (PrintEvent xs n at length seen) h = h
+over_parts P f (EventsBehind xs ys) h = h
+over_parts P f NoNumbers h = h
+over_parts P f (NumberBehind xs w s x) h = h
 
 -- ---- the loop
 

@@ -4,7 +4,7 @@ use Rattle.std.specs.Prelude.{slice_get, ◌&&◌, ◌||◌}
 use Rattle.std.proofs.lemmas.Bool.Decides.{nat_tests}
 use Rattle.term_bank.specs.declared.sort.Node.{Node}
 use Rattle.term_bank.specs.declared.shape.Shape.{Shape}
-use Rattle.term_bank.specs.declared.shape.Shape.TheVariants.{Flag, Constant, Parameter, Base, Entry, Initial, WorldWord, InitialByte, Binary, Test, Convert, Not, Connect, Choose, Write, ZeroRange, CopyRange, Made, Ended, Read, ObjectSize, IsLive, HasKind}
+use Rattle.term_bank.specs.declared.shape.Shape.TheVariants.{Flag, Constant, Parameter, Base, Entry, Initial, WorldWord, InitialByte, Binary, Test, Convert, Not, Connect, Choose, Write, ZeroRange, CopyRange, Made, Ended, Read, ObjectSize, IsLive, HasKind, NoEvents, BranchEvent, CallEvent, PrintEvent, EventsBehind, NoNumbers, NumberBehind}
 use Rattle.term_bank.specs.Shapes.{Each, parts}
 use Rattle.term_bank.specs.Values.{Grows}
 use Rattle.term_bank.specs.Under.{IsHeld, Only, IsOnly, IsBelow}
@@ -45,6 +45,13 @@ shape_listed table (Read w m a) h = refl
 shape_listed table (ObjectSize m p) h = refl
 shape_listed table (IsLive m a n) h = refl
 shape_listed table (HasKind k m p) h = refl
+shape_listed table NoEvents h = refl
+shape_listed table (BranchEvent xs n at side) h = refl
+shape_listed table (CallEvent xs n at) h = refl
+shape_listed table (PrintEvent xs n at length seen) h = refl
+shape_listed table (EventsBehind xs ys) h = refl
+shape_listed table NoNumbers h = refl
+shape_listed table (NumberBehind xs w s x) h = refl
 
 more_listed : (old new : List Row) (s : Shape) → ((r a : ℕ) → has_row old r a ≡ true → has_row new r a ≡ true) → is_listed old s ≡ true → is_listed new s ≡ true
 more_listed old new (Flag b) f h = refl
@@ -70,6 +77,13 @@ more_listed old new (Read w m a) f h = refl
 more_listed old new (ObjectSize m p) f h = refl
 more_listed old new (IsLive m a n) f h = refl
 more_listed old new (HasKind k m p) f h = refl
+more_listed old new NoEvents f h = refl
+more_listed old new (BranchEvent xs n at side) f h = refl
+more_listed old new (CallEvent xs n at) f h = refl
+more_listed old new (PrintEvent xs n at length seen) f h = refl
+more_listed old new (EventsBehind xs ys) f h = refl
+more_listed old new NoNumbers f h = refl
+more_listed old new (NumberBehind xs w s x) f h = refl
 
 -- a node is as listed over a longer list and a longer table
 pub listed_more : (a b : List Shape) (old new : List Row) (n : ℕ) → Grows a b → ((r a : ℕ) → has_row old r a ≡ true → has_row new r a ≡ true) → IsOnly (is_listed old) a n → IsOnly (is_listed new) b n

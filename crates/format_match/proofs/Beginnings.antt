@@ -1,29 +1,10 @@
 -- Positions from which a format spells a stretch that isn't empty.
-use Rattle.std.proofs.Common.{◌≡◌, ℕ, ◌+◌, ◌<◌, ◌≤◌, ◌↔◌, ◌||◌, ◌&&◌, eqb, Bool, true, false, List, [], length, get_or, refl, sym, ap, subst, ◌∙◌, arith, inl, inr, ◌⊎◌}
-use Rattle.std.specs.List.{Any}
+use Rattle.std.proofs.Common.{◌≡◌, ℕ, ◌+◌, ◌<◌, ◌≤◌, ◌↔◌, ◌||◌, ◌&&◌, eqb, Bool, true, false, List, [], length, sym, subst, ◌∙◌, arith, inl, inr, ◌⊎◌}
 use Rattle.std.proofs.lemmas.Bool.{or_cases, or_left, or_right, and_parts, and_from, eqb-true, eq-eqb}
-use Rattle.std.proofs.lemmas.List.Folds.{Any-from_list_any}
-use Rattle.std.proofs.lemmas.List.{get_or_default}
 use Rattle.std.proofs.Math.Nat.{eq-or-lt_of_le}
 use Rattle.printf_text.specs.declared.piece.Piece.{Piece}
 use Rattle.positions.specs.Sets.{has}
-use Rattle.format_match.specs.Spelled.{IsSpelled, EndsExactly}
 use Rattle.format_match.specs.Beginning.{IsBegun, BeginsExactly}
-use Rattle.format_match.proofs.Reached.{stands}
-
--- ---- one position, by the ends from it
-
-module _ (pieces : List Piece) (log : List ℕ) (from : ℕ) (ends : List ℕ) (e : EndsExactly pieces log from ends) where
-  pub begun_there : Any (λ end. from < end) ends → IsBegun pieces log from
-  begun_there a =
-      let here : has ends a.1 ≡ true =
-      subst (λ x. has ends x ≡ true) (get_or_default ends a.0 0 a.1 a.2 ∙ a.3) (stands ends a.0 a.2) in
-      record { end = a.1; behind = a.4; spelled = (e a.1).0 here }
-
-  pub begun_back : IsBegun pieces log from → Any (λ end. from < end) ends
-  begun_back b =
-      let a = Any-from_list_any (λ y. eqb y b.end) ends ((e b.end).1 b.spelled) in
-      (a.0, a.1, a.2, a.3, subst (λ x. from < x) (sym (eqb-true a.1 b.end a.4)) b.behind)
 
 -- ---- all positions up to one
 

@@ -236,7 +236,7 @@ size_front flags form Star Star K (a ∷ []) ys h = absurd h.1
 size_front flags form Star Star K (a ∷ b ∷ []) ys h = absurd h.1.1
 size_front flags form Star Star K (a ∷ b ∷ x ∷ xs) ys h = refl
 
-piece_front : (p : Piece) (K : List Kind) (xs ys : List Arg) → HaveKinds (piece_kinds p ++ K) xs → piece_text p (xs ++ ys) ≡ piece_text p xs
+pub piece_front : (p : Piece) (K : List Kind) (xs ys : List Arg) → HaveKinds (piece_kinds p ++ K) xs → piece_text p (xs ++ ys) ≡ piece_text p xs
 piece_front (Literal bytes) K xs ys h = refl
 piece_front (Converted c) K xs ys h = size_front c.flags c.form c.width c.precision K xs ys h
 

@@ -6,7 +6,10 @@ pub mod Padding
 pub mod StarLaws
 pub mod Following
 pub mod Exact
-pub mod Lines
+pub mod Numerals
+pub mod Widths
 pub mod Reached
 pub mod Beginnings
 pub mod PlainTexts
+pub mod Markings
+pub mod Onwards

@@ -1,7 +1,7 @@
 -- Where `%s` ends: at each position up to the first byte 0.
-use Rattle.std.proofs.Common.{◌≡◌, ◌≢◌, ℕ, zero, suc, ◌+◌, ◌-◌, ◌<◌, ◌≤◌, Bool, true, false, not, ◌&&◌, ◌||◌, eqb, ltb, inl, inr, ◌⊎◌, negsuc, List, [], ◌∷◌, ◌++◌, length, take, drop, get_or, set, replicate, refl, sym, ap, subst, ◌∙◌, arith, append-nil}
+use Rattle.std.proofs.Common.{◌≡◌, ◌≢◌, ℕ, zero, suc, ◌+◌, ◌-◌, ◌<◌, ◌≤◌, ◌↔◌, Bool, true, false, not, ◌&&◌, ◌||◌, eqb, ltb, inl, inr, ◌⊎◌, negsuc, List, [], ◌∷◌, ◌++◌, length, take, drop, get_or, set, replicate, refl, sym, ap, subst, ◌∙◌, arith, append-nil}
 use Rattle.std.proofs.lemmas.List.{drop_more}
-use Rattle.std.proofs.lemmas.List.Elements.{All-cons, All-nil, All-append, All-get_or}
+use Rattle.std.proofs.lemmas.List.Elements.{All-cons, All-nil, All-append, All-get_or, All-head, All-tail}
 use Rattle.std.proofs.lemmas.Bool.{and_parts, and_from, or_cases, or_left, or_right, eqb-true, eq-eqb, eqb-false, ne_eqb, ltb-true, lt-ltb, le-ltb, cases_eq, cases_lt}
 use Rattle.printf_text.specs.declared.piece.Arg.{Arg}
 use Rattle.printf_text.specs.declared.piece.Arg.TheVariants as arg
@@ -17,7 +17,10 @@ use Rattle.printf_text.specs.Texts.{HasKind, HaveKinds, plain, in_field, fills_z
 use Rattle.positions.specs.Sets.{has, are_before}
 use Rattle.format_match.specs.Splits.{Spells, begins}
 use Rattle.format_match.specs.Spelled.{IsPieceSpelled, IsBehind, EndsBehind, AreWithin, plain_text, is_plain_text, has_no_sizes, is_text, is_printed, goes_on, may_end}
-use Rattle.format_match.proofs.Reached.{spells_begins, spells_end, spells_from, taken, joined}
+use Rattle.format_match.specs.Beginning.{is_marked, Leads, LeadExactly}
+use Rattle.format_match.proofs.Reached.{spells_begins, spells_end, spells_from, taken, joined, cut}
+use Rattle.format_match.proofs.Onwards.{leads_less, leads_within}
+use Rattle.format_match.proofs.Markings.{AreFrom, from_more, from_next}
 
 -- ---- the text of `%s` is its argument
 
@@ -114,6 +117,76 @@ module _ (flags : Flags) (log : List ℕ) (fits : (k : ℕ) → get_or log k 0 <
       (All-append (λ b. (b ≢ 0) × (b < 256)) t.text (get_or log n 0 ∷ []) t.is_text (All-cons (λ b. (b ≢ 0) × (b < 256)) (get_or log n 0) [] b.1 (All-nil (λ b. (b ≢ 0) × (b < 256)))))
       (joined t.text (get_or log n 0 ∷ []) log from n (n + 1) t.spells (spells_one n b.0))
 
+  -- ---- a text from the front, byte by byte
+
+  text_first : (at end : ℕ) → IsPieceSpelled piece log at end → at < end → (is_printed log at ≡ true) × IsPieceSpelled piece log (at + 1) end
+  text_first at end p h = let t = text_there at end p in by t.text t.is_text t.spells
+    where
+      by : (t : List ℕ) → IsText t → Spells t log at end → (is_printed log at ≡ true) × IsPieceSpelled piece log (at + 1) end
+      by [] i s = absurd (omega (arith, spells_end [] log at end s))
+      by (x ∷ u) i s =
+          let c = cut (x ∷ []) u log at end s in
+          let one : c.mid ≡ at + 1 = sym (spells_end (x ∷ []) log at c.mid c.front) in
+          let byte : get_or log at 0 ≡ x = ap (λ n. get_or log n 0) (same at) ∙ sym (dropped at log 0) ∙ begins_at (x ∷ u) (drop at log) 0 (spells_begins (x ∷ u) log at end s) (omega arith) in
+          let fact = All-head (λ b. (b ≢ 0) × (b < 256)) x u i in (
+            and_from (ltb at (length log)) (not (eqb (get_or log at 0) 0)) (lt-ltb at (length log) (omega (arith, s.within))) (ap not (ne_eqb (get_or log at 0) 0 (λ z. fact.0 (sym byte ∙ z)))),
+            spelled_by u (at + 1) end (All-tail (λ b. (b ≢ 0) × (b < 256)) x u i) (subst (λ m. Spells u log m end) one c.back),
+          )
+        where
+          same : (n : ℕ) → n ≡ n + 0
+          same n = omega arith
+
+  pub text_on_back : (marks : List Bool) (at : ℕ) → is_printed log at ≡ true → Leads piece log marks 0 (at + 1) → Leads piece log marks 1 at
+  text_on_back marks at h l =
+      let t = text_there (at + 1) l.end l.spelled in
+      let b = printed_byte at h in
+      record {
+        end = l.end;
+        long = omega (arith, l.long);
+        marked = l.marked;
+        spelled = spelled_by (get_or log at 0 ∷ t.text) at l.end (All-cons (λ b. (b ≢ 0) × (b < 256)) (get_or log at 0) t.text b.1 t.is_text)
+            (joined (get_or log at 0 ∷ []) t.text log at (at + 1) l.end (spells_one at b.0) t.spells);
+      }
+
+  pub text_on_there : (marks : List Bool) (at : ℕ) → Leads piece log marks 1 at → (is_printed log at ≡ true) × Leads piece log marks 0 (at + 1)
+  text_on_there marks at l =
+      let f = text_first at l.end l.spelled (omega (arith, l.long)) in
+      (f.0, record { end = l.end; long = omega (arith, f.1.spells.ordered); marked = l.marked; spelled = f.1 })
+
+  -- where the next position is known, so is this one
+  pub text_leads_is : (marks before : List Bool) (at : ℕ) (b : Bool) → at < length log + 1 → b ≡ (is_marked marks at || is_printed log at && is_marked before (at + 1))
+      → ((is_marked before (at + 1) ≡ true) ↔ Leads piece log marks 0 (at + 1)) → (b ≡ true) ↔ Leads piece log marks 0 at
+  text_leads_is marks before at b h e n = (there, back)
+    where
+      there : b ≡ true → Leads piece log marks 0 at
+      there t = elim (or_cases (is_marked marks at) (is_printed log at && is_marked before (at + 1)) (sym e ∙ t)) [
+        | inl m ↦ record { end = at; long = omega arith; marked = m; spelled = empty_there at (omega arith) }
+        | inr r ↦ (let p = and_parts (is_printed log at) (is_marked before (at + 1)) r in leads_less piece log marks at (text_on_back marks at p.0 (n.0 p.1)))
+      ]
+
+      back : Leads piece log marks 0 at → b ≡ true
+      back l = e ∙ elim (cases_lt at l.end) [
+        | inl h ↦ or_right (is_marked marks at) (is_printed log at && is_marked before (at + 1))
+            (let r = text_on_there marks at (record { end = l.end; long = omega arith; marked = l.marked; spelled = l.spelled }) in
+            and_from (is_printed log at) (is_marked before (at + 1)) r.0 (n.1 r.1))
+        | inr g ↦ or_left (is_marked marks at) (is_printed log at && is_marked before (at + 1)) (subst (λ k. is_marked marks k ≡ true) (omega (arith, l.long)) l.marked)
+      ]
+
+  pub text_set : (marks before view : List Bool) (at k : ℕ) (b : Bool) → at ≡ k + 1 → at ≤ length log + 1 → view ≡ before
+      → b ≡ (is_marked marks k || is_printed log k && is_marked view (k + 1)) → AreFrom (λ y. Leads piece log marks 0 y) at (length log + 1) before
+      → AreFrom (λ y. Leads piece log marks 0 y) k (length log + 1) (set before k b)
+  text_set marks before view at k b e h v t a =
+      from_more (λ y. Leads piece log marks 0 y) at k (length log + 1) before b e (omega arith)
+      (text_leads_is marks before k b (omega arith) (t ∙ ap (λ l. is_marked marks k || is_printed log k && is_marked l (k + 1)) v)
+      (subst (λ j. (is_marked before j ≡ true) ↔ Leads piece log marks 0 j) e (from_next (λ y. Leads piece log marks 0 y) at (length log + 1) before a (λ y l. omega (arith, leads_within piece log marks 0 y l)))))
+      a
+
+  pub text_on_is : (marks before : List Bool) (at : ℕ) (b : Bool) → b ≡ (is_printed log at && is_marked before (at + 1)) → LeadExactly piece log marks 0 before → (b ≡ true) ↔ Leads piece log marks 1 at
+  text_on_is marks before at b e x = (
+    λ t. (let p = and_parts (is_printed log at) (is_marked before (at + 1)) (sym e ∙ t) in text_on_back marks at p.0 ((x (at + 1)).0 p.1)),
+    λ l. (let r = text_on_there marks at l in e ∙ and_from (is_printed log at) (is_marked before (at + 1)) r.0 ((x (at + 1)).1 r.1)),
+  )
+
   -- ---- where a text may end it does, and nowhere else
 
   module _ (before : List ℕ) (within : AreWithin log before) where
@@ -199,10 +272,10 @@ mark_more marks before i h l m y = by (cases_eq (get_or before i 0) y)
     by (inr n) =
         other marks (get_or before i 0) y n ∙ m y ∙ sym (taken before i y h ∙ ap (λ b. has (take i before) y || b) (ne_eqb (get_or before i 0) y n) ∙ or_false (has (take i before) y))
 
--- one more position, where a text may end there
-pub ends_one : (before log : List ℕ) (at y : ℕ) (old now wanted : Bool) → old ≡ (ltb y at && may_end before log y) → wanted ≡ may_end before log at → now ≡ (old || (wanted && eqb at y))
-    → now ≡ (ltb y (at + 1) && may_end before log y)
-ends_one before log at y old now wanted o w n = n ∙ by (cases_eq at y)
+-- one more position, where it is wanted
+pub ends_one : (f : ℕ → Bool) (at y : ℕ) (old now wanted : Bool) → old ≡ (ltb y at && f y) → wanted ≡ f at → now ≡ (old || (wanted && eqb at y))
+    → now ≡ (ltb y (at + 1) && f y)
+ends_one f at y old now wanted o w n = n ∙ by (cases_eq at y)
   where
     none : (a b : Bool) → (a || b && false) ≡ a
     none true true = refl
@@ -218,16 +291,16 @@ ends_one before log at y old now wanted o w n = n ∙ by (cases_eq at y)
     apart d (inl h) = lt-ltb y at h ∙ sym (lt-ltb y (at + 1) (omega arith))
     apart d (inr h) = le-ltb y at h ∙ sym (le-ltb y (at + 1) (omega arith))
 
-    here : (y : ℕ) → at ≡ y → old ≡ (ltb y at && may_end before log y) → (old || (wanted && eqb at y)) ≡ (ltb y (at + 1) && may_end before log y)
+    here : (y : ℕ) → at ≡ y → old ≡ (ltb y at && f y) → (old || (wanted && eqb at y)) ≡ (ltb y (at + 1) && f y)
     here y e q =
         let a : ltb y at ≡ false = le-ltb y at (omega arith) in
         let b : ltb y (at + 1) ≡ true = lt-ltb y (at + 1) (omega arith) in
-        ap (λ z. z || (wanted && eqb at y)) (q ∙ ap (λ z. z && may_end before log y) a) ∙ ap (λ z. wanted && z) (eq-eqb at y e) ∙ and_true wanted ∙ w
-        ∙ ap (may_end before log) e ∙ ap (λ z. z && may_end before log y) (sym b)
+        ap (λ z. z || (wanted && eqb at y)) (q ∙ ap (λ z. z && f y) a) ∙ ap (λ z. wanted && z) (eq-eqb at y e) ∙ and_true wanted ∙ w
+        ∙ ap f e ∙ ap (λ z. z && f y) (sym b)
 
-    by : (at ≡ y) ⊎ (at ≡ y → ⊥) → (old || (wanted && eqb at y)) ≡ (ltb y (at + 1) && may_end before log y)
+    by : (at ≡ y) ⊎ (at ≡ y → ⊥) → (old || (wanted && eqb at y)) ≡ (ltb y (at + 1) && f y)
     by (inl e) = here y e o
-    by (inr d) = ap (λ z. old || (wanted && z)) (ne_eqb at y d) ∙ none old wanted ∙ o ∙ ap (λ z. z && may_end before log y) (apart d (cases_lt y at))
+    by (inr d) = ap (λ z. old || (wanted && z)) (ne_eqb at y d) ∙ none old wanted ∙ o ∙ ap (λ z. z && f y) (apart d (cases_lt y at))
 
 -- what stands before a position stands before the next
 pub before_up : (xs : List ℕ) (at : ℕ) → are_before at xs ≡ true → are_before (at + 1) xs ≡ true

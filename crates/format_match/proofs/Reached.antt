@@ -58,12 +58,12 @@ spelled_none log from h end = (there, back)
         of args k t = sym (omega arith) ∙ spells_end [] log from end t
 
 -- the text of pieces and of one more, in two parts
-record IsCut (s t log : List ℕ) (from end : ℕ) : Type 0 where
-  mid : ℕ
-  front : Spells s log from mid
-  back : Spells t log mid end
+pub record IsCut (s t log : List ℕ) (from end : ℕ) : Type 0 where
+  pub mid : ℕ
+  pub front : Spells s log from mid
+  pub back : Spells t log mid end
 
-cut : (s t log : List ℕ) (from end : ℕ) → Spells (s ++ t) log from end → IsCut s t log from end
+pub cut : (s t log : List ℕ) (from end : ℕ) → Spells (s ++ t) log from end → IsCut s t log from end
 cut s t log from end p =
     let e : begins s (drop from log) && begins t (drop (length s) (drop from log)) ≡ true = sym (begins_append s t (drop from log)) ∙ spells_begins (s ++ t) log from end p in
     let q = and_parts (begins s (drop from log)) (begins t (drop (length s) (drop from log))) e in

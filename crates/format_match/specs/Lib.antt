@@ -3,3 +3,4 @@ pub mod Ways
 pub mod Reading
 pub mod Spelled
 pub mod Beginning
+pub mod Reaches

@@ -11,7 +11,7 @@ use Rattle.printf_text.specs.declared.piece.Arg.{Arg}
 use Rattle.printf_text.specs.declared.piece.Arg.TheVariants as arg
 use Rattle.printf_text.specs.declared.piece.Flags.{Flags}
 use Rattle.printf_text.specs.declared.piece.Form.{Form}
-use Rattle.printf_text.specs.declared.piece.Form.TheVariants.{Char, Text, Pointer}
+use Rattle.printf_text.specs.declared.piece.Form.TheVariants.{Text, Pointer}
 use Rattle.printf_text.specs.declared.piece.Size.{Size}
 use Rattle.printf_text.specs.declared.piece.Size.TheVariants.{Omitted, Written, Star}
 use Rattle.printf_text.specs.declared.piece.Conversion.{Conversion}
@@ -191,12 +191,6 @@ abbrev pub next_literal : List Piece → List ℕ
 next_literal [] = []
 next_literal (Literal bytes ∷ pieces) = bytes
 next_literal (Converted c ∷ pieces) = []
-
--- the forms whose texts hold no newline
-abbrev pub is_in_line : Form → Bool
-is_in_line Char = false
-is_in_line Text = false
-is_in_line _ = true
 
 -- the ends that these bytes follow
 abbrev pub kept_ends : List ℕ → List ℕ → List ℕ → List ℕ

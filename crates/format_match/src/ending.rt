@@ -63,7 +63,7 @@ fn put_ends(
 }
 
 /// Whether a piece is `%s` without width and precision.
-fn is_plain_text(piece: &Piece) -> bool
+pub(crate) fn is_plain_text(piece: &Piece) -> bool
     ensures { result ≡ is_plain_text piece.now }
 {
     match piece {
@@ -112,7 +112,7 @@ fn marks_of(alloc: Global, before: &Positions, len: usize) -> Result<Vec<bool>, 
 }
 
 /// Whether a byte of the log that a text may hold stands here.
-fn is_printed(log: &[u8], at: usize) -> bool
+pub(crate) fn is_printed(log: &[u8], at: usize) -> bool
     ensures { result ≡ is_printed log.now at }
 {
     at < log.len() && log[at] != 0
@@ -161,6 +161,16 @@ fn texts_behind(alloc: Global, before: &Positions, log: &[u8]) -> Result<Positio
     Ok(ends)
 }
 
+/// Whether one sweep over the log finds where a piece ends: a text that begins somewhere.
+fn is_swept(piece: &Piece, before: &Positions) -> bool
+    ensures { result ≡ true → is_plain_text piece.now ≡ true }
+{
+    if before.is_empty() {
+        return false;
+    }
+    is_plain_text(piece)
+}
+
 /// Where a piece ends from some of these positions on.
 fn behind(
     alloc: Global,
@@ -171,7 +181,7 @@ fn behind(
     requires { AreWithin log.now before.now }
     ensures { IfOk result (λ ends. EndsBehind piece.now log.now before.now ends) }
 {
-    if is_plain_text(piece) {
+    if is_swept(piece, before) {
         let ends = texts_behind(alloc, before, log)?;
         return Ok(ends);
     }

@@ -8,7 +8,7 @@ ghost use Rattle.format_match.specs.Ways.{Adds, AreHeld, sizes_kinds, sizes_mark
 ghost use Rattle.format_match.specs.Reading.{is_integer, form_width};
 
 use crate::reading::{form_width, pads_right, pointer_read, word_read};
-use crate::split::{Constraint, SplitList};
+use crate::split::{Constraint, SplitList, Stretch};
 use crate::way::{Sizes, push_way};
 use bit_words::Bytes;
 use printf_text::{Arg, Flags, Form, write_formed};
@@ -49,13 +49,13 @@ fn prints(
 }
 
 /// Puts the way in which an integer prints the bytes at the end, if there is one.
-fn push_integer(
+fn push_integer<'a>(
     alloc: Global,
-    out: &mut SplitList,
+    out: &mut SplitList<'a>,
     flags: Flags,
     form: Form,
     sizes: Sizes,
-    slice: &[u8],
+    slice: &'a [u8],
     end: usize,
 ) -> Result<(), AllocError>
     requires integer { IsTrue (is_integer form) }
@@ -77,12 +77,12 @@ fn push_integer(
 }
 
 /// Puts the way in which a null pointer prints the bytes at the end, if it does.
-fn push_null(
+fn push_null<'a>(
     alloc: Global,
-    out: &mut SplitList,
+    out: &mut SplitList<'a>,
     flags: Flags,
     sizes: Sizes,
-    slice: &[u8],
+    slice: &'a [u8],
     end: usize,
 ) -> Result<(), AllocError>
     requires { AreHeld sizes }
@@ -95,12 +95,12 @@ fn push_null(
 }
 
 /// Puts the way in which a shown pointer prints the bytes at the end, if there is one.
-fn push_shown(
+fn push_shown<'a>(
     alloc: Global,
-    out: &mut SplitList,
+    out: &mut SplitList<'a>,
     flags: Flags,
     sizes: Sizes,
-    slice: &[u8],
+    slice: &'a [u8],
     end: usize,
 ) -> Result<(), AllocError>
     requires { AreHeld sizes }
@@ -117,12 +117,12 @@ fn push_shown(
 }
 
 /// Puts the ways in which pointers print the bytes at the end.
-fn push_pointers(
+fn push_pointers<'a>(
     alloc: Global,
-    out: &mut SplitList,
+    out: &mut SplitList<'a>,
     flags: Flags,
     sizes: Sizes,
-    slice: &[u8],
+    slice: &'a [u8],
     end: usize,
 ) -> Result<(), AllocError>
     requires { AreHeld sizes }
@@ -208,12 +208,12 @@ fn text_ended(precision: i64, bytes: &[u8]) -> Option<bool>
 }
 
 /// Puts the way in which a text prints the bytes with so much padding at the end, if there is one.
-fn push_text(
+fn push_text<'a>(
     alloc: Global,
-    out: &mut SplitList,
+    out: &mut SplitList<'a>,
     flags: Flags,
     sizes: Sizes,
-    slice: &[u8],
+    slice: &'a [u8],
     padding: usize,
     end: usize,
 ) -> Result<(), AllocError>
@@ -227,7 +227,7 @@ fn push_text(
     let Some(ended) = text_ended(sizes.precision.value, text) else {
         return Ok(());
     };
-    let bytes = Bytes::from_slice(alloc, text)?;
+    let bytes = Stretch::of(text);
     push_way(alloc, out, sizes, end, Constraint::Text { bytes, ended })?;
     Ok(())
 }
@@ -245,12 +245,12 @@ fn most_padding(width: i64, slice: &[u8]) -> usize
 }
 
 /// Puts the ways in which texts print the bytes at the end.
-fn push_texts(
+fn push_texts<'a>(
     alloc: Global,
-    out: &mut SplitList,
+    out: &mut SplitList<'a>,
     flags: Flags,
     sizes: Sizes,
-    slice: &[u8],
+    slice: &'a [u8],
     end: usize,
 ) -> Result<(), AllocError>
     requires { AreHeld sizes }
@@ -264,13 +264,13 @@ fn push_texts(
 }
 
 /// Puts the ways in which an argument prints the bytes at the end, with this width and precision.
-pub fn push_formed(
+pub fn push_formed<'a>(
     alloc: Global,
-    out: &mut SplitList,
+    out: &mut SplitList<'a>,
     flags: Flags,
     form: Form,
     sizes: Sizes,
-    slice: &[u8],
+    slice: &'a [u8],
     end: usize,
 ) -> Result<(), AllocError>
     requires { AreHeld sizes }

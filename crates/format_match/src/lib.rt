@@ -4,7 +4,9 @@
 
 mod ending;
 mod forms;
+mod marking;
 mod matching;
+mod reaching;
 mod reading;
 mod split;
 mod stars;
@@ -13,7 +15,7 @@ mod way;
 
 pub use ending::ends;
 pub use matching::{MatchFault, splits};
-pub use split::{Constraint, Constraints, Split, SplitList};
+pub use split::{Constraint, Constraints, Split, SplitList, Stretch};
 pub use starting::starts;
 
 #[cfg(test)]

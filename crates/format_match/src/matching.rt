@@ -4,12 +4,13 @@ ghost use Rattle.printf_text.specs.Texts.{conversion_kinds, conversion_text, kin
 ghost use Rattle.printf_text.specs.declared.piece.Flags.{Flags};
 ghost use Rattle.printf_text.specs.declared.piece.Arg.{Arg};
 ghost use Rattle.format_match.specs.Splits.{begins, conversion_marks, marks, SplitsExactly};
-ghost use Rattle.format_match.specs.Ways.{Adds, Describes, AddsAfter, Follows, ends_of, here, followed, kept_ends, kept_here, next_literal, Moves, is_in_line};
+ghost use Rattle.format_match.specs.Ways.{Adds, Describes, AddsAfter, Follows, ends_of, here, followed, kept_ends, kept_here, next_literal, Moves};
 
+use crate::reaching::reach;
 use crate::split::{Constraints, Split, SplitList, joined};
 use crate::stars::push_conversion;
 use bit_words::Bytes;
-use printf_text::{Conversion, Form, Piece, Pieces};
+use printf_text::{Conversion, Piece, Pieces};
 use std::alloc::{AllocError, Global};
 use thiserror::Error;
 
@@ -31,49 +32,14 @@ pub fn begins(text: &[u8], bytes: &[u8]) -> bool
     text == bytes.split_at(text.len()).0
 }
 
-/// Whether texts of this form hold no newline.
-fn is_in_line(form: Form) -> bool
-    ensures { result ≡ is_in_line form }
-{
-    match form {
-        Form::Char | Form::Text => false,
-        Form::Signed(_) | Form::Unsigned(_, _) | Form::Pointer => true,
-    }
-}
-
-/// The most bytes from here on that a conversion of this form can take: no number's text has a newline.
-fn reach(form: Form, rest: &[u8]) -> usize
-    ensures within { result ≤ length rest.now }
-    ensures reached { (flags : Flags) (width precision : ℤ) (a : Arg) → begins (formed flags form width precision a) rest.now ≡ true → length (formed flags form width precision a) ≤ result }
-{
-    if is_in_line(form) {
-        line_len(rest)
-    } else {
-        rest.len()
-    }
-}
-
-/// How many bytes stand before the first newline.
-fn line_len(rest: &[u8]) -> usize
-    ensures within { result ≤ length rest.now }
-    ensures before { (t : List ℕ) → begins t rest.now ≡ true → list_any (λ b. b == 10) t ≡ false → length t ≤ result }
-{
-    'bytes: for len in 0..rest.len() {
-        if rest[len] == b'\n' {
-            return len;
-        }
-    }
-    rest.len()
-}
-
 /// Puts the splits of one conversion that take so many of the bytes from a position on at the end, where
 /// the next bytes follow.
-fn push_length(
+fn push_length<'a>(
     alloc: Global,
-    out: &mut SplitList,
+    out: &mut SplitList<'a>,
     c: &Conversion,
     next: &[u8],
-    rest: &[u8],
+    rest: &'a [u8],
     from: usize,
     len: usize,
 ) -> Result<(), AllocError>
@@ -90,19 +56,19 @@ fn push_length(
 }
 
 /// The splits of one conversion from a position on that the next bytes follow.
-pub fn conversion_splits(
+pub fn conversion_splits<'a>(
     alloc: Global,
     c: &Conversion,
     next: &[u8],
-    log: &[u8],
+    log: &'a [u8],
     from: usize,
-) -> Result<SplitList, AllocError>
+) -> Result<SplitList<'a>, AllocError>
     requires { from ≤ length log.now }
     ensures { IfOk result (λ out. Describes (conversion_kinds c.now) (conversion_marks c.now) (λ args. kept_ends next.now log.now (ends_of (conversion_text c.now args) log.now from)) out) }
 {
     let mut out = SplitList::new(alloc);
     let rest = log.split_at(from).1;
-    let most = reach(c.form, rest);
+    let most = reach(c, rest);
     'lengths: for len in 0..most + 1 {
         push_length(alloc, &mut out, c, next, rest, from, len)?;
     }
@@ -110,13 +76,13 @@ pub fn conversion_splits(
 }
 
 /// Puts a split after another at the end.
-fn push_joined(
+fn push_joined<'a>(
     alloc: Global,
-    out: &mut SplitList,
-    before: &Split,
-    after: Split,
+    out: &mut SplitList<'a>,
+    before: &Split<'a>,
+    after: Split<'a>,
 ) -> Result<(), AllocError>
-    ensures { OnOk result (out.new ≡ out.old ++ followed before.now after ∷ []) }
+    ensures { OnOk result (out.new ≡ out.old ++ followed before.now after.entry ∷ []) }
 {
     let Split { end, constraints } = after;
     let constraints = joined(alloc, &before.constraints, constraints)?;
@@ -125,13 +91,13 @@ fn push_joined(
 }
 
 /// Puts what follows a split by the splits of one conversion at the end.
-fn push_followed(
+fn push_followed<'a>(
     alloc: Global,
-    out: &mut SplitList,
-    before: &Split,
-    after: SplitList,
+    out: &mut SplitList<'a>,
+    before: &Split<'a>,
+    after: SplitList<'a>,
 ) -> Result<(), AllocError>
-    ensures { OnOk result (out.new ≡ out.old ++ map (followed before.now) after) }
+    ensures { OnOk result (out.new ≡ out.old ++ map (followed before.now) after.entry) }
 {
     'splits: for split in after.into_vec() {
         push_joined(alloc, out, before, split)?;
@@ -140,15 +106,15 @@ fn push_followed(
 }
 
 /// Puts a split, moved on by so many bytes, at the end, where the next bytes follow.
-fn push_moved(
-    out: &mut SplitList,
-    before: Split,
+fn push_moved<'a>(
+    out: &mut SplitList<'a>,
+    before: Split<'a>,
     len: usize,
     next: &[u8],
     log: &[u8],
 ) -> Result<(), AllocError>
     requires { before.end + len ≤ length log.now }
-    ensures { OnOk result (Moves next.now log.now len before out.old out.new) }
+    ensures { OnOk result (Moves next.now log.now len before.entry out.old out.new) }
 {
     let Split { end, constraints } = before;
     let end = end + len;
@@ -160,35 +126,36 @@ fn push_moved(
 }
 
 /// Puts what follows a split by bytes that stand for themselves at the end, where the next bytes follow.
-fn push_literal(
-    out: &mut SplitList,
-    before: Split,
+fn push_literal<'a>(
+    out: &mut SplitList<'a>,
+    before: Split<'a>,
     bytes: &Bytes,
     next: &[u8],
     log: &[u8],
 ) -> Result<(), AllocError>
     requires { before.end ≤ length log.now }
-    ensures { OnOk result (AddsAfter next.now (Piece.Literal bytes.now) log.now before out.old out.new) }
+    ensures { OnOk result (AddsAfter next.now (Piece.Literal bytes.now) log.now before.entry out.old out.new) }
 {
-    let rest = log.split_at(before.end).1;
+    let Split { end, constraints } = before;
+    let rest = log.split_at(end).1;
     if !begins(bytes.as_slice(), rest) {
         return Ok(());
     }
-    push_moved(out, before, bytes.len(), next, log)?;
+    push_moved(out, Split { end, constraints }, bytes.len(), next, log)?;
     Ok(())
 }
 
 /// Puts what follows a split by a conversion at the end, where the next bytes follow.
-fn push_converted(
+fn push_converted<'a>(
     alloc: Global,
-    out: &mut SplitList,
-    before: Split,
+    out: &mut SplitList<'a>,
+    before: Split<'a>,
     c: &Conversion,
     next: &[u8],
-    log: &[u8],
+    log: &'a [u8],
 ) -> Result<(), AllocError>
     requires { before.end ≤ length log.now }
-    ensures { OnOk result (AddsAfter next.now (Piece.Converted c.now) log.now before out.old out.new) }
+    ensures { OnOk result (AddsAfter next.now (Piece.Converted c.now) log.now before.entry out.old out.new) }
 {
     let after = conversion_splits(alloc, c, next, log, before.end)?;
     push_followed(alloc, out, &before, after)?;
@@ -196,16 +163,16 @@ fn push_converted(
 }
 
 /// Puts what follows a split by one piece at the end, where the next bytes follow.
-fn push_piece(
+fn push_piece<'a>(
     alloc: Global,
-    out: &mut SplitList,
-    before: Split,
+    out: &mut SplitList<'a>,
+    before: Split<'a>,
     piece: &Piece,
     next: &[u8],
-    log: &[u8],
+    log: &'a [u8],
 ) -> Result<(), AllocError>
     requires { before.end ≤ length log.now }
-    ensures { OnOk result (AddsAfter next.now piece.now log.now before out.old out.new) }
+    ensures { OnOk result (AddsAfter next.now piece.now log.now before.entry out.old out.new) }
 {
     match piece {
         Piece::Literal(bytes) => push_literal(out, before, bytes, next, log),
@@ -215,15 +182,15 @@ fn push_piece(
 
 /// The splits of pieces that end with this one and that the next bytes follow, from those of the pieces
 /// before it.
-fn through(
+fn through<'a>(
     alloc: Global,
-    before: SplitList,
+    before: SplitList<'a>,
     piece: &Piece,
     next: &[u8],
-    log: &[u8],
-) -> Result<SplitList, AllocError>
+    log: &'a [u8],
+) -> Result<SplitList<'a>, AllocError>
     requires { All (λ s. s.end ≤ length log.now) before }
-    ensures { IfOk result (λ out. Follows next.now piece.now log.now before out) }
+    ensures { IfOk result (λ out. Follows next.now piece.now log.now before.entry out) }
 {
     let mut out = SplitList::new(alloc);
     'splits: for split in before.into_vec() {
@@ -253,7 +220,12 @@ fn next_literal(pieces: &[Piece], index: usize) -> &[u8]
 }
 
 /// The split before all pieces, where the next bytes follow.
-fn start(alloc: Global, next: &[u8], log: &[u8], from: usize) -> Result<SplitList, AllocError>
+fn start<'a>(
+    alloc: Global,
+    next: &[u8],
+    log: &'a [u8],
+    from: usize,
+) -> Result<SplitList<'a>, AllocError>
     requires { from ≤ length log.now }
     ensures { IfOk result (λ out. Describes [] [] (λ args. kept_ends next.now log.now (ends_of [] log.now from)) out) }
 {
@@ -268,12 +240,12 @@ fn start(alloc: Global, next: &[u8], log: &[u8], from: usize) -> Result<SplitLis
     Ok(splits)
 }
 
-fn all_splits(
+fn all_splits<'a>(
     alloc: Global,
     pieces: &[Piece],
-    log: &[u8],
+    log: &'a [u8],
     from: usize,
-) -> Result<SplitList, AllocError>
+) -> Result<SplitList<'a>, AllocError>
     requires { from ≤ length log.now }
     ensures { IfOk result (λ out. Describes (kinds pieces.now) (marks pieces.now) (λ args. ends_of (text_of pieces.now args) log.now from) out) }
 {
@@ -289,12 +261,12 @@ fn all_splits(
 
 /// All ways in which the pieces of a format spell the log from a position on, with what each says of the
 /// arguments. It fails for want of memory alone.
-pub fn splits(
+pub fn splits<'a>(
     alloc: Global,
     pieces: &Pieces,
-    log: &[u8],
+    log: &'a [u8],
     from: usize,
-) -> Result<SplitList, MatchFault>
+) -> Result<SplitList<'a>, MatchFault>
     requires { from ≤ length log.now }
     ensures { IfOk result (λ list. SplitsExactly pieces.now log.now from list) }
 {

@@ -1,12 +1,43 @@
 ghost use Rattle.std.specs.Prelude.{◌≡◌, ◌++◌, IfOk};
 
-use bit_words::{Bytes, Width};
+use bit_words::Width;
 use plain_data::Items;
 use std::alloc::{AllocError, Global};
+use std::marker::Model;
+
+/// A stretch of a log, which is shared with the log.
+#[derive(Debug, Drop)]
+pub struct Stretch<'a> {
+    bytes: &'a [u8],
+}
+
+impl<'a> Model for Stretch<'a> {
+    ghost use Rattle.std.specs.Prelude.{ℕ, List};
+
+    ghost Value = { List ℕ };
+
+    ghost view = { λ s. s.bytes.now };
+}
+
+impl<'a> Stretch<'a> {
+    /// These bytes of a log.
+    pub fn of(bytes: &'a [u8]) -> Stretch<'a>
+        ensures { result ≡ bytes.now }
+    {
+        Stretch { bytes }
+    }
+
+    /// The bytes.
+    pub fn as_slice(&self) -> &'a [u8]
+        ensures { result.now ≡ self.now }
+    {
+        self.bytes
+    }
+}
 
 /// What a split says of one argument.
 #[derive(Debug, Drop)]
-pub enum Constraint {
+pub enum Constraint<'a> {
     /// An integer that has these bits, converted to an unsigned type of the width.
     Equal {
         /// The bits, below 2^N.
@@ -24,7 +55,7 @@ pub enum Constraint {
     /// A text that begins with these bytes.
     Text {
         /// The bytes.
-        bytes: Bytes,
+        bytes: Stretch<'a>,
         /// Whether the text is these bytes.
         ended: bool,
     },
@@ -38,26 +69,26 @@ pub enum Constraint {
 }
 
 /// A constraint for each argument, in order.
-pub type Constraints = Items<Constraint>;
+pub type Constraints<'a> = Items<Constraint<'a>>;
 
 /// One way to spell a stretch of a log.
 #[derive(Debug, Drop)]
-pub struct Split {
+pub struct Split<'a> {
     /// The position after the stretch.
     pub end: usize,
     /// What the arguments are.
-    pub constraints: Constraints,
+    pub constraints: Constraints<'a>,
 }
 
 /// Splits, in no particular order.
-pub type SplitList = Items<Split>;
+pub type SplitList<'a> = Items<Split<'a>>;
 
-impl Constraint {
-    /// A copy. It fails for want of memory alone.
-    pub fn copy(&self, alloc: Global) -> Result<Constraint, AllocError>
-        ensures { IfOk result (λ c. c ≡ self.now) }
+impl<'a> Constraint<'a> {
+    /// A copy, whose text is the same stretch of the log.
+    pub fn copy(&self) -> Constraint<'a>
+        ensures { result ≡ self.now }
     {
-        let copy = match self {
+        match self {
             Constraint::Equal { bits, width } => Constraint::Equal {
                 bits: *bits,
                 width: *width,
@@ -67,27 +98,26 @@ impl Constraint {
                 high: *high,
             },
             Constraint::Text { bytes, ended } => Constraint::Text {
-                bytes: Bytes::from_slice(alloc, bytes.as_slice())?,
+                bytes: Stretch::of(bytes.as_slice()),
                 ended: *ended,
             },
             Constraint::Null => Constraint::Null,
             Constraint::Shown { word } => Constraint::Shown { word: *word },
-        };
-        Ok(copy)
+        }
     }
 }
 
 /// Copies of constraints, and then others. It fails for want of memory alone.
-pub fn joined(
+pub fn joined<'a>(
     alloc: Global,
-    front: &Constraints,
-    back: Constraints,
-) -> Result<Constraints, AllocError>
-    ensures { IfOk result (λ all. all ≡ front.now ++ back) }
+    front: &Constraints<'a>,
+    back: Constraints<'a>,
+) -> Result<Constraints<'a>, AllocError>
+    ensures { IfOk result (λ all. all ≡ front.now ++ back.entry) }
 {
     let mut all = Constraints::new(alloc);
     for constraint in front.as_slice() {
-        all.push(constraint.copy(alloc)?)?;
+        all.push(constraint.copy())?;
     }
     all.append(back)?;
     Ok(all)

@@ -19,12 +19,12 @@ const GREATEST: i64 = 0x7fff_ffff;
 const MOST: usize = 0x7fff_ffff;
 
 /// Puts the ways in which the conversion prints the bytes with this width and precision at the end.
-fn push_sizes(
+fn push_sizes<'a>(
     alloc: Global,
-    out: &mut SplitList,
+    out: &mut SplitList<'a>,
     c: &Conversion,
     sizes: Sizes,
-    slice: &[u8],
+    slice: &'a [u8],
     end: usize,
 ) -> Result<(), AllocError>
     requires { AreHeld sizes }
@@ -50,12 +50,12 @@ fn negative(k: usize) -> i64
 
 /// Puts the ways in which the conversion prints the bytes with this width at the end, where a `*` gives
 /// a precision below 0.
-fn push_no_precision(
+fn push_no_precision<'a>(
     alloc: Global,
-    out: &mut SplitList,
+    out: &mut SplitList<'a>,
     c: &Conversion,
     width: Amount,
-    slice: &[u8],
+    slice: &'a [u8],
     end: usize,
 ) -> Result<(), AllocError>
     requires { IsHeld width.range }
@@ -73,13 +73,13 @@ fn push_no_precision(
 }
 
 /// The same where a `*` gives this precision.
-fn push_precision(
+fn push_precision<'a>(
     alloc: Global,
-    out: &mut SplitList,
+    out: &mut SplitList<'a>,
     c: &Conversion,
     width: Amount,
     k: usize,
-    slice: &[u8],
+    slice: &'a [u8],
     end: usize,
 ) -> Result<(), AllocError>
     requires { IsHeld width.range }
@@ -101,12 +101,12 @@ fn push_precision(
 }
 
 /// The same where a `*` gives a precision that is at most the number of bytes.
-fn push_short_precisions(
+fn push_short_precisions<'a>(
     alloc: Global,
-    out: &mut SplitList,
+    out: &mut SplitList<'a>,
     c: &Conversion,
     width: Amount,
-    slice: &[u8],
+    slice: &'a [u8],
     end: usize,
 ) -> Result<(), AllocError>
     requires { IsHeld width.range }
@@ -119,12 +119,12 @@ fn push_short_precisions(
 }
 
 /// The same where a `*` gives a precision above the number of bytes.
-fn push_long_precisions(
+fn push_long_precisions<'a>(
     alloc: Global,
-    out: &mut SplitList,
+    out: &mut SplitList<'a>,
     c: &Conversion,
     width: Amount,
-    slice: &[u8],
+    slice: &'a [u8],
     end: usize,
 ) -> Result<(), AllocError>
     requires { IsHeld width.range }
@@ -147,12 +147,12 @@ fn push_long_precisions(
 
 /// Puts the ways in which the conversion prints the bytes with this width at the end, where a `*` gives
 /// the precision.
-fn push_star_precisions(
+fn push_star_precisions<'a>(
     alloc: Global,
-    out: &mut SplitList,
+    out: &mut SplitList<'a>,
     c: &Conversion,
     width: Amount,
-    slice: &[u8],
+    slice: &'a [u8],
     end: usize,
 ) -> Result<(), AllocError>
     requires { IsHeld width.range }
@@ -187,12 +187,12 @@ fn written(none: i64, size: Size) -> i64
 
 /// Puts the ways in which the conversion prints the bytes with this width at the end, where no `*` gives
 /// the precision.
-fn push_written_precision(
+fn push_written_precision<'a>(
     alloc: Global,
-    out: &mut SplitList,
+    out: &mut SplitList<'a>,
     c: &Conversion,
     width: Amount,
-    slice: &[u8],
+    slice: &'a [u8],
     end: usize,
 ) -> Result<(), AllocError>
     requires { IsHeld width.range }
@@ -207,12 +207,12 @@ fn push_written_precision(
 }
 
 /// Puts the ways in which the conversion prints the bytes with this width at the end.
-fn push_width(
+fn push_width<'a>(
     alloc: Global,
-    out: &mut SplitList,
+    out: &mut SplitList<'a>,
     c: &Conversion,
     width: Amount,
-    slice: &[u8],
+    slice: &'a [u8],
     end: usize,
 ) -> Result<(), AllocError>
     requires { IsHeld width.range }
@@ -228,11 +228,11 @@ fn push_width(
 
 /// Puts the ways in which the conversion prints the bytes at the end, where a `*` gives a width whose
 /// absolute value is below the number of bytes.
-fn push_thin_widths(
+fn push_thin_widths<'a>(
     alloc: Global,
-    out: &mut SplitList,
+    out: &mut SplitList<'a>,
     c: &Conversion,
-    slice: &[u8],
+    slice: &'a [u8],
     end: usize,
 ) -> Result<(), AllocError>
     ensures { OnOk result (Adds (Kind.Integer ∷ width_kinds c.now) (true ∷ width_marks c.now) (thin_widths_end c.now slice.now end) out.old out.new) }
@@ -253,12 +253,12 @@ fn push_thin_widths(
 }
 
 /// The same where a `*` gives this width.
-fn push_exact_width(
+fn push_exact_width<'a>(
     alloc: Global,
-    out: &mut SplitList,
+    out: &mut SplitList<'a>,
     c: &Conversion,
     value: i64,
-    slice: &[u8],
+    slice: &'a [u8],
     end: usize,
 ) -> Result<(), AllocError>
     requires { IsInt value }
@@ -273,11 +273,11 @@ fn push_exact_width(
 }
 
 /// The same where a `*` gives the number of bytes as the width.
-fn push_right_width(
+fn push_right_width<'a>(
     alloc: Global,
-    out: &mut SplitList,
+    out: &mut SplitList<'a>,
     c: &Conversion,
-    slice: &[u8],
+    slice: &'a [u8],
     end: usize,
 ) -> Result<(), AllocError>
     ensures { OnOk result (Adds (Kind.Integer ∷ width_kinds c.now) (true ∷ width_marks c.now) (exact_width_end c.now (pos (length slice.now)) slice.now end) out.old out.new) }
@@ -290,11 +290,11 @@ fn push_right_width(
 }
 
 /// The same where a `*` gives the negative of the number of bytes as the width.
-fn push_left_width(
+fn push_left_width<'a>(
     alloc: Global,
-    out: &mut SplitList,
+    out: &mut SplitList<'a>,
     c: &Conversion,
-    slice: &[u8],
+    slice: &'a [u8],
     end: usize,
 ) -> Result<(), AllocError>
     ensures { OnOk result (Adds (Kind.Integer ∷ width_kinds c.now) (true ∷ width_marks c.now) (exact_width_end c.now (neg_ℤ (pos (length slice.now))) slice.now end) out.old out.new) }
@@ -307,11 +307,11 @@ fn push_left_width(
 }
 
 /// The same where a `*` gives any width.
-fn push_star_widths(
+fn push_star_widths<'a>(
     alloc: Global,
-    out: &mut SplitList,
+    out: &mut SplitList<'a>,
     c: &Conversion,
-    slice: &[u8],
+    slice: &'a [u8],
     end: usize,
 ) -> Result<(), AllocError>
     ensures { OnOk result (Adds (Kind.Integer ∷ width_kinds c.now) (true ∷ width_marks c.now) (star_width_end c.now slice.now end) out.old out.new) }
@@ -326,11 +326,11 @@ fn push_star_widths(
 }
 
 /// Puts the ways in which the conversion prints the bytes at the end, where no `*` gives the width.
-fn push_written_width(
+fn push_written_width<'a>(
     alloc: Global,
-    out: &mut SplitList,
+    out: &mut SplitList<'a>,
     c: &Conversion,
-    slice: &[u8],
+    slice: &'a [u8],
     end: usize,
 ) -> Result<(), AllocError>
     ensures { OnOk result (Adds (width_kinds c.now) (width_marks c.now) (written_width_end c.now slice.now end) out.old out.new) }
@@ -344,11 +344,11 @@ fn push_written_width(
 }
 
 /// Puts the ways in which the conversion prints the bytes at the end.
-pub fn push_conversion(
+pub fn push_conversion<'a>(
     alloc: Global,
-    out: &mut SplitList,
+    out: &mut SplitList<'a>,
     c: &Conversion,
-    slice: &[u8],
+    slice: &'a [u8],
     end: usize,
 ) -> Result<(), AllocError>
     ensures { OnOk result (Adds (conversion_kinds c.now) (conversion_marks c.now) (conversion_end c.now slice.now end) out.old out.new) }

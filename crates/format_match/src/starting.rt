@@ -1,40 +1,77 @@
-//! Where a format can begin that spells a stretch of a log, whatever its arguments are.
-ghost use Rattle.std.specs.Prelude.{◌≡◌, ◌≤◌, ◌<◌, ◌+◌, ◌↔◌, ◌&&◌, ◌||◌, ℕ, true, length, nat_eq, Any, IfOk, OnOk};
-ghost use Rattle.positions.specs.Sets.{has, are_before};
-ghost use Rattle.format_match.specs.Beginning.{IsBegun, BeginsExactly};
+//! Where a format can begin that spells a stretch of a log, whatever its arguments are: piece by piece from the back, over
+//! all positions at once.
+ghost use Rattle.std.specs.Prelude.{◌≡◌, ◌≤◌, ◌<◌, ◌+◌, ◌↔◌, ◌∷◌, [], ℕ, true, ◌&&◌, nat_lt, length, IfOk};
+ghost use Rattle.positions.specs.Sets.{has};
+ghost use Rattle.format_match.specs.Beginning.{BeginsExactly, AreOnward, is_marked};
 
-use crate::ending::{ends, push_where};
+use crate::ending::push_where;
+use crate::marking::{all_marks, either, is_marked, leading, leading_on, no_marks};
 use crate::matching::MatchFault;
 use positions::Positions;
-use printf_text::Pieces;
-use std::alloc::Global;
+use printf_text::{Piece, Pieces};
+use std::alloc::{AllocError, Global};
 
-/// Whether some of these ends is behind a position.
-fn is_some_behind(ends: &[usize], from: usize) -> bool
-    ensures { (result ≡ true) ↔ Any (λ end. from < end) ends.now }
-{
-    ends.iter().any(|end| from < *end)
+/// From which positions pieces spell anything, and from which they spell what isn't empty.
+#[derive(Drop)]
+struct Onward {
+    any: Vec<bool>,
+    some: Vec<bool>,
 }
 
-/// Whether a format spells a stretch from a position on that isn't empty.
-fn is_begun(alloc: Global, pieces: &Pieces, log: &[u8], from: usize) -> Result<bool, MatchFault>
-    requires { from ≤ length log.now }
-    ensures { IfOk result (λ begun. (begun ≡ true) ↔ IsBegun pieces.now log.now from) }
+/// Without pieces.
+fn at_the_end(alloc: Global, log: &[u8]) -> Result<Onward, AllocError>
+    ensures { IfOk result (λ o. AreOnward [] log.now o.any.items o.some.items) }
 {
-    let ends = ends(alloc, pieces, log, from)?;
-    Ok(is_some_behind(ends.as_slice(), from))
+    let any = all_marks(alloc, log.len() + 1)?;
+    let some = no_marks(alloc, log.len() + 1)?;
+    Ok(Onward { any, some })
 }
 
-/// Puts a position behind all others, where it is wanted.
-fn push_wanted(starts: &mut Positions, at: usize, wanted: bool) -> Result<(), MatchFault>
-    requires { are_before at starts.old ≡ true }
-    ensures has { OnOk result ((y : ℕ) → has starts.new y ≡ (has starts.old y || (wanted && nat_eq at y))) }
-    ensures below { OnOk result (are_before (at + 1) starts.new ≡ true) }
+/// With a piece in front of others.
+fn with_piece(
+    alloc: Global,
+    piece: &Piece,
+    log: &[u8],
+    behind: &Onward,
+) -> Result<Onward, AllocError>
+    ensures { IfOk result (λ o. (pieces : _) → AreOnward pieces log.now behind.now.any.items behind.now.some.items → AreOnward (piece.now ∷ pieces) log.now o.any.items o.some.items) }
 {
-    match push_where(starts, at, wanted) {
-        Ok(()) => Ok(()),
-        Err(_) => Err(MatchFault::Memory),
+    let any = leading(alloc, piece, log, behind.any.as_slice())?;
+    let on = leading_on(alloc, piece, log, behind.any.as_slice(), any.as_slice())?;
+    let through = leading(alloc, piece, log, behind.some.as_slice())?;
+    let some = either(alloc, on.as_slice(), through.as_slice(), log.len() + 1)?;
+    Ok(Onward { any, some })
+}
+
+fn from_the_back(alloc: Global, pieces: &[Piece], log: &[u8]) -> Result<Onward, AllocError>
+    ensures { IfOk result (λ o. AreOnward pieces.now log.now o.any.items o.some.items) }
+{
+    let mut onward = at_the_end(alloc, log)?;
+    let mut index = pieces.len();
+    'pieces: while index > 0 {
+        index -= 1;
+        onward = with_piece(alloc, &pieces[index], log, &onward)?;
     }
+    Ok(onward)
+}
+
+/// The positions of marks below a position.
+fn marked(alloc: Global, marks: &[bool], len: usize) -> Result<Positions, AllocError>
+    ensures { IfOk result (λ ps. (y : ℕ) → has ps y ≡ (nat_lt y len && is_marked marks.now y)) }
+{
+    let mut positions = Positions::new(alloc);
+    'positions: for at in 0..len {
+        push_where(&mut positions, at, is_marked(marks, at))?;
+    }
+    Ok(positions)
+}
+
+fn all_starts(alloc: Global, pieces: &[Piece], log: &[u8]) -> Result<Positions, AllocError>
+    ensures { IfOk result (λ starts. BeginsExactly pieces.now log.now starts) }
+{
+    let onward = from_the_back(alloc, pieces, log)?;
+    let starts = marked(alloc, onward.some.as_slice(), log.len())?;
+    Ok(starts)
 }
 
 /// Exactly the positions from which some arguments of the pieces' kinds spell a stretch of the log that isn't empty, in
@@ -42,10 +79,8 @@ fn push_wanted(starts: &mut Positions, at: usize, wanted: bool) -> Result<(), Ma
 pub fn starts(alloc: Global, pieces: &Pieces, log: &[u8]) -> Result<Positions, MatchFault>
     ensures { IfOk result (λ starts. BeginsExactly pieces.now log.now starts) }
 {
-    let mut starts = Positions::new(alloc);
-    'positions: for at in 0..log.len() {
-        let wanted = is_begun(alloc, pieces, log, at)?;
-        push_wanted(&mut starts, at, wanted)?;
+    match all_starts(alloc, pieces.as_slice(), log) {
+        Ok(starts) => Ok(starts),
+        Err(_) => Err(MatchFault::Memory),
     }
-    Ok(starts)
 }

@@ -32,7 +32,7 @@ pub struct Sizes {
 }
 
 /// Puts a range's constraint at the end.
-fn push_range(out: &mut Constraints, range: Option<Range>) -> Result<(), AllocError>
+fn push_range<'a>(out: &mut Constraints<'a>, range: Option<Range>) -> Result<(), AllocError>
     ensures { OnOk result (out.new ≡ out.old ++ range_constraints range) }
 {
     if let Some(Range { low, high }) = range {
@@ -42,14 +42,14 @@ fn push_range(out: &mut Constraints, range: Option<Range>) -> Result<(), AllocEr
 }
 
 /// Puts the split of a conversion at the end, from what it says of the converted argument.
-pub fn push_way(
+pub fn push_way<'a>(
     alloc: Global,
-    out: &mut SplitList,
+    out: &mut SplitList<'a>,
     sizes: Sizes,
     end: usize,
-    constraint: Constraint,
+    constraint: Constraint<'a>,
 ) -> Result<(), AllocError>
-    ensures { OnOk result (out.new ≡ out.old ++ record { end = end; constraints = sizes_constraints sizes constraint } ∷ []) }
+    ensures { OnOk result (out.new ≡ out.old ++ record { end = end; constraints = sizes_constraints sizes constraint.entry } ∷ []) }
 {
     let mut constraints = Constraints::new(alloc);
     push_range(&mut constraints, sizes.width.range)?;

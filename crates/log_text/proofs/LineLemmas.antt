@@ -1,5 +1,5 @@
 -- Lines one after another: the first is cut off, and the rest are the lines of what follows.
-use Rattle.std.proofs.Common.{◌≡◌, ℕ, zero, suc, ◌+◌, ◌-◌, ◌<◌, ◌≤◌, min, ◌==◌, Bool, true, false, not, cond, nat_lt, nat_le, List, [], ◌∷◌, ◌++◌, length, take, drop, length-drop, append_assoc, append-nil, refl, sym, ap, subst, ◌∙◌, arith}
+use Rattle.std.proofs.Common.{◌≡◌, ℕ, zero, suc, ◌+◌, ◌-◌, ◌<◌, ◌≤◌, min, ◌==◌, Bool, true, false, not, cond, nat_lt, nat_le, List, [], ◌∷◌, ◌++◌, length, take, drop, get_or, length-drop, append_assoc, append-nil, refl, sym, ap, subst, ◌∙◌, arith}
 use Rattle.std.specs.Prelude.{count_by}
 use Rattle.std.specs.List.{prefix_len, flat_map}
 use Rattle.std.proofs.lemmas.List.{drop-drop, length-take-le}
@@ -168,3 +168,17 @@ line_of-behind log position h = line_behind 1 position (lines_of log) (omega (ar
 -- what `&log[at..]` is
 pub slice_rest : (log : List ℕ) (at : ℕ) → take (length log - at) (drop at log) ≡ drop at log
 slice_rest log at = ap (λ n. take n (drop at log)) (sym (length-drop at log)) ∙ take-length (drop at log)
+
+-- ---- each line begins within the log
+
+begins_within : (at i : ℕ) (lines : List (List ℕ)) → i < length (starts_from at lines)
+    → get_or (starts_from at lines) i 0 ≤ at + total lines
+unfolding total
+begins_within at i [] h = absurd (omega (arith, h))
+begins_within at zero (line ∷ lines) h = omega arith
+begins_within at (suc i) (line ∷ lines) h =
+    let next = begins_within (at + length line) i lines (omega (arith, h)) in omega (arith, next)
+
+pub starts_within : (log : List ℕ) (i : ℕ) → i < length (line_starts log) → get_or (line_starts log) i 0 ≤ length log
+starts_within log i h =
+    let within = begins_within 0 i (lines_of log) h in omega (arith, within, total-lines log)

@@ -1,19 +1,16 @@
 -- Where calls begin.
-use Rattle.std.proofs.Common.{◌≡◌, ℕ, zero, suc, pos, List, [], ◌∷◌, ◌++◌, Bool, true, cond, Some, None, refl, sym, ap, ◌∙◌}
+use Rattle.std.proofs.Common.{◌≡◌, ℕ, zero, suc, pos, List, [], ◌∷◌, ◌++◌, Some, None, refl, sym, ap, subst, ◌∙◌}
 use Rattle.std.specs.Prelude.{slice_get}
-use Rattle.bit_words.specs.declared.run.Event.{Event}
+use Rattle.bit_words.specs.declared.run.Happening.TheVariants as happening
 use Rattle.core_tree.specs.Callees.{value_or_zero}
 use Rattle.term_bank.specs.declared.shape.Shape.{Shape}
 use Rattle.term_bank.specs.Banks.{IsBank}
 use Rattle.term_bank.specs.Values.{Environment, Values, Models}
 use Rattle.term_bank.proofs.BankLemmas.{weaken, stays, grows_on}
-use Rattle.path_states.specs.declared.state.Noted.{Noted}
-use Rattle.path_states.specs.declared.state.Noted.TheVariants as noted
 use Rattle.path_states.specs.declared.state.Number.{Number}
-use Rattle.path_states.specs.declared.state.PathEvent.{PathEvent}
 use Rattle.path_states.specs.declared.state.State.{State}
-use Rattle.path_states.specs.States.{IsState, IsNumber, AreNumbers, IsNoted, numbers_in, number_in, event_in, done_in, onto, seen}
-use Rattle.path_states.proofs.Growth.{state_grown, numbers_grown, number_grown, numbers_joined, events_joined, seen_joined}
+use Rattle.path_states.specs.States.{IsState, IsNumber, AreNumbers, numbers_in, number_in, done_in, run_in, onto}
+use Rattle.path_states.proofs.Growth.{state_grown, numbers_grown, number_grown, numbers_joined}
 use Rattle.path_numbers.specs.Answers.{Numbered}
 use Rattle.path_steps.specs.Operands.{Pops, under}
 use Rattle.path_forms.specs.declared.calling.CallSite.{CallSite}
@@ -53,65 +50,44 @@ takes_more a b c s t u n k x xs more h i = record {
       i.rest e v m ∙ ap (below n) (h.rest e v (weaken i.grows m)) ∙ ap (λ j. below j (onto v [] s.operands)) (sym more);
 }
 
--- ---- what is noted
+-- ---- where a call begins
 
-pub noted_state : (a b : List Shape) (s t : State) (what : Noted) → IsState a s → IsNoted b what → Notes a b s t what → IsState b t
-noted_state a b s t what is says h =
-    let grown = state_grown h.grows s is in
-    let x : PathEvent = record { what = what; position = s.position; truth = h.always } in
-    rw h.is
-    (record {
+noted_state : (a b : List Shape) (s t : State) (at : ℕ) → IsState a s → Notes a b s t at → IsState b t
+noted_state a b s t at is h =
+    let grown = state_grown h.happened.grows s is in
+    subst (λ (u : State). IsState b u) (sym h.is) (record {
       guard = grown.guard;
       memory = grown.memory;
       value = grown.value;
-      events = events_joined b s.events (x ∷ []) grown.events (record { what = says; truth = h.term }, tt);
+      events = h.happened.term;
       operands = grown.operands;
     })
 
-one_seen : (e : Event) (c : Bool) → c ≡ true → cond c (e ∷ []) [] ≡ e ∷ []
-one_seen e c h = rw h refl
-
--- what the state says with it
-pub noted_done : (a b : List Shape) (s t : State) (what : Noted) (e : Environment) (v : Values) → Models b e v → Notes a b s t what
-    → done_in v t ≡ record (done_in v s) { events = seen v s.events ++ event_in v (record { what = what; position = s.position; truth = t.guard }) ∷ [] }
-noted_done a b s t what e v m h =
-    let x : PathEvent = record { what = what; position = s.position; truth = h.always } in
-    ap (λ (u : State). done_in v u) h.is
-    ∙ ap (λ l. record (done_in v s) { events = l })
-    (seen_joined v s.events (x ∷ []) ∙ ap (λ l. seen v s.events ++ l) (one_seen (event_in v x) (v h.always.index).truth (h.holds e v m)))
-
--- ---- where a call begins
-
 pub begins : (a b c : List Shape) (s t u : State) (site : CallSite) (xs : List Number) → Takes a b s t site.count xs
-    → Notes b c t u (noted.Call site.at) → Begins a c s u site xs
+    → Notes b c t u site.at → Begins a c s u site xs
 begins a b c s t u site xs h i = record {
-  grows = grows_on h.grows i.grows;
-  state = noted_state b c t u (noted.Call site.at) h.state tt i;
-  numbers = numbers_grown i.grows xs h.numbers;
+  grows = grows_on h.grows i.happened.grows;
+  state = noted_state b c t u site.at h.state i;
+  numbers = numbers_grown i.happened.grows xs h.numbers;
   guard = ap (λ (w : State). w.guard) i.is ∙ ap (λ (w : State). w.guard) h.same;
   position = ap (λ (w : State). w.position) i.is ∙ ap (λ (w : State). w.position) h.same;
   run = λ e v m.
-      let mb = weaken i.grows m in
-      ap (λ d. record { operands = onto v [] u.operands; done = d }) (noted_done b c t u (noted.Call site.at) e v m i)
-      ∙ ap (λ (w : State). record {
-        operands = onto v [] w.operands;
-        done = record (done_in v t) {
-          events = seen v t.events ++ event_in v (record { what = noted.Call site.at; position = t.position; truth = t.guard }) ∷ [];
-        };
-      }) i.is
+      let mb = weaken i.happened.grows m in
+      ap (λ (w : State). run_in v w) i.is
+      ∙ ap (λ l. record { operands = onto v [] t.operands; done = record (done_in v t) { events = l } }) (i.happened.is e v m)
       ∙ ap (λ l. record {
         operands = l;
         done = record (done_in v t) {
-          events = seen v t.events ++ event_in v (record { what = noted.Call site.at; position = t.position; truth = t.guard }) ∷ [];
+          events = (v t.events.index).events ++ record { what = happening.Call site.at; printed = t.position } ∷ [];
         };
       }) (h.rest e v mb)
       ∙ ap (λ (w : State). record {
         operands = below site.count (onto v [] s.operands);
         done = record (done_in v w) {
-          events = seen v w.events ++ event_in v (record { what = noted.Call site.at; position = w.position; truth = w.guard }) ∷ [];
+          events = (v w.events.index).events ++ record { what = happening.Call site.at; printed = w.position } ∷ [];
         };
       }) h.same;
-  arguments = λ e v m. h.are e v (weaken i.grows m);
+  arguments = λ e v m. h.are e v (weaken i.happened.grows m);
 }
 
 -- ---- arguments by their indices

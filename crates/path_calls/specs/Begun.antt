@@ -1,20 +1,16 @@
 -- Calls at a state: where they begin, what they answer, and what they do as a whole.
-use Rattle.std.specs.Prelude.{◌≡◌, ℕ, List, [], ◌∷◌, ◌++◌, true}
+use Rattle.std.specs.Prelude.{◌≡◌, ℕ, List, [], ◌∷◌, ◌++◌}
 use Rattle.bit_words.specs.declared.run.Happening.TheVariants as happening
 use Rattle.core_tree.specs.declared.expr.Callee.{Callee}
 use Rattle.core_tree.specs.declared.types.ValueType.{ValueType}
 use Rattle.core_tree.specs.Numbers.{converted_to}
-use Rattle.term_bank.specs.declared.sort.Sort.TheVariants.{Truth}
-use Rattle.term_bank.specs.declared.sort.Node.{Node}
 use Rattle.term_bank.specs.declared.shape.Shape.{Shape}
-use Rattle.term_bank.specs.Terms.{IsTerm}
 use Rattle.term_bank.specs.Values.{Environment, Values, Models, Grows}
-use Rattle.path_states.specs.declared.state.Noted.{Noted}
 use Rattle.path_states.specs.declared.state.Number.{Number}
 use Rattle.path_states.specs.declared.state.State.{State}
 use Rattle.path_states.specs.declared.state.Walked.{Walked}
 use Rattle.path_states.specs.States.{Held, IsState, AreNumbers, numbers_in, number_in, run_in, onto}
-use Rattle.path_states.specs.Ways.{Tries}
+use Rattle.path_states.specs.Ways.{Tries, Happened}
 use Rattle.path_numbers.specs.Answers.{Numbered}
 use Rattle.path_forms.specs.declared.calling.CallSite.{CallSite}
 use Rattle.path_forms.specs.declared.frame.Placed.{Placed}
@@ -30,13 +26,10 @@ pub record Takes (a b : List Shape) (s t : State) (n : ℕ) (xs : List Number) :
   pub are : (e : Environment) (v : Values) → Models b e v → numbers_in v xs ≡ taken n (onto v [] s.operands)
   pub rest : (e : Environment) (v : Values) → Models b e v → onto v [] t.operands ≡ below n (onto v [] s.operands)
 
--- something is noted, with a truth that is always true
-pub record Notes (a b : List Shape) (s t : State) (what : Noted) : Type 0 where
-  pub grows : Grows a b
-  pub always : Node
-  pub term : IsTerm b Truth always
-  pub holds : (e : Environment) (v : Values) → Models b e v → (v always.index).truth ≡ true
-  pub is : t ≡ record s { events = s.events ++ record { what = what; position = s.position; truth = always } ∷ [] }
+-- that the call at a token begins is noted
+pub record Notes (a b : List Shape) (s t : State) (at : ℕ) : Type 0 where
+  pub is : t ≡ record s { events = t.events }
+  pub happened : Happened a b s.events t.events (record { what = happening.Call at; printed = s.position })
 
 -- a run at which a call begins: it is noted, and its arguments are off the operands
 abbrev pub begun : CallSite → Held → Held

@@ -4,9 +4,9 @@ ghost use Rattle.path_states.specs.States.{IsState};
 ghost use Rattle.path_calls.specs.Begun.{Takes, Notes, Begins};
 
 use path_forms::CallSite;
-use path_states::{Noted, Number, PathEvent, State};
+use path_states::{Number, State};
 use path_steps::pop;
-use plain_data::{Items, Shared};
+use plain_data::Items;
 use std::alloc::Global;
 use term_bank::{Bank, BankFault};
 
@@ -30,18 +30,13 @@ pub fn take_arguments(
     Ok(all)
 }
 
-/// Notes what happens, wherever the state's guard is true. It fails for want of memory alone.
-pub fn note(alloc: Global, bank: &mut Bank, what: Noted, state: &mut State) -> Result<(), BankFault>
-    ensures { OnOk result (Notes bank.old bank.new state.old state.new what) }
+/// Notes that the call at a token begins. It fails for want of memory alone.
+fn note(bank: &mut Bank, at: u32, state: &mut State) -> Result<(), BankFault>
+    requires { IsState bank.old state.old }
+    ensures { OnOk result (Notes bank.old bank.new state.old state.new at) }
 {
-    let truth = bank.truth(true)?;
-    let what = Shared::new(alloc, what)?;
-    let position = state.position;
-    state.events.push(PathEvent {
-        what,
-        position,
-        truth,
-    })?;
+    let events = bank.call_event(state.events, state.position as u64, at)?;
+    state.events = events;
     Ok(())
 }
 
@@ -56,6 +51,6 @@ pub fn begin(
     ensures { IfOk result (λ xs. Begins bank.old bank.new state.old state.new site xs) }
 {
     let arguments = take_arguments(alloc, bank, site.count, state)?;
-    note(alloc, bank, Noted::Call { at: site.at }, state)?;
+    note(bank, site.at, state)?;
     Ok(arguments)
 }

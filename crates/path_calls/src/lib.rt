@@ -8,6 +8,6 @@ mod exiting;
 mod outside_words;
 
 pub use answering::{answer, argument};
-pub use beginning::{begin, note, take_arguments};
+pub use beginning::{begin, take_arguments};
 pub use callees::{abort, call_by_rule, exit, identity, outside};
 pub use outside_words::outside_word;

@@ -1,7 +1,6 @@
 -- The case of a `switch` that a value takes.
-use Rattle.std.proofs.Common.{◌≡◌, ℕ, ◌+◌, ℤ, List, [], ◌∷◌, ◌++◌, Bool, true, false, not, cond, Option, Some, None, map, refl, sym, ap, ◌∙◌, arith, append_assoc}
+use Rattle.std.proofs.Common.{◌≡◌, ℕ, ◌+◌, ℤ, List, [], ◌∷◌, ◌++◌, Bool, true, false, not, cond, Option, Some, None, map, refl, sym, ap, subst, ◌∙◌, arith, append_assoc}
 use Rattle.std.specs.Prelude.{Ok, Err, int_lt, ◌||◌}
-use Rattle.bit_words.specs.declared.run.Event.{Event}
 use Rattle.bit_words.specs.declared.run.Happening.TheVariants as happening
 use Rattle.bit_words.specs.declared.run.Side.{Side}
 use Rattle.bit_words.specs.declared.run.Side.TheVariants as side
@@ -24,18 +23,15 @@ use Rattle.core_tree.specs.Codes.{code, lived, is_among, chosen_at}
 use Rattle.term_bank.specs.declared.sort.Sort.TheVariants as sort
 use Rattle.term_bank.specs.declared.sort.Node.{Node}
 use Rattle.term_bank.specs.declared.shape.Shape.{Shape}
-use Rattle.term_bank.specs.declared.shape.Shape.TheVariants.{Flag}
-use Rattle.term_bank.specs.Terms.{IsTerm, Makes}
-use Rattle.term_bank.specs.Values.{Environment, Worth, Values, Grows}
+use Rattle.term_bank.specs.Terms.{IsTerm}
+use Rattle.term_bank.specs.Values.{Environment, Values, Models, Grows}
 use Rattle.term_bank.proofs.BankLemmas.{weaken, stays, grows_on}
 use Rattle.term_bank.proofs.TermLemmas.{term_grown}
 use Rattle.path_states.specs.declared.state.Number.{Number}
-use Rattle.path_states.specs.declared.state.Noted.TheVariants as noted
-use Rattle.path_states.specs.declared.state.PathEvent.{PathEvent}
 use Rattle.path_states.specs.declared.state.State.{State}
-use Rattle.path_states.specs.States.{Held, IsNumber, IsState, AreStates, run_in, done_in, number_in, onto, seen, standing}
+use Rattle.path_states.specs.States.{Held, IsNumber, IsState, AreStates, run_in, done_in, number_in, onto, standing}
 use Rattle.path_states.specs.Ways.{Goes, Halves, stay, ◌>>=◌}
-use Rattle.path_states.proofs.Growth.{number_grown, state_grown, states_grown, states_joined, events_joined, seen_joined, standing_joined}
+use Rattle.path_states.proofs.Growth.{number_grown, state_grown, states_grown, states_joined, standing_joined}
 use Rattle.path_states.proofs.Paths.{goes_none, goes_more, goes_then, goes_as}
 use Rattle.path_numbers.specs.declared.tested.Fault.{Fault}
 use Rattle.path_numbers.specs.declared.tested.Tested.{Tested}
@@ -51,7 +47,7 @@ use Rattle.path_rooms.specs.Rooms.{item_of, items_room}
 use Rattle.path_codes.specs.declared.below.Coded.{Coded}
 use Rattle.path_codes.specs.declared.below.Evaluated.{Evaluated}
 use Rattle.path_codes.specs.Courses.{on_top}
-use Rattle.path_codes.specs.Selecting.{Tells, SelectsCase, Selects, SelectsOne, SelectsAll, looks, selects, on_its_way}
+use Rattle.path_codes.specs.Selecting.{Tells, SelectsCase, Selects, SelectsOne, SelectsAll, IsOnItsWay, looks, selects}
 use Rattle.path_codes.specs.Walks.{WalksItem, WalksLived, EvaluatesTo, item_arrow, lived_arrow}
 use Rattle.path_codes.proofs.Courses.{splits_close}
 use Rattle.path_codes.proofs.Statements.{walks_by}
@@ -119,40 +115,30 @@ tells_case a b c d t x label tested n z inside h i j = record {
 
 -- ---- one state
 
-way_state : (b : List Shape) (s : State) (guard always : Node) (kind : Kind) (at : ℕ) (side : Side) → IsState b s
-    → IsTerm b sort.Truth guard → IsTerm b sort.Truth always → IsState b (on_its_way s guard always kind at side)
-way_state b s guard always kind at side is h i = record {
-  guard = h;
-  memory = is.memory;
-  value = is.value;
-  events = events_joined b s.events (record { what = noted.Branch at side; position = s.position; truth = always } ∷ []) is.events
-      (record { what = tt; truth = i }, tt);
-  operands = tt;
-}
+module _ (a b : List Shape) (s t : State) (guard : Node) (kind : Kind) (at : ℕ) (side : Side) (h : IsOnItsWay a b s guard kind at side t) where
+  way_state : IsState a s → IsTerm a sort.Truth guard → IsState b t
+  way_state is g =
+      let now = state_grown h.happened.grows s is in
+      subst (λ (u : State). IsState b u) (sym h.is) (record {
+        guard = term_grown a b _ guard h.happened.grows g;
+        memory = now.memory;
+        value = now.value;
+        events = h.happened.term;
+        operands = tt;
+      })
+
+  way_guard : (v : Values) → (v t.guard.index).truth ≡ (v guard.index).truth
+  way_guard v = ap (λ (u : State). (v u.guard.index).truth) h.is
+
+  way_run : (e : Environment) (v : Values) → Models b e v
+      → run_in v t ≡ bare (become kind (note (along []) (happening.Branch at side) (done_in v s)))
+  way_run e v m = ap (λ (u : State). run_in v u) h.is ∙ ap (λ l. bare (record (done_in v s) { kind = kind; events = l })) (h.happened.is e v m)
 
 pub guarded_state : (a b : List Shape) (s : State) (n : Node) → Grows a b → IsState a s → IsTerm b sort.Truth n
     → IsState b (record s { guard = n })
 guarded_state a b s n g is h =
     let now = state_grown g s is in
     record { guard = h; memory = now.memory; value = now.value; events = now.events; operands = now.operands }
-
-pub chosen_states : (a b : List Shape) (before : List State) (s : State) (guard always : Node) (kind : Kind) (at : ℕ) (side : Side)
-    → Grows a b → IsState a s → AreStates a before → IsTerm b sort.Truth guard → IsTerm b sort.Truth always
-    → AreStates b (before ++ on_its_way s guard always kind at side ∷ [])
-chosen_states a b before s guard always kind at side g is are h i =
-    states_joined b before (on_its_way s guard always kind at side ∷ []) (states_grown g before are)
-    (way_state b s guard always kind at side (state_grown g s is) h i, tt)
-
-one_seen : (e : Event) (c : Bool) → c ≡ true → cond c (e ∷ []) [] ≡ e ∷ []
-one_seen e c h = rw h refl
-
-way_run : (v : Values) (s : State) (guard always : Node) (kind : Kind) (at : ℕ) (side : Side) → (v always.index).truth ≡ true
-    → run_in v (on_its_way s guard always kind at side) ≡ bare (become kind (note (along []) (happening.Branch at side) (done_in v s)))
-way_run v s guard always kind at side h =
-    let x : PathEvent = record { what = noted.Branch at side; position = s.position; truth = always } in
-    ap (λ l. bare (record (done_in v s) { kind = kind; events = l }))
-    (seen_joined v s.events (x ∷ [])
-    ∙ ap (λ l. seen v s.events ++ l) (one_seen (record { what = happening.Branch at side; printed = s.position }) (v always.index).truth h))
 
 one_more : (v : Values) (before : List State) (t : State) (h : Held) → run_in v t ≡ h
     → standing v (before ++ t ∷ []) ≡ standing v before ++ cond (v t.guard.index).truth (h ∷ []) []
@@ -180,41 +166,41 @@ passed_by at z case rest d h =
     (note (along []) (happening.Branch at (cond (b || is_among z rest) (side.Case z) side.Otherwise)) d))) (sym h)
 
 module _ (at : ℕ) (t : WordType) (x : Number) (s : State) where
-  pub selects_last : (a b : List Shape) (before : List State) (always : Node) → IsState a s → AreStates a before
-      → Makes a b (Flag true) (Ok always)
-      → Selects a b at t x [] s before (before ++ on_its_way s s.guard always k.Defaulting at side.Otherwise ∷ [])
-  selects_last a b before always is are h =
-      let last = on_its_way s s.guard always k.Defaulting at side.Otherwise in
-      let now = state_grown h.grows s is in
+  pub selects_last : (a b : List Shape) (before : List State) (last : State) → IsState a s → AreStates a before
+      → IsOnItsWay a b s s.guard k.Defaulting at side.Otherwise last → Selects a b at t x [] s before (before ++ last ∷ [])
+  selects_last a b before last is are h =
+      let g = h.happened.grows in
       record {
-        grows = h.grows;
-        states = states_joined b before (last ∷ []) (states_grown h.grows before are)
-            (way_state b s s.guard always k.Defaulting at side.Otherwise now now.guard h.node, tt);
+        grows = g;
+        states = states_joined b before (last ∷ []) (states_grown g before are)
+            (way_state a b s last s.guard k.Defaulting at side.Otherwise h is is.guard, tt);
         stands = λ e v m w is.
             one_more v before last (bare (looks at [] (wrapped t w) (done_in v s)))
-            (way_run v s s.guard always k.Defaulting at side.Otherwise (ap (λ (y : Worth). y.truth) (h.value.is e v m)));
+            (way_run a b s last s.guard k.Defaulting at side.Otherwise h e v m)
+            ∙ ap (λ (q : Bool). standing v before ++ cond q (bare (looks at [] (wrapped t w) (done_in v s)) ∷ []) [])
+            (way_guard a b s last s.guard k.Defaulting at side.Otherwise h v);
       }
 
-  pub selects_next : (a b c d f : List Shape) (before after : List State) (case : ℤ) (rest : List ℤ) (same_is one other always : Node)
-      → Tells a b same_is t x case → Halves b c s.guard same_is one other → Makes c d (Flag true) (Ok always)
-      → Selects d f at t x rest (record s { guard = other })
-      (before ++ on_its_way s one always (k.Choosing case) at (side.Case case) ∷ []) after
+  pub selects_next : (a b c d f : List Shape) (before after : List State) (case : ℤ) (rest : List ℤ) (same_is one other : Node) (here : State)
+      → Tells a b same_is t x case → Halves b c s.guard same_is one other
+      → IsOnItsWay c d s one (k.Choosing case) at (side.Case case) here
+      → Selects d f at t x rest (record s { guard = other }) (before ++ here ∷ []) after
       → Selects a f at t x (case ∷ rest) s before after
-  selects_next a b c d f before after case rest same_is one other always h i j l = record {
-    grows = grows_on h.grows (grows_on i.grows (grows_on j.grows l.grows));
+  selects_next a b c d f before after case rest same_is one other here h i j l = record {
+    grows = grows_on h.grows (grows_on i.grows (grows_on j.happened.grows l.grows));
     states = l.states;
     stands = λ e v m w is.
         let md = weaken l.grows m in
-        let mc = weaken j.grows md in
+        let mc = weaken j.happened.grows md in
         let mb = weaken i.grows mc in
         let z = wrapped t w in
-        let here = on_its_way s one always (k.Choosing case) at (side.Case case) in
         let taken = bare (become (k.Choosing case) (note (along []) (happening.Branch at (side.Case case)) (done_in v s))) in
         let left = bare (looks at rest z (done_in v s)) in
         l.stands e v m w is
         ∙ ap (λ l. l ++ cond (v other.index).truth (left ∷ []) [])
-        (one_more v before here taken
-        (way_run v s one always (k.Choosing case) at (side.Case case) (ap (λ (y : Worth). y.truth) (j.value.is e v md))))
+        (one_more v before here taken (way_run c d s here one (k.Choosing case) at (side.Case case) j e v md)
+        ∙ ap (λ (q : Bool). standing v before ++ cond q (taken ∷ []) [])
+        (way_guard c d s here one (k.Choosing case) at (side.Case case) j v))
         ∙ append_assoc (standing v before) (cond (v one.index).truth (taken ∷ []) []) (cond (v other.index).truth (left ∷ []) [])
         ∙ ap (λ l. standing v before ++ l)
         (either_way (v s.guard.index).truth (v same_is.index).truth (v one.index).truth (v other.index).truth taken left
@@ -224,19 +210,21 @@ module _ (at : ℕ) (t : WordType) (x : Number) (s : State) where
   }
 
 pub selects_case : (at : ℕ) (t : WordType) (x : Number) (s : State) (a b c d : List Shape) (before : List State) (case : ℤ)
-    (same_is one other always : Node) → IsState a s → IsNumber a x → AreStates a before
-    → Tells a b same_is t x case → Halves b c s.guard same_is one other → Makes c d (Flag true) (Ok always)
-    → SelectsCase a d at t x case s before (before ++ on_its_way s one always (k.Choosing case) at (side.Case case) ∷ [])
-    (record s { guard = other })
-selects_case at t x s a b c d before case same_is one other always is number are h i j =
-    let g = grows_on h.grows (grows_on i.grows j.grows) in
+    (same_is one other : Node) (here : State) → IsState a s → IsNumber a x → AreStates a before
+    → Tells a b same_is t x case → Halves b c s.guard same_is one other
+    → IsOnItsWay c d s one (k.Choosing case) at (side.Case case) here
+    → SelectsCase a d at t x case s before (before ++ here ∷ []) (record s { guard = other })
+selects_case at t x s a b c d before case same_is one other here is number are h i j =
+    let cd = j.happened.grows in
+    let ac = grows_on h.grows i.grows in
+    let g = grows_on ac cd in
     record {
       grows = g;
-      state = guarded_state a d s other g is (term_grown c d _ other j.grows i.no_term);
+      state = guarded_state a d s other g is (term_grown c d _ other cd i.no_term);
       number = number_grown g x number;
-      states = chosen_states a d before s one always (k.Choosing case) at (side.Case case) g is are
-          (term_grown c d _ one j.grows i.yes_term) j.node;
-      next = λ f rest after l. selects_next at t x s a b c d f before after case rest same_is one other always h i j l;
+      states = states_joined d before (here ∷ []) (states_grown g before are)
+          (way_state c d s here one (k.Choosing case) at (side.Case case) j (state_grown ac s is) i.yes_term, tt);
+      next = λ f rest after l. selects_next at t x s a b c d f before after case rest same_is one other here h i j l;
     }
 
 -- ---- states

@@ -1,6 +1,7 @@
 -- Bodies of functions: parameters' objects, arguments, and the way back.
 use Rattle.std.proofs.Common.{◌≡◌, ℕ, suc, ◌+◌, List, [], ◌∷◌, ◌++◌, Bool, true, cond, length, Option, Some, None, refl, sym, ap, ap₂, ◌∙◌, arith, add-zero, append_assoc, append-nil}
 use Rattle.std.specs.Prelude.{Ok}
+use Rattle.bit_words.specs.declared.run.Event.{Event}
 use Rattle.c_store.specs.Store.{start}
 use Rattle.c_means.specs.declared.kind.Kind.TheVariants as k
 use Rattle.c_means.specs.Parts.{Env}
@@ -18,14 +19,14 @@ use Rattle.core_tree.specs.Programs.{frame, passed, back}
 use Rattle.term_bank.specs.declared.sort.Sort.TheVariants.{Memory}
 use Rattle.term_bank.specs.declared.sort.Node.{Node}
 use Rattle.term_bank.specs.declared.shape.Shape.{Shape}
-use Rattle.term_bank.specs.declared.shape.Shape.TheVariants.{Flag}
+use Rattle.term_bank.specs.declared.shape.Shape.TheVariants.{Flag, NoEvents}
 use Rattle.term_bank.specs.Terms.{IsTerm, Makes}
 use Rattle.term_bank.specs.Values.{Environment, Worth, Values}
 use Rattle.term_bank.proofs.BankLemmas.{weaken, stays, grows_on}
 use Rattle.term_bank.proofs.TermLemmas.{term_grown}
 use Rattle.path_states.specs.declared.state.Number.{Number}
 use Rattle.path_states.specs.declared.state.State.{State}
-use Rattle.path_states.specs.States.{Held, IsState, AreStates, AreNumbers, run_in, number_in, numbers_in}
+use Rattle.path_states.specs.States.{Held, IsState, AreStates, AreNumbers, run_in, done_in, number_in, numbers_in}
 use Rattle.path_states.specs.Ways.{Way, Steps, Goes, ◌>>=◌, stay}
 use Rattle.path_states.proofs.Growth.{numbers_grown}
 use Rattle.path_states.proofs.Paths.{goes_none, goes_then, goes_as, goes_joined}
@@ -123,6 +124,18 @@ passes_more room p ps x xs offset next a b c ss set ts one i j =
 
 -- ---- the body
 
+-- the state in which a function begins
+abbrev pub entry : Node → Node → Node → ℕ → State
+entry guard events memory position = record {
+  guard = guard;
+  kind = k.Running;
+  value = None;
+  position = position;
+  memory = memory;
+  events = events;
+  operands = [];
+}
+
 module _ (x : Around) (room : ℕ) (f : Function) (xs : List Number) where
   pub walks_body : (objects : List Object) (inner : List Placed) (place : ℕ) (a b c d g k : List Shape)
       (ss birth given died ends : List State) (ran : Coded)
@@ -183,45 +196,33 @@ module _ (x : Around) (room : ℕ) (f : Function) (xs : List Number) where
       record { grows = goes.grows; states = goes.states; goes = goes }
 
   -- from a state in which the function begins
-  pub embodies : (a b c : List Shape) (guard memory : Node) (position : ℕ) (ts : List State) → IsTerm a Memory memory
-      → Makes a b (Flag true) (Ok guard)
-      → WalksBody x room f xs b c (record {
-        guard = guard;
-        kind = k.Running;
-        value = None;
-        position = position;
-        memory = memory;
-        events = [];
-        operands = [];
-      } ∷ []) ts
-      → Embodies x room f xs memory position a c ts
-  embodies a b c guard memory position ts is h i = record {
-    grows = grows_on h.grows i.grows;
+  pub embodies : (a b c d : List Shape) (guard events memory : Node) (position : ℕ) (ts : List State) → IsTerm a Memory memory
+      → Makes a b (Flag true) (Ok guard) → Makes b c NoEvents (Ok events)
+      → WalksBody x room f xs c d (entry guard events memory position ∷ []) ts
+      → Embodies x room f xs memory position a d ts
+  embodies a b c d guard events memory position ts is h j i = record {
+    grows = grows_on h.grows (grows_on j.grows i.grows);
     states = i.states;
     stands = λ e v m r sized.
-        let s : State = record {
-          guard = guard;
-          kind = k.Running;
-          value = None;
-          position = position;
-          memory = memory;
-          events = [];
-          operands = [];
-        } in
-        let so : (v guard.index).truth ≡ true = ap (λ (y : Worth). y.truth) (h.value.is e v (weaken i.grows m)) in
-        i.goes.stands e v m r (Some (run_in v s)) (ap (λ (b : Bool). cond b (run_in v s ∷ []) []) so) sized;
+        let s = entry guard events memory position in
+        let mc = weaken i.grows m in
+        let so : (v guard.index).truth ≡ true = ap (λ (y : Worth). y.truth) (h.value.is e v (weaken j.grows mc)) in
+        let nothing : (v events.index).events ≡ [] = ap (λ (y : Worth). y.events) (j.value.is e v mc) in
+        let begun : List Event → Held = λ l. record { operands = []; done = record (done_in v s) { events = l } } in
+        i.goes.stands e v m r (Some (begun []))
+        (ap (λ (b : Bool). cond b (run_in v s ∷ []) []) so ∙ ap (λ l. begun l ∷ []) nothing) sized;
     sized = λ e v m r q o sized. i.goes.sized e v m r (bare (entered (along x.log) q o)) sized;
   }
 
-pub entry_state : (a b : List Shape) (guard memory : Node) (position : ℕ) → IsTerm a Memory memory → Makes a b (Flag true) (Ok guard)
-    → AreStates b (record {
-      guard = guard;
-      kind = k.Running;
-      value = None;
-      position = position;
-      memory = memory;
-      events = [];
-      operands = [];
-    } ∷ [])
-entry_state a b guard memory position is h =
-    (record { guard = h.node; memory = term_grown a b _ memory h.grows is; value = tt; events = tt; operands = tt }, tt)
+pub entry_state : (a b c : List Shape) (guard events memory : Node) (position : ℕ) → IsTerm a Memory memory → Makes a b (Flag true) (Ok guard)
+    → Makes b c NoEvents (Ok events) → AreStates c (entry guard events memory position ∷ [])
+entry_state a b c guard events memory position is h j = (
+  record {
+    guard = term_grown b c _ guard j.grows h.node;
+    memory = term_grown a c _ memory (grows_on h.grows j.grows) is;
+    value = tt;
+    events = j.node;
+    operands = tt;
+  },
+  tt,
+)

@@ -1,5 +1,6 @@
 -- The case of a `switch` that a value takes (C99 6.8.4.2p4, p5).
 use Rattle.std.specs.Prelude.{◌≡◌, ℕ, ℤ, List, [], ◌∷◌, ◌++◌, cond, Some}
+use Rattle.bit_words.specs.declared.run.Happening.TheVariants as happening
 use Rattle.bit_words.specs.declared.run.Side.{Side}
 use Rattle.c_means.specs.declared.kind.Kind.{Kind}
 use Rattle.c_runs.specs.Items.{same}
@@ -13,10 +14,9 @@ use Rattle.term_bank.specs.declared.shape.Shape.{Shape}
 use Rattle.term_bank.specs.Terms.{IsTerm}
 use Rattle.term_bank.specs.Values.{Environment, Values, Models, Grows}
 use Rattle.path_states.specs.declared.state.Number.{Number}
-use Rattle.path_states.specs.declared.state.Noted.TheVariants as noted
 use Rattle.path_states.specs.declared.state.State.{State}
 use Rattle.path_states.specs.States.{IsNumber, IsState, AreStates, number_in, done_in, standing}
-use Rattle.path_states.specs.Ways.{Steps, Goes}
+use Rattle.path_states.specs.Ways.{Steps, Goes, Happened}
 use Rattle.path_arrows.specs.Arrows.{bare}
 use Rattle.path_codes.specs.Courses.{on_top}
 
@@ -27,14 +27,10 @@ pub record Tells (a b : List Shape) (n : Node) (t : WordType) (x : Number) (z : 
   pub is : (e : Environment) (v : Values) → Models b e v → (w : ℤ) → number_in v x ≡ wrapped t w
       → (v n.index).truth ≡ same (wrapped t w) z
 
--- the state where this guard is true, on its way to a case, with a side of the `switch` noted where the truth is true
-abbrev pub on_its_way : State → Node → Node → Kind → ℕ → Side → State
-on_its_way s guard always kind at side = record s {
-  guard = guard;
-  kind = kind;
-  events = s.events ++ record { what = noted.Branch at side; position = s.position; truth = always } ∷ [];
-  operands = [];
-}
+-- the state where this guard is true, on its way to a case, with a side of the `switch` noted
+pub record IsOnItsWay (a b : List Shape) (s : State) (guard : Node) (kind : Kind) (at : ℕ) (side : Side) (t : State) : Type 0 where
+  pub is : t ≡ record s { guard = guard; kind = kind; events = t.events; operands = [] }
+  pub happened : Happened a b s.events t.events (record { what = happening.Branch at side; printed = s.position })
 
 -- a run looks for the case of a number, and that is noted; along a log, its position is how many bytes were printed
 abbrev pub looks : ℕ → List ℤ → ℤ → Done ℕ → Done ℕ

@@ -197,13 +197,14 @@ pub fn walk_body<C: Calls>(
         bank.old bank.new ts) }
 {
     let guard = bank.truth(true)?;
+    let events = bank.no_events()?;
     let entry = State {
         guard,
         kind: Kind::Running,
         value: None,
         position,
         memory,
-        events: Items::new(alloc),
+        events,
         operands: Items::new(alloc),
     };
     let states = alone(alloc, entry)?;

@@ -1,21 +1,23 @@
 //! The case of a `switch` that a value takes (C99 6.8.4.2).
 ghost use Rattle.std.specs.Prelude.{◌≡◌, IfOk, OnOk};
 ghost use Rattle.core_tree.specs.Numbers.{is_in};
+ghost use Rattle.term_bank.specs.Terms.{IsTerm};
+ghost use Rattle.term_bank.specs.declared.sort.Sort.TheVariants.{Events};
 ghost use Rattle.path_states.specs.States.{IsNumber, IsState, AreStates};
 ghost use Rattle.bit_words.specs.declared.run.Side.TheVariants as side;
 ghost use Rattle.c_means.specs.declared.kind.Kind.TheVariants as k;
-ghost use Rattle.path_codes.specs.Selecting.{Tells, SelectsCase, Selects, SelectsOne, SelectsAll, on_its_way};
+ghost use Rattle.path_codes.specs.Selecting.{Tells, SelectsCase, Selects, SelectsOne, SelectsAll, IsOnItsWay};
 
 use bit_words::{Side, Width};
 use c_means::Kind;
 use core_tree::{Arithmetic, WordType};
 use path_forms::WalkFault;
 use path_numbers::{constant, truth, worked, wrapped};
-use path_states::{Noted, Number, PathEvent, State, halve};
+use path_states::{Number, State, halve};
 use path_steps::pop;
-use plain_data::{Items, Shared};
-use std::alloc::{AllocError, Global};
-use term_bank::{Bank, Node};
+use plain_data::Items;
+use std::alloc::Global;
+use term_bank::{Bank, BankFault, Node};
 
 /// Whether a type has a number.
 fn has(word: WordType, value: i128) -> bool
@@ -71,40 +73,39 @@ fn is_case(bank: &mut Bank, word: WordType, number: Number, case: &i128) -> Resu
 /// The state where this guard is true, on its way to a case, with a side of the `switch` noted.
 fn chosen(
     alloc: Global,
+    bank: &mut Bank,
     state: &State,
     guard: Node,
-    always: Node,
     kind: Kind,
     at: u32,
     side: Side,
-) -> Result<State, AllocError>
-    ensures { IfOk result (λ t. t ≡ on_its_way state.now guard always kind at side) }
+) -> Result<State, BankFault>
+    requires { IsTerm bank.old Events state.now.events }
+    ensures { IfOk result (IsOnItsWay bank.old bank.new state.now guard kind at side) }
 {
-    let what = Shared::new(alloc, Noted::Branch { at, side })?;
     let mut next = state.copy(alloc)?;
     next.guard = guard;
     next.kind = kind;
     next.operands = Items::new(alloc);
-    next.events.push(PathEvent {
-        what,
-        position: state.position,
-        truth: always,
-    })?;
+    let events = bank.branch_event(state.events, state.position as u64, at, side)?;
+    next.events = events;
     Ok(next)
 }
 
 fn chosen_case(
     alloc: Global,
+    bank: &mut Bank,
     state: &State,
     guard: Node,
-    always: Node,
     at: u32,
     case: &i128,
-) -> Result<State, AllocError>
-    ensures { IfOk result (λ t. t ≡ on_its_way state.now guard always (k.Choosing case.now) at (side.Case case.now)) }
+) -> Result<State, BankFault>
+    requires { IsTerm bank.old Events state.now.events }
+    ensures { IfOk result (IsOnItsWay bank.old bank.new state.now guard (k.Choosing case.now) at
+        (side.Case case.now)) }
 {
     let kind = Kind::Choosing { value: *case };
-    let next = chosen(alloc, state, guard, always, kind, at, Side::Case(*case))?;
+    let next = chosen(alloc, bank, state, guard, kind, at, Side::Case(*case))?;
     Ok(next)
 }
 
@@ -127,8 +128,7 @@ fn select_case(
 {
     let same = is_case(bank, word, number, case)?;
     let sides = halve(bank, state.guard, same)?;
-    let always = bank.truth(true)?;
-    let here = chosen_case(alloc, state, sides.yes, always, at, case)?;
+    let here = chosen_case(alloc, bank, state, sides.yes, at, case)?;
     all.push(here)?;
     let mut other = state.copy(alloc)?;
     other.guard = sides.no;
@@ -158,9 +158,8 @@ fn select(
             Ok(())
         }
         None => {
-            let always = bank.truth(true)?;
             let kind = Kind::Defaulting;
-            let last = chosen(alloc, state, state.guard, always, kind, at, Side::Otherwise)?;
+            let last = chosen(alloc, bank, state, state.guard, kind, at, Side::Otherwise)?;
             all.push(last)?;
             Ok(())
         }

@@ -23,13 +23,14 @@ fn nobody(alloc: Global, bank: &mut Bank) -> Result<State, BankFault>
 {
     let guard = bank.truth(false)?;
     let memory = initial(bank)?;
+    let events = bank.no_events()?;
     Ok(State {
         guard,
         kind: Kind::Running,
         value: None,
         position: 0,
         memory,
-        events: Items::new(alloc),
+        events,
         operands: Items::new(alloc),
     })
 }

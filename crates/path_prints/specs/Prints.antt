@@ -1,5 +1,5 @@
 -- Where a format has been taken: the print is noted, and its length is answered.
-use Rattle.std.specs.Prelude.{ℕ, zero, suc, ◌-◌, ℤ, pos, List, [], ◌∷◌, ◌++◌, Some}
+use Rattle.std.specs.Prelude.{◌≡◌, ℕ, zero, suc, ◌-◌, ℤ, pos, List, [], ◌∷◌, ◌++◌, Some}
 use Rattle.bit_words.specs.declared.run.Event.{Event}
 use Rattle.bit_words.specs.declared.run.Happening.TheVariants as happening
 use Rattle.printf_text.specs.declared.piece.Piece.{Piece}
@@ -8,11 +8,12 @@ use Rattle.core_tree.specs.declared.expr.Watched.{Watched}
 use Rattle.core_tree.specs.declared.types.ValueType.{ValueType}
 use Rattle.core_tree.specs.declared.types.WordType.{WordType}
 use Rattle.core_tree.specs.Numbers.{int, wrapped, converted_to}
+use Rattle.term_bank.specs.declared.sort.Sort.TheVariants.{Events, Numbers}
 use Rattle.term_bank.specs.declared.sort.Node.{Node}
 use Rattle.term_bank.specs.declared.shape.Shape.{Shape}
-use Rattle.path_states.specs.declared.state.Noted.TheVariants as noted
+use Rattle.term_bank.specs.Terms.{IsTerm}
+use Rattle.term_bank.specs.Values.{Environment, Values, Models, Grows}
 use Rattle.path_states.specs.declared.state.Number.{Number}
-use Rattle.path_states.specs.declared.state.PathEvent.{PathEvent}
 use Rattle.path_states.specs.declared.state.State.{State}
 use Rattle.path_states.specs.declared.state.Walked.{Walked}
 use Rattle.path_states.specs.States.{numbers_in}
@@ -34,11 +35,18 @@ print_way at type from shown e v h = Some (record {
   done = record h.done { events = h.done.events ++ print_events at from (h.done.out - from) (numbers_in v shown) };
 })
 
--- the same as a state notes it
-abbrev pub path_print : Node → ℕ → ℕ → ℕ → List Number → List PathEvent
-path_print always at from zero shown = []
-path_print always at from (suc n) shown =
-    record { what = noted.Print at (suc n) shown; position = from; truth = always } ∷ []
+-- a node for the numbers, in order
+pub record Gathers (a b : List Shape) (xs : List Number) (n : Node) : Type 0 where
+  pub grows : Grows a b
+  pub term : IsTerm b Numbers n
+  pub is : (e : Environment) (v : Values) → Models b e v → (v n.index).numbers ≡ numbers_in v xs
+
+-- events, and behind them what is noted of a print of so many bytes
+pub record NotesPrint (a b : List Shape) (at from n : ℕ) (shown : List Number) (before after : Node) : Type 0 where
+  pub grows : Grows a b
+  pub term : IsTerm b Events after
+  pub is : (e : Environment) (v : Values) → Models b e v
+      → (v after.index).events ≡ (v before.index).events ++ print_events at from n (numbers_in v shown)
 
 -- a state becomes what a log call makes of its run
 pub record PrintsBy (x : Around) (room : ℕ) (a b : List Shape) (s : State) (frame : List Placed) (ps : List Piece) (before : ℕ)

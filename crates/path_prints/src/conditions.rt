@@ -54,7 +54,7 @@ fn is_between(bank: &mut Bank, number: Number, low: i64, high: i64) -> Result<No
 }
 
 /// Whether an integer meets a constraint. It fails for want of memory alone.
-fn meets(bank: &mut Bank, constraint: &Constraint, number: Number) -> Result<Node, BankFault>
+fn meets(bank: &mut Bank, constraint: &Constraint<'_>, number: Number) -> Result<Node, BankFault>
     requires { IsNumber bank.old number }
     ensures { IfOk result (λ n. Truthful bank.old bank.new n (λ v. meets_in constraint.now (arg_in v number))) }
 {
@@ -77,7 +77,7 @@ fn meets(bank: &mut Bank, constraint: &Constraint, number: Number) -> Result<Nod
 /// Whether integers meet a constraint each. It fails for want of memory alone.
 pub(crate) fn meet_all(
     bank: &mut Bank,
-    constraints: &[Constraint],
+    constraints: &[Constraint<'_>],
     arguments: &[Number],
 ) -> Result<Node, BankFault>
     requires { AreNumbers bank.old arguments.now }

@@ -56,12 +56,12 @@ fn alone(alloc: Global, piece: &Piece) -> Result<Pieces, AllocError>
 }
 
 /// All ways in which a piece spells the log from a position on. It fails for want of memory alone.
-pub(crate) fn splits_of(
+pub(crate) fn splits_of<'a>(
     alloc: Global,
     piece: &Piece,
-    log: &[u8],
+    log: &'a [u8],
     from: usize,
-) -> Result<SplitList, WalkFault>
+) -> Result<SplitList<'a>, WalkFault>
     requires { from ≤ length log.now }
     ensures { IfOk result (λ list. SplitsExactly (piece.now ∷ []) log.now from list) }
 {

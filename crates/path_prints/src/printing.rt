@@ -1,12 +1,14 @@
 //! Log calls.
-ghost use Rattle.std.specs.Prelude.{◌≡◌, ◌++◌, ℕ, pos, IfOk, OnOk};
+ghost use Rattle.std.specs.Prelude.{◌≡◌, ℕ, pos, IfOk};
+ghost use Rattle.term_bank.specs.Terms.{IsTerm};
+ghost use Rattle.term_bank.specs.declared.sort.Sort.TheVariants.{Events};
 ghost use Rattle.core_tree.specs.Numbers.{int, wrapped as wrapped_to, converted_to};
 ghost use Rattle.path_states.specs.States.{IsState, AreStates, AreNumbers};
 ghost use Rattle.path_states.specs.Ways.{Steps, Goes, Tries};
 ghost use Rattle.path_numbers.specs.Answers.{Numbered};
 ghost use Rattle.path_forms.specs.Around.{Around};
 ghost use Rattle.path_forms.specs.Calling.{call_way};
-ghost use Rattle.path_prints.specs.Prints.{path_print, print_way, PrintsBy};
+ghost use Rattle.path_prints.specs.Prints.{Gathers, NotesPrint, print_way, PrintsBy};
 
 use crate::arguments::{behind, speak};
 use crate::says::say_all;
@@ -15,35 +17,44 @@ use core_tree::{Callee, ValueType, Watched, WordType};
 use path_calls::begin;
 use path_forms::{CallSite, Placed, WalkFault};
 use path_numbers::{INT, constant, converted, wrapped};
-use path_states::{Noted, Number, PathEvent, State, Walked, alone};
-use plain_data::{Items, Shared};
+use path_states::{Number, State, Walked, alone};
+use plain_data::Items;
 use printf_text::Piece;
-use std::alloc::{AllocError, Global};
+use std::alloc::Global;
 use term_bank::{Bank, BankFault, Node};
+
+/// Numbers as one node.
+fn gathered(bank: &mut Bank, numbers: &[Number]) -> Result<Node, BankFault>
+    requires { AreNumbers bank.old numbers.now }
+    ensures { IfOk result (Gathers bank.old bank.new numbers.now) }
+{
+    let mut all = bank.no_numbers()?;
+    for number in numbers {
+        let word = number.word;
+        all = bank.number_behind(all, word.width, word.is_signed, number.node)?;
+    }
+    Ok(all)
+}
 
 /// Notes that so many bytes were printed from a position on; nothing printed is no event.
 fn note_print(
-    alloc: Global,
-    always: Node,
+    bank: &mut Bank,
     at: u32,
     from: usize,
     length: u64,
     seen: &[Number],
-    events: &mut Items<PathEvent>,
-) -> Result<(), AllocError>
-    ensures { OnOk result (events.new ≡ events.old ++ path_print always at from length seen.now) }
+    events: Node,
+) -> Result<Node, BankFault>
+    requires events { IsTerm bank.old Events events }
+    requires seen { AreNumbers bank.old seen.now }
+    ensures { IfOk result (NotesPrint bank.old bank.new at from length seen.now events) }
 {
     if length == 0 {
-        return Ok(());
+        return Ok(events);
     }
-    let seen = Items::from_slice(alloc, seen)?;
-    let what = Shared::new(alloc, Noted::Print { at, length, seen })?;
-    events.push(PathEvent {
-        what,
-        position: from,
-        truth: always,
-    })?;
-    Ok(())
+    let numbers = gathered(bank, seen)?;
+    let noted = bank.print_event(events, from as u64, at, length, numbers)?;
+    Ok(noted)
 }
 
 /// The length as an `int`, converted to the type of the call.
@@ -71,10 +82,10 @@ fn end_print(
         site.answer from seen.now)) }
 {
     let length = state.position.saturating_sub(from) as u64;
-    let always = bank.truth(true)?;
     let last = length_answer(bank, length, site.answer)?;
     let mut next = state.copy(alloc)?;
-    note_print(alloc, always, site.at, from, length, seen, &mut next.events)?;
+    let events = note_print(bank, site.at, from, length, seen, state.events)?;
+    next.events = events;
     next.operands.push(last)?;
     let states = alone(alloc, next)?;
     Ok(states)

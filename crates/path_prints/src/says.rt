@@ -21,7 +21,7 @@ fn put_split(
     alloc: Global,
     bank: &mut Bank,
     state: &State,
-    split: &Split,
+    split: &Split<'_>,
     arguments: &[Number],
     out: &mut Items<State>,
 ) -> Result<(), WalkFault>

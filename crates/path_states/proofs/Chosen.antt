@@ -1,6 +1,6 @@
--- Numbers, events and states by the guard of the first.
-use Rattle.std.proofs.Common.{◌≡◌, ℕ, ℤ, zero, suc, ◌<◌, ◌+◌, List, [], ◌∷◌, ◌++◌, length, take, drop, Bool, true, false, cond, not}
-use Rattle.std.proofs.Common.{Option, Some, None, get_or, refl, sym, ap, ap₂, subst, ◌∙◌, arith, append-nil}
+-- Numbers and states by the guard of the first.
+use Rattle.std.proofs.Common.{◌≡◌, ℕ, ℤ, zero, suc, ◌<◌, ◌+◌, List, [], ◌∷◌, ◌++◌, length, take, Bool, true, false, cond}
+use Rattle.std.proofs.Common.{Option, Some, None, get_or, refl, sym, ap, ◌∙◌}
 use Rattle.std.specs.Prelude.{slice_get}
 use Rattle.std.proofs.lemmas.List.{take_more}
 use Rattle.std.proofs.lemmas.Option.{slice_get-get_or}
@@ -8,7 +8,7 @@ use Rattle.bit_words.specs.declared.run.Event.{Event}
 use Rattle.c_store.specs.Store.{Store}
 use Rattle.core_tree.specs.declared.types.WordType.{WordType}
 use Rattle.core_tree.specs.Numbers.{value_of_word}
-use Rattle.term_bank.specs.declared.sort.Sort.TheVariants.{Truth, Word, Memory}
+use Rattle.term_bank.specs.declared.sort.Sort.TheVariants.{Truth, Word, Memory, Events}
 use Rattle.term_bank.specs.declared.sort.Node.{Node}
 use Rattle.term_bank.specs.declared.shape.Connective.TheVariants as connective
 use Rattle.term_bank.specs.declared.shape.Shape.{Shape}
@@ -18,13 +18,11 @@ use Rattle.term_bank.specs.Values.{Worth, Grows, IsWorth}
 use Rattle.term_bank.proofs.BankLemmas.{weaken, stays, grows_on}
 use Rattle.term_bank.proofs.TermLemmas.{term_grown}
 use Rattle.path_states.specs.declared.state.Number.{Number}
-use Rattle.path_states.specs.declared.state.PathEvent.{PathEvent}
 use Rattle.path_states.specs.declared.state.State.{State}
-use Rattle.path_states.specs.States.{Held, IsNumber, AreNumbers, IsEvent, AreEvents}
-use Rattle.path_states.specs.States.{number_in, maybe_number, onto, seen, event_in, run_in}
+use Rattle.path_states.specs.States.{Held, IsNumber, AreNumbers, number_in, maybe_number, onto, run_in}
 use Rattle.path_states.specs.Ways.{Halves}
-use Rattle.path_states.specs.Merges.{AlikeNumbers, Alike, ChosenOne, ChosenMaybe, ChosenAll, Guarded, ChosenEvents, IsCommon, Merges}
-use Rattle.path_states.proofs.Growth.{numbers_grown, maybe_grown, events_grown, numbers_joined, events_joined, onto_pushed, seen_joined}
+use Rattle.path_states.specs.Merges.{AlikeNumbers, Alike, ChosenOne, ChosenMaybe, ChosenAll, Merges}
+use Rattle.path_states.proofs.Growth.{numbers_grown, maybe_grown, numbers_joined, onto_pushed}
 
 -- ---- numbers
 
@@ -59,7 +57,7 @@ chosen_some a b condition x y z h = record {
   is = λ e v m. some_chosen (v condition.index).truth (number_in v x) (number_in v y) (number_in v z) (h.is e v m);
 }
 
-none_chosen : {A : Type 0} (c : Bool) (x : A) → x ≡ cond c x x
+pub none_chosen : {A : Type 0} (c : Bool) (x : A) → x ≡ cond c x x
 none_chosen true x = refl
 none_chosen false x = refl
 
@@ -142,122 +140,15 @@ chosen_next a b c condition i d z xs ys zs j k h l =
     rw (take_more xs i d j, take_more ys i d k)
     (chosen_more a b c condition (get_or xs i d) (get_or ys i d) z (take i xs) (take i ys) zs h l)
 
--- ---- events
-
-pub event_of : (b : List Shape) (xs : List PathEvent) (i : ℕ) (x : PathEvent) → AreEvents b xs → slice_get xs i ≡ Some x → IsEvent b x
-event_of b [] i x h is = absurd (cc)
-event_of b (y ∷ ys) zero x h is = let same : y ≡ x = cc in rw (← same) h.0
-event_of b (y ∷ ys) (suc i) x h is = event_of b ys i x h.1 is
-
-pub guarded_none : (a : List Shape) (guard : Node) → Guarded a a guard [] []
-guarded_none a guard = record { grows = stays; events = tt; are = λ e v m. none_chosen (v guard.index).truth [] }
-
-guarded_seen : (g t u : Bool) (p q : List Event) (n : Event) → q ≡ cond g p [] → u ≡ cond g t false
-    → q ++ cond u (n ∷ []) [] ≡ cond g (p ++ cond t (n ∷ []) []) []
-guarded_seen true t u p q n h k = rw (h, k) refl
-guarded_seen false t u p q n h k = rw (h, k) refl
-
-pub guarded_more : (a b c : List Shape) (guard truth : Node) (x : PathEvent) (xs zs : List PathEvent) → IsEvent b x
-    → Guarded a b guard xs zs → Grows b c → IsTerm c Truth truth
-    → IsWorth c (Connect connective.And guard.index x.truth.index) truth
-    → Guarded a c guard (xs ++ x ∷ []) (zs ++ record { what = x.what; position = x.position; truth = truth } ∷ [])
-guarded_more a b c guard truth x xs zs event h g term is =
-    let y : PathEvent = record { what = x.what; position = x.position; truth = truth } in
-    let grown : AreEvents c (x ∷ []) = events_grown g (x ∷ []) (event, tt) in
-    record {
-      grows = grows_on h.grows g;
-      events = events_joined c zs (y ∷ []) (events_grown g zs h.events) (record { what = grown.0.what; truth = term }, tt);
-      are = λ e v m.
-          seen_joined v zs (y ∷ [])
-          ∙ guarded_seen (v guard.index).truth (v x.truth.index).truth (v truth.index).truth (seen v xs) (seen v zs) (event_in v x)
-          (h.are e v (weaken g m)) (ap (λ (w : Worth). w.truth) (is.is e v m))
-          ∙ ap (λ l. cond (v guard.index).truth l []) (sym (seen_joined v xs (x ∷ [])));
-    }
-
-both_seen : (g o : Bool) (p q p' q' : List Event) → p' ≡ cond g p [] → q' ≡ cond o q [] → o ≡ not g → p' ++ q' ≡ cond g p q
-both_seen true o p q p' q' h k l = rw (h, k, l) (append-nil p)
-both_seen false o p q p' q' h k l = rw (h, k, l) refl
-
-pub events_chosen : (a b c d : List Shape) (guard other : Node) (xs ys xs' ys' : List PathEvent)
-    → Grows a b → IsWorth b (Not guard.index) other → Guarded b c guard xs xs' → Guarded c d other ys ys'
-    → ChosenEvents a d guard xs ys (xs' ++ ys')
-events_chosen a b c d guard other xs ys xs' ys' g is h i = record {
-  grows = grows_on g (grows_on h.grows i.grows);
-  events = events_joined d xs' ys' (events_grown i.grows xs' h.events) i.events;
-  are = λ e v m.
-      let mc = weaken i.grows m in
-      seen_joined v xs' ys'
-      ∙ both_seen (v guard.index).truth (v other.index).truth (seen v xs) (seen v ys) (seen v xs') (seen v ys')
-      (h.are e v mc) (i.are e v m) (ap (λ (w : Worth). w.truth) (is.is e v (weaken h.grows mc)));
-}
-
--- ---- what both begin with
-
-pub same_more : (xs ys : List Number) (i : ℕ) (d : Number) → i < length xs → i < length ys → take i xs ≡ take i ys → get_or xs i d ≡ get_or ys i d
-    → take (i + 1) xs ≡ take (i + 1) ys
-same_more xs ys i d h k same one =
-    take_more xs i d h ∙ ap₂ (λ l z. l ++ z ∷ []) same one ∙ sym (take_more ys i d k)
-
-cond_front : (g : Bool) (p q r : List Event) → p ++ cond g q r ≡ cond g (p ++ q) (p ++ r)
-cond_front true p q r = refl
-cond_front false p q r = refl
-
-chosen_behind : (a b : List Shape) (guard : Node) (front xs ys zs : List PathEvent) → AreEvents a front → ChosenEvents a b guard xs ys zs
-    → ChosenEvents a b guard (front ++ xs) (front ++ ys) (front ++ zs)
-chosen_behind a b guard front xs ys zs is h = record {
-  grows = h.grows;
-  events = events_joined b front zs (events_grown h.grows front is) h.events;
-  are = λ e v m.
-      seen_joined v front zs
-      ∙ ap (λ l. seen v front ++ l) (h.are e v m)
-      ∙ cond_front (v guard.index).truth (seen v front) (seen v xs) (seen v ys)
-      ∙ ap₂ (λ l r. cond (v guard.index).truth l r) (sym (seen_joined v front xs)) (sym (seen_joined v front ys));
-}
-
-pub events_front : (a : List Shape) (xs ys : List PathEvent) → AreEvents a (xs ++ ys) → AreEvents a xs
-events_front a [] ys h = tt
-events_front a (x ∷ xs) ys h = (h.0, events_front a xs ys h.1)
-
-pub events_back : (a : List Shape) (xs ys : List PathEvent) → AreEvents a (xs ++ ys) → AreEvents a ys
-events_back a [] ys h = h
-events_back a (x ∷ xs) ys h = events_back a xs ys h.1
-
-parted : (n : ℕ) (xs : List PathEvent) → take n xs ++ drop n xs ≡ xs
-parted zero xs = refl
-parted (suc n) [] = refl
-parted (suc n) (x ∷ xs) = ap (λ l. x ∷ l) (parted n xs)
-
-pub taken : (a : List Shape) (n : ℕ) (xs : List PathEvent) → AreEvents a xs → AreEvents a (take n xs)
-taken a n xs h = events_front a (take n xs) (drop n xs) (subst (AreEvents a) (sym (parted n xs)) h)
-
-pub left : (a : List Shape) (n : ℕ) (xs : List PathEvent) → AreEvents a xs → AreEvents a (drop n xs)
-left a n xs h = events_back a (take n xs) (drop n xs) (subst (AreEvents a) (sym (parted n xs)) h)
-
-pub chosen_whole : (a b : List Shape) (guard : Node) (n : ℕ) (xs ys zs : List PathEvent) → IsCommon xs ys n → AreEvents a xs
-    → ChosenEvents a b guard (drop n xs) (drop n ys) zs → ChosenEvents a b guard xs ys (take n xs ++ zs)
-chosen_whole a b guard n xs ys zs common is h =
-    subst (λ l. ChosenEvents a b guard l ys (take n xs ++ zs)) (parted n xs)
-    (subst (λ r. ChosenEvents a b guard (take n xs ++ drop n xs) r (take n xs ++ zs)) (ap (λ l. l ++ drop n ys) common.same ∙ parted n ys)
-    (chosen_behind a b guard (take n xs) (drop n xs) (drop n ys) zs (taken a n xs is) h))
-
-pub common_none : (xs ys : List PathEvent) → IsCommon xs ys 0
-common_none xs ys = record { first = omega arith; second = omega arith; same = refl }
-
-pub common_more : (xs ys : List PathEvent) (n : ℕ) (x y : PathEvent) → IsCommon xs ys n → n < length xs → n < length ys → x ≡ get_or xs n x
-    → y ≡ get_or ys n y → x ≡ y → IsCommon xs ys (n + 1)
-common_more xs ys n x y h inside within ours theirs same = record {
-  first = omega (arith, inside);
-  second = omega (arith, within);
-  same = one_more xs n x inside ours ∙ ap₂ (λ l z. l ++ z ∷ []) h.same same ∙ sym (one_more ys n y within theirs);
-} where
-  one_more : (zs : List PathEvent) (n : ℕ) (z : PathEvent) → n < length zs → z ≡ get_or zs n z → take (n + 1) zs ≡ take n zs ++ z ∷ []
-  one_more zs n z h is = take_more zs n z h ∙ ap (λ t. take n zs ++ t ∷ []) (sym is)
-
 -- ---- states
 
 store_chosen : (c : Bool) (x y z : Worth) → z ≡ cond c x y → z.store ≡ cond c x.store y.store
 store_chosen true x y z h = ap (λ (w : Worth). w.store) h
 store_chosen false x y z h = ap (λ (w : Worth). w.store) h
+
+events_chosen : (c : Bool) (x y z : Worth) → z ≡ cond c x y → z.events ≡ cond c x.events y.events
+events_chosen true x y z h = ap (λ (w : Worth). w.events) h
+events_chosen false x y z h = ap (λ (w : Worth). w.events) h
 
 -- a run whose parts are each of the first or of the second is the first or the second
 run_chosen : (g : Bool) (s t : Held) (value : Option ℤ) (store : Store) (events : List Event) (operands : List ℤ)
@@ -272,11 +163,12 @@ run_chosen true s t value store events operands k o hv hs he ho = rw (hv, hs, he
 run_chosen false s t value store events operands k o hv hs he ho = rw (hv, hs, he, ho, k, o) refl
 
 pub merged : (a b c d f k : List Shape) (s t : State) (guard : Node) (value : Option Number) (memory : Node)
-    (operands : List Number) (events : List PathEvent) → Alike s t
+    (operands : List Number) (events : Node) → Alike s t
     → Grows a b → IsTerm b Truth guard → IsWorth b (Connect connective.Or s.guard.index t.guard.index) guard
     → ChosenMaybe b c s.guard s.value t.value value
     → Grows c d → IsTerm d Memory memory → IsWorth d (Choose Memory s.guard.index s.memory.index t.memory.index) memory
-    → ChosenAll d f s.guard s.operands t.operands operands → ChosenEvents f k s.guard s.events t.events events
+    → ChosenAll d f s.guard s.operands t.operands operands
+    → Grows f k → IsTerm k Events events → IsWorth k (Choose Events s.guard.index s.events.index t.events.index) events
     → Merges a k s t (record {
       guard = guard;
       kind = s.kind;
@@ -286,26 +178,26 @@ pub merged : (a b c d f k : List Shape) (s t : State) (guard : Node) (value : Op
       events = events;
       operands = operands;
     })
-merged a b c d f k s t guard value memory operands events alike gb tg ig hv gd tm im ho he =
-    let gk = grows_on hv.grows (grows_on gd (grows_on ho.grows he.grows)) in
-    let dk = grows_on ho.grows he.grows in
+merged a b c d f k s t guard value memory operands events alike gb tg ig hv gd tm im ho ge te ie =
+    let gk = grows_on hv.grows (grows_on gd (grows_on ho.grows ge)) in
+    let dk = grows_on ho.grows ge in
     record {
       grows = grows_on gb gk;
       state = record {
         guard = term_grown b k _ guard gk tg;
         memory = term_grown d k _ memory dk tm;
         value = maybe_grown (grows_on gd dk) value hv.number;
-        events = he.events;
-        operands = numbers_grown he.grows operands ho.numbers;
+        events = te;
+        operands = numbers_grown ge operands ho.numbers;
       };
       guard = λ e v m. ap (λ (w : Worth). w.truth) (ig.is e v (weaken gk m));
       is = λ e v m.
-          run_chosen (v s.guard.index).truth (run_in v s) (run_in v t) (maybe_number v value) (v memory.index).store (seen v events)
+          run_chosen (v s.guard.index).truth (run_in v s) (run_in v t) (maybe_number v value) (v memory.index).store (v events.index).events
           (onto v [] operands) alike.kind alike.position
           (hv.is e v (weaken (grows_on gd dk) m))
           (store_chosen (v s.guard.index).truth (v s.memory.index) (v t.memory.index) (v memory.index) (im.is e v (weaken dk m)))
-          (he.are e v m)
-          (ho.are e v (weaken he.grows m));
+          (events_chosen (v s.guard.index).truth (v s.events.index) (v t.events.index) (v events.index) (ie.is e v m))
+          (ho.are e v (weaken ge m));
     }
 
 -- ---- guards

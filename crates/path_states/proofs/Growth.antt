@@ -4,12 +4,8 @@ use Rattle.term_bank.specs.declared.shape.Shape.{Shape}
 use Rattle.term_bank.specs.Values.{Values, Grows}
 use Rattle.term_bank.proofs.TermLemmas.{term_grown}
 use Rattle.path_states.specs.declared.state.Number.{Number}
-use Rattle.path_states.specs.declared.state.Noted.{Noted}
-use Rattle.path_states.specs.declared.state.Noted.TheVariants as noted
-use Rattle.path_states.specs.declared.state.PathEvent.{PathEvent}
 use Rattle.path_states.specs.declared.state.State.{State}
-use Rattle.path_states.specs.States.{IsNumber, AreNumbers, IsMaybeNumber, IsNoted, AreEvents, IsState, AreStates}
-use Rattle.path_states.specs.States.{number_in, onto, seen, event_in, run_in, standing}
+use Rattle.path_states.specs.States.{IsNumber, AreNumbers, IsMaybeNumber, IsState, AreStates, number_in, onto, run_in, standing}
 
 module _ {a b : List Shape} (g : Grows a b) where
   pub number_grown : (x : Number) → IsNumber a x → IsNumber b x
@@ -23,22 +19,12 @@ module _ {a b : List Shape} (g : Grows a b) where
   maybe_grown None h = tt
   maybe_grown (Some x) h = number_grown x h
 
-  noted_grown : (x : Noted) → IsNoted a x → IsNoted b x
-  noted_grown (noted.Branch at side) h = tt
-  noted_grown (noted.Call at) h = tt
-  noted_grown (noted.Print at length xs) h = numbers_grown xs h
-
-  pub events_grown : (xs : List PathEvent) → AreEvents a xs → AreEvents b xs
-  events_grown [] h = tt
-  events_grown (x ∷ xs) h =
-      (record { what = noted_grown x.what h.0.what; truth = term_grown a b _ x.truth g h.0.truth }, events_grown xs h.1)
-
   pub state_grown : (s : State) → IsState a s → IsState b s
   state_grown s h = record {
     guard = term_grown a b _ s.guard g h.guard;
     memory = term_grown a b _ s.memory g h.memory;
     value = maybe_grown s.value h.value;
-    events = events_grown s.events h.events;
+    events = term_grown a b _ s.events g h.events;
     operands = numbers_grown s.operands h.operands;
   }
 
@@ -56,10 +42,6 @@ pub numbers_joined : (b : List Shape) (xs ys : List Number) → AreNumbers b xs 
 numbers_joined b [] ys h k = k
 numbers_joined b (x ∷ xs) ys h k = (h.0, numbers_joined b xs ys h.1 k)
 
-pub events_joined : (b : List Shape) (xs ys : List PathEvent) → AreEvents b xs → AreEvents b ys → AreEvents b (xs ++ ys)
-events_joined b [] ys h k = k
-events_joined b (x ∷ xs) ys h k = (h.0, events_joined b xs ys h.1 k)
-
 pub onto_pushed : (v : Values) (zs : List ℤ) (xs : List Number) (x : Number)
     → onto v zs (xs ++ x ∷ []) ≡ number_in v x ∷ onto v zs xs
 onto_pushed v zs [] x = refl
@@ -69,11 +51,6 @@ cond_joined : {A : Type 0} (c : _) (x : A) (xs ys zs : List A) → zs ≡ xs ++ 
     → cond c (x ∷ zs) zs ≡ cond c (x ∷ xs) xs ++ ys
 cond_joined true x xs ys zs h = ap (λ l. x ∷ l) h
 cond_joined false x xs ys zs h = h
-
-pub seen_joined : (v : Values) (xs ys : List PathEvent) → seen v (xs ++ ys) ≡ seen v xs ++ seen v ys
-seen_joined v [] ys = refl
-seen_joined v (x ∷ xs) ys =
-    cond_joined (v x.truth.index).truth (event_in v x) (seen v xs) (seen v ys) (seen v (xs ++ ys)) (seen_joined v xs ys)
 
 pub standing_joined : (v : Values) (ss ts : List State) → standing v (ss ++ ts) ≡ standing v ss ++ standing v ts
 standing_joined v [] ts = refl

@@ -2,3 +2,4 @@ pub mod Growth
 pub mod Paths
 pub mod Chosen
 pub mod Joined
+pub mod Events

@@ -1,14 +1,11 @@
 -- Two states as one.
-use Rattle.std.specs.Prelude.{◌≡◌, ◌≤◌, ℕ, ℤ, List, [], ◌∷◌, length, take, true, cond, Option, Some, None}
-use Rattle.bit_words.specs.declared.run.Event.{Event}
+use Rattle.std.specs.Prelude.{◌≡◌, List, [], ◌∷◌, true, cond, Option, Some, None}
 use Rattle.term_bank.specs.declared.sort.Node.{Node}
 use Rattle.term_bank.specs.declared.shape.Shape.{Shape}
 use Rattle.term_bank.specs.Values.{Environment, Values, Models, Grows}
 use Rattle.path_states.specs.declared.state.Number.{Number}
-use Rattle.path_states.specs.declared.state.PathEvent.{PathEvent}
 use Rattle.path_states.specs.declared.state.State.{State}
-use Rattle.path_states.specs.States.{IsNumber, IsMaybeNumber, AreNumbers, AreEvents, IsState}
-use Rattle.path_states.specs.States.{number_in, maybe_number, onto, seen, run_in}
+use Rattle.path_states.specs.States.{IsNumber, IsMaybeNumber, AreNumbers, IsState, number_in, maybe_number, onto, run_in}
 
 -- numbers of the same types
 abbrev pub AlikeNumbers : List Number → List Number → Type 0
@@ -48,26 +45,6 @@ pub record ChosenAll (a b : List Shape) (condition : Node) (xs ys zs : List Numb
   pub numbers : AreNumbers b zs
   pub are : (e : Environment) (v : Values) → Models b e v
       → onto v [] zs ≡ cond (v condition.index).truth (onto v [] xs) (onto v [] ys)
-
--- the events where the guard is true, and else none
-pub record Guarded (a b : List Shape) (guard : Node) (xs zs : List PathEvent) : Type 0 where
-  pub grows : Grows a b
-  pub events : AreEvents b zs
-  pub are : (e : Environment) (v : Values) → Models b e v
-      → seen v zs ≡ cond (v guard.index).truth (seen v xs) []
-
--- so many events begin both lists
-pub record IsCommon (xs ys : List PathEvent) (n : ℕ) : Type 0 where
-  pub first : n ≤ length xs
-  pub second : n ≤ length ys
-  pub same : take n xs ≡ take n ys
-
--- the first events where the guard is true, and else the second
-pub record ChosenEvents (a b : List Shape) (guard : Node) (xs ys zs : List PathEvent) : Type 0 where
-  pub grows : Grows a b
-  pub events : AreEvents b zs
-  pub are : (e : Environment) (v : Values) → Models b e v
-      → seen v zs ≡ cond (v guard.index).truth (seen v xs) (seen v ys)
 
 -- the state that is the first where its guard is true, and else the second
 pub record Merges (a b : List Shape) (s t m : State) : Type 0 where

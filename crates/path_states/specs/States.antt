@@ -1,21 +1,15 @@
 -- What states made of terms say of runs along a log.
 use Rattle.std.specs.Prelude.{◌≡◌, ◌+◌, ◌≤◌, ◌<◌, ◌^◌, ℕ, ℤ, List, [], ◌∷◌, cond, Option, Some, None}
-use Rattle.bit_words.specs.declared.run.Event.{Event}
-use Rattle.bit_words.specs.declared.run.Happening.{Happening}
-use Rattle.bit_words.specs.declared.run.Happening.TheVariants as happening
 use Rattle.c_store.specs.declared.object.Object.{Object}
 use Rattle.c_store.specs.Store.{Store}
 use Rattle.core_tree.specs.Numbers.{value_of_word}
 use Rattle.core_tree.specs.States.{Done}
-use Rattle.term_bank.specs.declared.sort.Sort.TheVariants.{Truth, Word, Memory}
+use Rattle.term_bank.specs.declared.sort.Sort.TheVariants.{Truth, Word, Memory, Events}
 use Rattle.term_bank.specs.declared.sort.Node.{Node}
 use Rattle.term_bank.specs.declared.shape.Shape.{Shape}
 use Rattle.term_bank.specs.Terms.{IsTerm}
 use Rattle.term_bank.specs.Values.{Environment, Values}
 use Rattle.path_states.specs.declared.state.Number.{Number}
-use Rattle.path_states.specs.declared.state.Noted.{Noted}
-use Rattle.path_states.specs.declared.state.Noted.TheVariants as noted
-use Rattle.path_states.specs.declared.state.PathEvent.{PathEvent}
 use Rattle.path_states.specs.declared.state.State.{State}
 
 -- ---- what nodes say, by their values
@@ -37,19 +31,6 @@ abbrev pub onto : Values → List ℤ → List Number → List ℤ
 onto v zs [] = zs
 onto v zs (x ∷ xs) = onto v (number_in v x ∷ zs) xs
 
-abbrev pub happening_in : Values → Noted → Happening
-happening_in v (noted.Branch at side) = happening.Branch at side
-happening_in v (noted.Call at) = happening.Call at
-happening_in v (noted.Print at length seen) = happening.Print at length (numbers_in v seen)
-
-abbrev pub event_in : Values → PathEvent → Event
-event_in v x = record { what = happening_in v x.what; printed = x.position }
-
--- the events whose truth is true
-abbrev pub seen : Values → List PathEvent → List Event
-seen v [] = []
-seen v (x ∷ xs) = cond (v x.truth.index).truth (event_in v x ∷ seen v xs) (seen v xs)
-
 -- ---- runs
 
 -- A run along a log that is inside an expression: the operands that wait, the last one on top, and the state.
@@ -62,7 +43,7 @@ done_in v s = record {
   kind = s.kind;
   value = maybe_number v s.value;
   store = (v s.memory.index).store;
-  events = seen v s.events;
+  events = (v s.events.index).events;
   out = s.position;
 }
 
@@ -88,25 +69,12 @@ abbrev pub IsMaybeNumber : List Shape → Option Number → Type 0
 IsMaybeNumber b None = Unit {0}
 IsMaybeNumber b (Some x) = IsNumber b x
 
-abbrev pub IsNoted : List Shape → Noted → Type 0
-IsNoted b (noted.Branch at side) = Unit {0}
-IsNoted b (noted.Call at) = Unit {0}
-IsNoted b (noted.Print at length seen) = AreNumbers b seen
-
-pub record IsEvent (b : List Shape) (x : PathEvent) : Type 0 where
-  pub what : IsNoted b x.what
-  pub truth : IsTerm b Truth x.truth
-
-abbrev pub AreEvents : List Shape → List PathEvent → Type 0
-AreEvents b [] = Unit {0}
-AreEvents b (x ∷ xs) = IsEvent b x × AreEvents b xs
-
 -- the state's nodes stand in the bank, each under its sort
 pub record IsState (b : List Shape) (s : State) : Type 0 where
   pub guard : IsTerm b Truth s.guard
   pub memory : IsTerm b Memory s.memory
   pub value : IsMaybeNumber b s.value
-  pub events : AreEvents b s.events
+  pub events : IsTerm b Events s.events
   pub operands : AreNumbers b s.operands
 
 abbrev pub AreStates : List Shape → List State → Type 0

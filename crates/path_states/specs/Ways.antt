@@ -1,8 +1,9 @@
 -- What becomes of states: at most one of them stands, and its run goes on.
-use Rattle.std.specs.Prelude.{◌≡◌, ℕ, List, [], ◌∷◌, Bool, true, false, cond, not, Option, Some, None, Result, Ok, Err}
+use Rattle.std.specs.Prelude.{◌≡◌, ℕ, List, [], ◌∷◌, ◌++◌, Bool, true, false, cond, not, Option, Some, None, Result, Ok, Err}
+use Rattle.bit_words.specs.declared.run.Event.{Event}
 use Rattle.core_tree.specs.States.{Done}
 use Rattle.term_bank.specs.declared.sort.Sort.{Sort}
-use Rattle.term_bank.specs.declared.sort.Sort.TheVariants.{Truth}
+use Rattle.term_bank.specs.declared.sort.Sort.TheVariants.{Truth, Events}
 use Rattle.term_bank.specs.declared.sort.Node.{Node}
 use Rattle.term_bank.specs.declared.shape.Shape.{Shape}
 use Rattle.term_bank.specs.Terms.{IsTerm}
@@ -96,3 +97,9 @@ pub record Halves (a b : List Shape) (guard truth yes no : Node) : Type 0 where
       → (v yes.index).truth ≡ cond (v guard.index).truth (v truth.index).truth false
   pub no_is : (e : Environment) (v : Values) → Models b e v
       → (v no.index).truth ≡ cond (v guard.index).truth (not (v truth.index).truth) false
+
+-- events, and behind them one more
+pub record Happened (a b : List Shape) (before after : Node) (x : Event) : Type 0 where
+  pub grows : Grows a b
+  pub term : IsTerm b Events after
+  pub is : (e : Environment) (v : Values) → Models b e v → (v after.index).events ≡ (v before.index).events ++ x ∷ []

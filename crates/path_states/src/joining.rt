@@ -1,14 +1,13 @@
 ghost use Rattle.std.specs.Prelude.{◌≡◌, ◌<◌, ◌++◌, ◌∷◌, [], length, IfOk, OnOk, Some, ℕ, true, slice_get};
 ghost use Rattle.term_bank.specs.Terms.{IsTerm};
 ghost use Rattle.term_bank.specs.declared.sort.Sort.TheVariants.{Truth};
-ghost use Rattle.path_states.specs.States.{AreNumbers, IsNumber, IsMaybeNumber, AreEvents, IsState, AreStates};
+ghost use Rattle.path_states.specs.States.{AreNumbers, IsNumber, IsMaybeNumber, IsState, AreStates};
 ghost use Rattle.path_states.specs.Ways.{Goes, stay};
-ghost use Rattle.path_states.specs.Merges.{AlikeNumbers, AlikeMaybe, Alike};
-ghost use Rattle.path_states.specs.Merges.{ChosenOne, ChosenMaybe, ChosenAll, Guarded, ChosenEvents, IsCommon, Merges};
+ghost use Rattle.path_states.specs.Merges.{AlikeNumbers, AlikeMaybe, Alike, ChosenOne, ChosenMaybe, ChosenAll, Merges};
 ghost use Rattle.path_states.specs.declared.state.State.{State as StateType};
 
 use crate::kinds::{copy_kind, is_same_kind};
-use crate::state::{Noted, Number, PathEvent, State, copy_events};
+use crate::state::{Number, State};
 use core_tree::WordType;
 use plain_data::Items;
 use std::alloc::Global;
@@ -78,146 +77,6 @@ fn chosen_all(
     Ok(all)
 }
 
-/// The events where the guard is true too.
-fn guarded(
-    alloc: Global,
-    bank: &mut Bank,
-    guard: Node,
-    events: &[PathEvent],
-) -> Result<Items<PathEvent>, BankFault>
-    requires guard { IsTerm bank.old Truth guard }
-    requires events { AreEvents bank.old events.now }
-    ensures { IfOk result (λ zs. Guarded bank.old bank.new guard events.now zs) }
-{
-    let mut all = Items::new(alloc);
-    for event in events {
-        let truth = bank.connect(Connective::And, guard, event.truth)?;
-        let what = event.what.clone()?;
-        all.push(PathEvent {
-            what,
-            position: event.position,
-            truth,
-        })?;
-    }
-    Ok(all)
-}
-
-/// The events of the first where its guard is true, and else those of the second, each under its guard.
-fn chosen_apart(
-    alloc: Global,
-    bank: &mut Bank,
-    guard: Node,
-    first: &[PathEvent],
-    second: &[PathEvent],
-) -> Result<Items<PathEvent>, BankFault>
-    requires guard { IsTerm bank.old Truth guard }
-    requires first { AreEvents bank.old first.now }
-    requires second { AreEvents bank.old second.now }
-    ensures { IfOk result (λ zs. ChosenEvents bank.old bank.new guard first.now second.now zs) }
-{
-    let other = bank.not(guard)?;
-    let mut events = guarded(alloc, bank, guard, first)?;
-    let more = guarded(alloc, bank, other, second)?;
-    events.append(more)?;
-    Ok(events)
-}
-
-fn is_same_number(first: Number, second: Number) -> bool
-    ensures { result ≡ true → first ≡ second }
-{
-    first == second
-}
-
-fn are_same_numbers(first: &[Number], second: &[Number]) -> bool
-    ensures { result ≡ true → first.now ≡ second.now }
-{
-    if first.len() != second.len() {
-        return false;
-    }
-    for i in 0..first.len() {
-        if !is_same_number(first[i], second[i]) {
-            return false;
-        }
-    }
-    true
-}
-
-fn is_same_noted(first: &Noted, second: &Noted) -> bool
-    ensures { result ≡ true → first.now ≡ second.now }
-{
-    match first {
-        Noted::Branch { at, side } => match second {
-            Noted::Branch {
-                at: other,
-                side: taken,
-            } => *at == *other && *side == *taken,
-            Noted::Call { .. } | Noted::Print { .. } => false,
-        },
-        Noted::Call { at } => match second {
-            Noted::Call { at: other } => *at == *other,
-            Noted::Branch { .. } | Noted::Print { .. } => false,
-        },
-        Noted::Print { at, length, seen } => match second {
-            Noted::Print {
-                at: other,
-                length: long,
-                seen: shown,
-            } => {
-                *at == *other
-                    && *length == *long
-                    && are_same_numbers(seen.as_slice(), shown.as_slice())
-            }
-            Noted::Branch { .. } | Noted::Call { .. } => false,
-        },
-    }
-}
-
-/// Whether two events are one, by the same nodes.
-fn is_same_event(first: &PathEvent, second: &PathEvent) -> bool
-    ensures { result ≡ true → first.now ≡ second.now }
-{
-    first.position == second.position
-        && first.truth == second.truth
-        && is_same_noted(first.what.get(), second.what.get())
-}
-
-/// How many events two lists begin with alike.
-fn common_len(first: &[PathEvent], second: &[PathEvent]) -> usize
-    ensures { IsCommon first.now second.now result }
-{
-    let mut common = 0;
-    'common: while common < first.len() && common < second.len() {
-        if !is_same_event(&first[common], &second[common]) {
-            return common;
-        }
-        common += 1;
-    }
-    common
-}
-
-/// The events of the first where its guard is true, and else those of the second. What both begin with is kept once, so
-/// the events of two sides of a branch are those before it, and what each side adds.
-fn chosen_events(
-    alloc: Global,
-    bank: &mut Bank,
-    guard: Node,
-    first: &[PathEvent],
-    second: &[PathEvent],
-) -> Result<Items<PathEvent>, BankFault>
-    requires guard { IsTerm bank.old Truth guard }
-    requires first { AreEvents bank.old first.now }
-    requires second { AreEvents bank.old second.now }
-    ensures { IfOk result (λ zs. ChosenEvents bank.old bank.new guard first.now second.now zs) }
-{
-    let common = common_len(first, second);
-    let (front, ours) = first.split_at(common);
-    let (_, theirs) = second.split_at(common);
-    let mut events = copy_events(alloc, front)?;
-    let more = chosen_apart(alloc, bank, guard, ours, theirs)?;
-    events.append(more)?;
-    Ok(events)
-}
-
 /// The state that is the first where its guard is true, and else the second.
 fn merge(alloc: Global, bank: &mut Bank, first: &State, second: &State) -> Result<State, BankFault>
     requires first { IsState bank.old first.now }
@@ -237,13 +96,7 @@ fn merge(alloc: Global, bank: &mut Bank, first: &State, second: &State) -> Resul
         first.operands.as_slice(),
         second.operands.as_slice(),
     )?;
-    let events = chosen_events(
-        alloc,
-        bank,
-        condition,
-        first.events.as_slice(),
-        second.events.as_slice(),
-    )?;
+    let events = bank.choose(Sort::Events, condition, first.events, second.events)?;
     Ok(State {
         guard,
         kind,

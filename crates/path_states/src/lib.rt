@@ -9,4 +9,4 @@ mod state;
 pub use guards::{Sides, halve};
 pub use joining::join;
 pub use kinds::copy_kind;
-pub use state::{Noted, Number, PathEvent, State, Walked, alone, settled};
+pub use state::{Number, State, Walked, alone, settled};

@@ -1,10 +1,9 @@
-ghost use Rattle.std.specs.Prelude.{◌≡◌, ◌∷◌, ◌++◌, [], IfOk, OnOk};
+ghost use Rattle.std.specs.Prelude.{◌≡◌, ◌∷◌, [], IfOk};
 
 use crate::kinds::copy_kind;
-use bit_words::Side;
 use c_means::Kind;
 use core_tree::WordType;
-use plain_data::{Items, Shared};
+use plain_data::Items;
 use std::alloc::{AllocError, Global};
 use term_bank::Node;
 
@@ -15,36 +14,8 @@ pub struct Number {
     pub word: WordType,
 }
 
-/// What facts speak of, by terms. `at` is the byte offset of a token in the source.
-#[derive(Drop)]
-pub enum Noted {
-    /// The branch at the token takes a side.
-    Branch {
-        at: u32,
-        side: Side,
-    },
-    /// The call at the callee's name begins, its arguments evaluated.
-    Call {
-        at: u32,
-    },
-    /// The log call prints `length` bytes; `seen` are the values of its watched variables, in order.
-    Print {
-        at: u32,
-        length: u64,
-        seen: Items<Number>,
-    },
-}
-
-/// What happened where the truth is true, when a run stood at this position in the log.
-#[derive(Drop)]
-pub struct PathEvent {
-    pub what: Shared<Noted>,
-    pub position: usize,
-    pub truth: Node,
-}
-
 /// Where runs stand in those worlds in which the guard is true: the kind of state, the value that a `return` gave, the
-/// position in the log, the memory, what was noted, and the operands that an expression waits for, the last one on top.
+/// position in the log, the memory, what happened, and the operands that an expression waits for, the last one on top.
 #[derive(Drop)]
 pub struct State {
     pub guard: Node,
@@ -52,7 +23,7 @@ pub struct State {
     pub value: Option<Number>,
     pub position: usize,
     pub memory: Node,
-    pub events: Items<PathEvent>,
+    pub events: Node,
     pub operands: Items<Number>,
 }
 
@@ -63,31 +34,12 @@ pub struct Walked {
     pub ended: Items<State>,
 }
 
-/// A copy of what was noted.
-pub(crate) fn copy_events(
-    alloc: Global,
-    events: &[PathEvent],
-) -> Result<Items<PathEvent>, AllocError>
-    ensures { IfOk result (λ xs. xs ≡ events.now) }
-{
-    let mut all = Items::new(alloc);
-    for event in events {
-        all.push(PathEvent {
-            what: event.what.clone()?,
-            position: event.position,
-            truth: event.truth,
-        })?;
-    }
-    Ok(all)
-}
-
 impl State {
     /// A copy of the state.
     pub fn copy(&self, alloc: Global) -> Result<State, AllocError>
         ensures { IfOk result (λ s. s ≡ self.now) }
     {
         let kind = copy_kind(&self.kind)?;
-        let events = copy_events(alloc, self.events.as_slice())?;
         let operands = Items::from_slice(alloc, self.operands.as_slice())?;
         Ok(State {
             guard: self.guard,
@@ -95,7 +47,7 @@ impl State {
             value: self.value,
             position: self.position,
             memory: self.memory,
-            events,
+            events: self.events,
             operands,
         })
     }

@@ -1,7 +1,5 @@
 -- The sides of a branch.
-use Rattle.std.proofs.Common.{◌≡◌, ℕ, List, [], ◌∷◌, ◌++◌, Bool, true, false, not, cond, Some, None, refl, ap, ◌∙◌}
-use Rattle.std.specs.Prelude.{Ok}
-use Rattle.bit_words.specs.declared.run.Event.{Event}
+use Rattle.std.proofs.Common.{◌≡◌, ℕ, List, [], ◌∷◌, ◌++◌, Bool, true, false, not, cond, Some, None, refl, sym, ap, subst, ◌∙◌}
 use Rattle.bit_words.specs.declared.run.Happening.TheVariants as happening
 use Rattle.bit_words.specs.declared.run.Side.{Side}
 use Rattle.bit_words.specs.declared.run.Side.TheVariants as side
@@ -10,62 +8,44 @@ use Rattle.core_tree.specs.States.{Done}
 use Rattle.term_bank.specs.declared.sort.Sort.TheVariants as sort
 use Rattle.term_bank.specs.declared.sort.Node.{Node}
 use Rattle.term_bank.specs.declared.shape.Shape.{Shape}
-use Rattle.term_bank.specs.declared.shape.Shape.TheVariants.{Flag}
-use Rattle.term_bank.specs.Terms.{IsTerm, Makes}
-use Rattle.term_bank.specs.Values.{Environment, Worth, Values, Models}
+use Rattle.term_bank.specs.Terms.{IsTerm}
+use Rattle.term_bank.specs.Values.{Environment, Values, Models}
 use Rattle.term_bank.proofs.BankLemmas.{weaken, stays, grows_on}
 use Rattle.term_bank.proofs.TermLemmas.{term_grown}
 use Rattle.path_states.specs.declared.state.Number.{Number}
-use Rattle.path_states.specs.declared.state.Noted.TheVariants as noted
-use Rattle.path_states.specs.declared.state.PathEvent.{PathEvent}
 use Rattle.path_states.specs.declared.state.State.{State}
-use Rattle.path_states.specs.States.{Held, IsState, IsSized, AllSized, run_in, done_in, onto, number_in, seen}
+use Rattle.path_states.specs.States.{Held, IsState, IsSized, AllSized, run_in, done_in, onto, number_in}
 use Rattle.path_states.specs.Ways.{to_list, Halves}
-use Rattle.path_states.proofs.Growth.{state_grown, states_grown, states_joined, events_joined, seen_joined}
+use Rattle.path_states.proofs.Growth.{state_grown, states_grown, states_joined}
 use Rattle.path_states.proofs.Paths.{goes_none, goes_more}
 use Rattle.path_numbers.specs.Answers.{Truthful}
 use Rattle.path_steps.specs.declared.parting.Parted.{Parted}
-use Rattle.path_steps.specs.Branches.{noted_at, takes, skips, PartsOne, PartsAll}
+use Rattle.path_steps.specs.Branches.{noted_at, takes, skips, IsSided, PartsOne, PartsAll}
 use Rattle.path_steps.specs.Operands.{Pops, top, under}
 use Rattle.path_steps.proofs.Trials.{done_same}
 
-abbrev with_side : State → Node → Node → ℕ → Side → State
-with_side t guard always at s = record t {
-  guard = guard;
-  events = t.events ++ record { what = noted.Branch at s; position = t.position; truth = always } ∷ [];
-}
+module _ (a b : List Shape) (s t : State) (guard : Node) (at : ℕ) (k : Side) (h : IsSided a b s guard at k t) where
+  sided_state : IsState b s → IsTerm b sort.Truth guard → IsState b t
+  sided_state is g = subst (λ (u : State). IsState b u) (sym h.is)
+      (record { guard = g; memory = is.memory; value = is.value; events = h.happened.term; operands = is.operands })
 
-sided_state : (b : List Shape) (t : State) (guard always : Node) (at : ℕ) (s : Side) → IsState b t → IsTerm b sort.Truth guard
-    → IsTerm b sort.Truth always → IsState b (with_side t guard always at s)
-sided_state b t guard always at s is h k = record {
-  guard = h;
-  memory = is.memory;
-  value = is.value;
-  events = events_joined b t.events (record { what = noted.Branch at s; position = t.position; truth = always } ∷ []) is.events
-      (record { what = tt; truth = k }, tt);
-  operands = is.operands;
-}
+  sided_guard : (v : Values) → (v t.guard.index).truth ≡ (v guard.index).truth
+  sided_guard v = ap (λ (u : State). (v u.guard.index).truth) h.is
 
-one_seen : (v : Values) (x : PathEvent) (e : Event) (c : Bool) → c ≡ true → cond c (e ∷ []) [] ≡ e ∷ []
-one_seen v x e c h = rw h refl
-
--- what the state with its side noted says
-sided_run : (v : Values) (s t : State) (guard always : Node) (at : ℕ) (k : Side) → t ≡ record s { operands = t.operands }
-    → onto v [] t.operands ≡ under (onto v [] s.operands) → (v always.index).truth ≡ true
-    → run_in v (with_side t guard always at k) ≡ noted_at at k (run_in v s)
-sided_run v s t guard always at k same rest yes_is =
-    let x : PathEvent = record { what = noted.Branch at k; position = t.position; truth = always } in
-    let event : Event = record { what = happening.Branch at k; printed = t.position } in
-    ap (λ l. record { operands = onto v [] t.operands; done = record (done_in v t) { events = l } })
-    (seen_joined v t.events (x ∷ []) ∙ ap (λ l. seen v t.events ++ l) (one_seen v x event (v always.index).truth yes_is))
-    ∙ ap (λ (d : Done ℕ). record {
-      operands = onto v [] t.operands;
-      done = record d { events = d.events ++ record { what = happening.Branch at k; printed = d.out } ∷ [] };
-    }) (done_same v s t same)
-    ∙ ap (λ l. record {
-      operands = l;
-      done = record (done_in v s) { events = (done_in v s).events ++ record { what = happening.Branch at k; printed = (done_in v s).out } ∷ [] };
-    }) rest
+  -- what the state with its side noted says, where it is another one's with its operand taken off
+  sided_run : (e : Environment) (v : Values) (r : State) → Models b e v → s ≡ record r { operands = s.operands }
+      → onto v [] s.operands ≡ under (onto v [] r.operands) → run_in v t ≡ noted_at at k (run_in v r)
+  sided_run e v r m same rest =
+      ap (λ (u : State). run_in v u) h.is
+      ∙ ap (λ l. record { operands = onto v [] s.operands; done = record (done_in v s) { events = l } }) (h.happened.is e v m)
+      ∙ ap (λ (d : Done ℕ). record {
+        operands = onto v [] s.operands;
+        done = record d { events = d.events ++ record { what = happening.Branch at k; printed = d.out } ∷ [] };
+      }) (done_same v r s same)
+      ∙ ap (λ l. record {
+        operands = l;
+        done = record (done_in v r) { events = (done_in v r).events ++ record { what = happening.Branch at k; printed = (done_in v r).out } ∷ [] };
+      }) rest
 
 takes_by : (g c z : Bool) (q : Bool) (h : Held) → q ≡ cond g c false → c ≡ not z → cond q (h ∷ []) [] ≡ cond g (to_list (cond z None (Some h))) []
 takes_by true c true q h e k = rw (e, k) refl
@@ -85,38 +65,40 @@ skips_sized : (at : ℕ) (z : Bool) (h : Held) → IsSized h.done.store → AllS
 skips_sized at true h k = k
 skips_sized at false h k = tt
 
-pub parted_one : (a b c d f : List Shape) (s t : State) (x : Number) (truth one two always : Node) (at : ℕ) → Pops a b s t x
-    → Truthful b c truth (λ v. not (is_zero (number_in v x))) → Halves c d t.guard truth one two → Makes d f (Flag true) (Ok always)
-    → PartsOne a f s at (record { yes = with_side t one always at side.Yes ∷ []; no = with_side t two always at side.No ∷ [] })
-parted_one a b c d f s t x truth one two always at hp ht hh hm =
-    let df = hm.grows in let cf = grows_on hh.grows df in let bf = grows_on ht.grows cf in let af = grows_on hp.grows bf in
-    let is = state_grown bf t hp.state in
+pub parted_one : (a b c d f g : List Shape) (s t : State) (x : Number) (truth one two : Node) (at : ℕ) (taking leaving : State)
+    → Pops a b s t x → Truthful b c truth (λ v. not (is_zero (number_in v x))) → Halves c d t.guard truth one two
+    → IsSided d f t one at side.Yes taking → IsSided f g t two at side.No leaving
+    → PartsOne a g s at (record { yes = taking ∷ []; no = leaving ∷ [] })
+parted_one a b c d f g s t x truth one two at taking leaving hp ht hh hy hn =
+    let fg = hn.happened.grows in let df = hy.happened.grows in let dg = grows_on df fg in
+    let cg = grows_on hh.grows dg in let bg = grows_on ht.grows cg in let ag = grows_on hp.grows bg in
+    let bf = grows_on ht.grows (grows_on hh.grows df) in
     let guard_of : (v : Values) → (v t.guard.index).truth ≡ (v s.guard.index).truth = λ v. ap (λ (u : State). (v u.guard.index).truth) hp.same in
-    let says : (e : Environment) (v : Values) → Models f e v → (v truth.index).truth ≡ not (is_zero (top (onto v [] s.operands))) =
-    λ e v m. ht.is e v (weaken cf m) ∙ ap (λ z. not (is_zero z)) (hp.is e v (weaken bf m)) in
-    let always_is : (e : Environment) (v : Values) → Models f e v → (v always.index).truth ≡ true =
-    λ e v m. ap (λ (w : Worth). w.truth) (hm.value.is e v m) in
+    let says : (e : Environment) (v : Values) → Models g e v → (v truth.index).truth ≡ not (is_zero (top (onto v [] s.operands))) =
+    λ e v m. ht.is e v (weaken cg m) ∙ ap (λ z. not (is_zero z)) (hp.is e v (weaken bg m)) in
     record {
       yes = λ room. record {
-        grows = af;
-        states = (sided_state f t one always at side.Yes is (term_grown d f _ one df hh.yes_term) hm.node, tt);
+        grows = ag;
+        states = (state_grown fg taking (sided_state d f t taking one at side.Yes hy (state_grown bf t hp.state) (term_grown d f _ one df hh.yes_term)), tt);
         stands = λ e v m r k.
-            ap (λ h. cond (v one.index).truth (h ∷ []) [])
-            (sided_run v s t one always at side.Yes hp.same (hp.rest e v (weaken bf m)) (always_is e v m))
-            ∙ takes_by (v s.guard.index).truth (v truth.index).truth (is_zero (top (onto v [] s.operands))) (v one.index).truth
+            ap (λ h. cond (v taking.guard.index).truth (h ∷ []) [])
+            (sided_run d f t taking one at side.Yes hy e v s (weaken fg m) hp.same (hp.rest e v (weaken bg m)))
+            ∙ takes_by (v s.guard.index).truth (v truth.index).truth (is_zero (top (onto v [] s.operands))) (v taking.guard.index).truth
             (noted_at at side.Yes (run_in v s))
-            (hh.yes_is e v (weaken df m) ∙ ap (λ (g : Bool). cond g (v truth.index).truth false) (guard_of v)) (says e v m);
+            (sided_guard d f t taking one at side.Yes hy v ∙ hh.yes_is e v (weaken dg m)
+            ∙ ap (λ (q : Bool). cond q (v truth.index).truth false) (guard_of v)) (says e v m);
         sized = λ e v m r h k. takes_sized at (is_zero (top h.operands)) h k;
       };
       no = λ room. record {
-        grows = af;
-        states = (sided_state f t two always at side.No is (term_grown d f _ two df hh.no_term) hm.node, tt);
+        grows = ag;
+        states = (sided_state f g t leaving two at side.No hn (state_grown bg t hp.state) (term_grown d g _ two dg hh.no_term), tt);
         stands = λ e v m r k.
-            ap (λ h. cond (v two.index).truth (h ∷ []) [])
-            (sided_run v s t two always at side.No hp.same (hp.rest e v (weaken bf m)) (always_is e v m))
-            ∙ skips_by (v s.guard.index).truth (v truth.index).truth (is_zero (top (onto v [] s.operands))) (v two.index).truth
+            ap (λ h. cond (v leaving.guard.index).truth (h ∷ []) [])
+            (sided_run f g t leaving two at side.No hn e v s m hp.same (hp.rest e v (weaken bg m)))
+            ∙ skips_by (v s.guard.index).truth (v truth.index).truth (is_zero (top (onto v [] s.operands))) (v leaving.guard.index).truth
             (noted_at at side.No (run_in v s))
-            (hh.no_is e v (weaken df m) ∙ ap (λ (g : Bool). cond g (not (v truth.index).truth) false) (guard_of v)) (says e v m);
+            (sided_guard f g t leaving two at side.No hn v ∙ hh.no_is e v (weaken dg m)
+            ∙ ap (λ (q : Bool). cond q (not (v truth.index).truth) false) (guard_of v)) (says e v m);
         sized = λ e v m r h k. skips_sized at (is_zero (top h.operands)) h k;
       };
     }

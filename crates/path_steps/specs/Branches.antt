@@ -1,14 +1,15 @@
 -- The sides of a branch: the operand on top is taken as a condition, and the side is noted.
-use Rattle.std.specs.Prelude.{ℕ, List, [], ◌∷◌, ◌++◌, cond, Some, None}
+use Rattle.std.specs.Prelude.{◌≡◌, ℕ, List, [], ◌∷◌, ◌++◌, cond, Some, None}
 use Rattle.bit_words.specs.declared.run.Side.{Side}
-use Rattle.bit_words.specs.declared.run.Side.TheVariants as side
+use Rattle.bit_words.specs.declared.run.Side.TheVariants as taken
 use Rattle.bit_words.specs.declared.run.Happening.TheVariants as happening
 use Rattle.c_type_terms.specs.Integers.{is_zero}
+use Rattle.term_bank.specs.declared.sort.Node.{Node}
 use Rattle.term_bank.specs.declared.shape.Shape.{Shape}
 use Rattle.term_bank.specs.Values.{Grows}
 use Rattle.path_states.specs.declared.state.State.{State}
 use Rattle.path_states.specs.States.{Held, AreStates}
-use Rattle.path_states.specs.Ways.{Way, Steps, Goes}
+use Rattle.path_states.specs.Ways.{Way, Steps, Goes, Happened}
 use Rattle.path_steps.specs.declared.parting.Parted.{Parted}
 use Rattle.path_steps.specs.Operands.{top, under}
 
@@ -20,10 +21,15 @@ noted_at at s h = record {
 }
 
 abbrev pub takes : ℕ → Way
-takes at e v h = cond (is_zero (top h.operands)) None (Some (noted_at at side.Yes h))
+takes at e v h = cond (is_zero (top h.operands)) None (Some (noted_at at taken.Yes h))
 
 abbrev pub skips : ℕ → Way
-skips at e v h = cond (is_zero (top h.operands)) (Some (noted_at at side.No h)) None
+skips at e v h = cond (is_zero (top h.operands)) (Some (noted_at at taken.No h)) None
+
+-- the state where this guard is true, with a side of a branch noted
+pub record IsSided (a b : List Shape) (s : State) (guard : Node) (at : ℕ) (side : Side) (t : State) : Type 0 where
+  pub is : t ≡ record s { guard = guard; events = t.events }
+  pub happened : Happened a b s.events t.events (record { what = happening.Branch at side; printed = s.position })
 
 pub record PartsOne (a b : List Shape) (s : State) (at : ℕ) (p : Parted) : Type 0 where
   pub yes : (room : ℕ) → Steps room a b s p.yes (takes at)

@@ -16,6 +16,3 @@ pub use operands::pop;
 pub use parting::{Parted, part};
 pub use settling::{Exit, settle};
 pub use steps::{each, step, then_each};
-
-#[cfg(test)]
-mod tests;

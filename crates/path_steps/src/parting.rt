@@ -1,14 +1,15 @@
-ghost use Rattle.std.specs.Prelude.{◌≡◌, ◌++◌, ◌∷◌, [], IfOk};
+ghost use Rattle.std.specs.Prelude.{IfOk};
+ghost use Rattle.term_bank.specs.Terms.{IsTerm};
+ghost use Rattle.term_bank.specs.declared.sort.Sort.TheVariants.{Events};
 ghost use Rattle.path_states.specs.States.{IsState, AreStates};
-ghost use Rattle.path_states.specs.declared.state.Noted.TheVariants as n;
-ghost use Rattle.path_steps.specs.Branches.{PartsOne, PartsAll};
+ghost use Rattle.path_steps.specs.Branches.{IsSided, PartsOne, PartsAll};
 
 use crate::operands::pop;
 use bit_words::Side;
 use path_numbers::truth;
-use path_states::{Noted, PathEvent, State, halve};
-use plain_data::{Items, Shared};
-use std::alloc::{AllocError, Global};
+use path_states::{State, halve};
+use plain_data::Items;
+use std::alloc::Global;
 use term_bank::{Bank, BankFault, Node};
 
 /// The states that take a branch, and those that don't.
@@ -21,29 +22,19 @@ pub struct Parted {
 /// The state where this guard is true, with a side of a branch noted.
 fn noted(
     alloc: Global,
+    bank: &mut Bank,
     state: &State,
     guard: Node,
-    always: Node,
     at: u32,
     side: Side,
-) -> Result<State, AllocError>
-    ensures { IfOk result (λ t. t ≡ record state.now {
-      guard = guard;
-      events = state.now.events ++ record {
-        what = n.Branch at side;
-        position = state.now.position;
-        truth = always;
-      } ∷ [];
-    }) }
+) -> Result<State, BankFault>
+    requires { IsTerm bank.old Events state.now.events }
+    ensures { IfOk result (IsSided bank.old bank.new state.now guard at side) }
 {
-    let what = Shared::new(alloc, Noted::Branch { at, side })?;
     let mut next = state.copy(alloc)?;
     next.guard = guard;
-    next.events.push(PathEvent {
-        what,
-        position: state.position,
-        truth: always,
-    })?;
+    let events = bank.branch_event(state.events, state.position as u64, at, side)?;
+    next.events = events;
     Ok(next)
 }
 
@@ -55,9 +46,8 @@ fn part_one(alloc: Global, bank: &mut Bank, at: u32, state: State) -> Result<Par
     let operand = pop(bank, &mut state)?;
     let truth = truth(bank, operand)?;
     let sides = halve(bank, state.guard, truth)?;
-    let always = bank.truth(true)?;
-    let yes = noted(alloc, &state, sides.yes, always, at, Side::Yes)?;
-    let no = noted(alloc, &state, sides.no, always, at, Side::No)?;
+    let yes = noted(alloc, bank, &state, sides.yes, at, Side::Yes)?;
+    let no = noted(alloc, bank, &state, sides.no, at, Side::No)?;
     let mut parted = Parted {
         yes: Items::new(alloc),
         no: Items::new(alloc),

@@ -1,5 +1,5 @@
 -- Tables of all keys, level by level.
-use Rattle.std.proofs.Common.{◌≡◌, ℕ, zero, suc, ◌<◌, ◌≤◌, ◌&&◌, List, [], ◌∷◌, ◌++◌, length, Bool, true, false, cond, nat_eq, Option, Some, None, refl, sym, ap, subst, ◌∙◌, arith}
+use Rattle.std.proofs.Common.{◌≡◌, ℕ, zero, suc, ◌+◌, ◌<◌, ◌≤◌, ◌&&◌, List, [], ◌∷◌, ◌++◌, length, Bool, true, false, cond, nat_eq, Option, Some, None, refl, sym, ap, subst, ◌∙◌, arith}
 use Rattle.std.proofs.lemmas.Bool.Decides.{nat_tests}
 use Rattle.std.specs.Prelude.{slice_get, slice_index_or}
 use Rattle.core_tree.specs.declared.program.Function.{Function}
@@ -16,7 +16,7 @@ use Rattle.path_summaries.specs.declared.table.Kept.{Kept}
 use Rattle.path_summaries.specs.declared.levels.Levelled.{Levelled}
 use Rattle.path_summaries.specs.Tours.{Tour, StandsFor, IsComplete, room_in}
 use Rattle.path_summaries.specs.Tables.{RowStands, AllStand, IsReady, AreRooms, HoldsRooms}
-use Rattle.path_summaries.specs.Levels.{IsDone, RowDone, AllDone, Fills, FillsKey, FillsEntry, FillsRow, FillsRows, RoomsOf, PutsRooms, Based, IsLevelled, Levels}
+use Rattle.path_summaries.specs.Levels.{IsDone, RowDone, AllDone, Fills, FillsKey, FillsEntry, FillsRow, FillsRows, RoomsOf, PutsRooms, one_of, keys_at, keys_before, keys_within, Based, IsLevelled, Climbs, Levels}
 
 module _ (t : Tour) (a b : List Shape) (grows : Grows a b) where
   pub stands_grown : (f n start : ℕ) (s : Summary) → StandsFor t a f n start s → StandsFor t b f n start s
@@ -60,27 +60,51 @@ fills_on t a b c old mid now h k = record { grows = grows_on h.grows k.grows; st
 
 -- ---- a key
 
-pub key_of_none : (t : Tour) (a : List Shape) (n f start : ℕ) (table : List (List Kept)) → ends_at t.ends f (suc n) start ≡ None
-    → FillsKey t a a n f start table table
-key_of_none t a n f start table none = record {
-  fills = fills_none t a table;
-  done = λ e is. absurd (cc);
-}
-
-pub key_put : (t : Tour) (a b : List Shape) (n f start : ℕ) (s : Summary) (old now : List (List Kept)) → Grows a b → StandsFor t b f n start s
-    → (AllStand t b 0 old → AllStand t b 0 now) → FillsKey t a b n f start old now
-key_put t a b n f start s old now g one put = record {
+pub key_put : (t : Tour) (a b : List Shape) (n f start : ℕ) (s : Summary) (old now : List (List Kept)) (k m : ℕ) → Grows a b
+    → StandsFor t b f n start s → (AllStand t b 0 old → AllStand t b 0 now) → m ≡ k + 1 → FillsKey t a b n f start old now k m
+key_put t a b n f start s old now k m g one put counted = record {
   fills = record { grows = g; stand = λ h. put (all_grown t a b g 0 old h) };
   done = λ e is. (s, one);
+  counted = counted;
+}
+
+-- ---- an entry
+
+same_nat : (m n : ℕ) → m ≡ n → nat_eq m n ≡ true
+same_nat m n h = grind (arith, nat_tests, h)
+
+other_nat : (m n : ℕ) → (m ≡ n → ⊥) → nat_eq m n ≡ false
+other_nat m n h = grind (arith, nat_tests, h)
+
+pub entry_walked : (t : Tour) (a b : List Shape) (n start : ℕ) (x : Entry) (old now : List (List Kept)) (k m : ℕ) → x.depth ≡ suc n
+    → FillsKey t a b n x.function start old now k m → FillsEntry t a b n start x old now k m
+entry_walked t a b n start x old now k m same h = record {
+  fills = h.fills;
+  done = λ is. h.done;
+  counted = h.counted ∙ ap (λ c. k + cond c 1 0) (sym (same_nat x.depth (suc n) same));
+}
+
+pub entry_passed : (t : Tour) (a : List Shape) (n start : ℕ) (x : Entry) (table : List (List Kept)) (k : ℕ) → (x.depth ≡ suc n → ⊥)
+    → FillsEntry t a a n start x table table k k
+entry_passed t a n start x table k other = record {
+  fills = fills_none t a table;
+  done = λ is. absurd (other is);
+  counted = omega arith ∙ ap (λ c. k + cond c 1 0) (sym (other_nat x.depth (suc n) other));
 }
 
 -- ---- a row
 
-pub row_more : (t : Tour) (a b c : List Shape) (n start : ℕ) (x : Entry) (xs all : List Entry) (old mid now : List (List Kept)) → all ≡ x ∷ xs
-    → FillsEntry t a b n start x old mid → FillsRow t b c n start xs mid now → FillsRow t a c n start all old now
-row_more t a b c n start x xs all old mid now same h k = rw same (record {
-  fills = fills_on t a b c old mid now h.fills k.fills;
-  done = (λ is. done_grown t b c k.fills.grows n x.function start (h.done is), k.done);
+pub row_none : (t : Tour) (a : List Shape) (n start : ℕ) (row : List Entry) (table : List (List Kept)) (k : ℕ) → row ≡ []
+    → FillsRow t a a n start row table table k k
+row_none t a n start row table k none = rw none (record { fills = fills_none t a table; done = tt; counted = omega arith })
+
+pub row_more : (t : Tour) (a b c : List Shape) (n start : ℕ) (x : Entry) (xs all : List Entry) (old mid now : List (List Kept)) (k l m : ℕ)
+    → all ≡ x ∷ xs → FillsEntry t a b n start x old mid k l → FillsRow t b c n start xs mid now l m
+    → FillsRow t a c n start all old now k m
+row_more t a b c n start x xs all old mid now k l m same h i = rw same (record {
+  fills = fills_on t a b c old mid now h.fills i.fills;
+  done = (λ is. done_grown t b c i.fills.grows n x.function start (h.done is), i.done);
+  counted = omega (arith, h.counted, i.counted);
 })
 
 both : (p q : Bool) → (p && q) ≡ true → (p ≡ true) × (q ≡ true)
@@ -109,22 +133,29 @@ at_or_below zero (suc i) h C less same = less (omega arith)
 at_or_below (suc j) zero h C less same = absurd (omega (arith, h))
 at_or_below (suc j) (suc i) h C less same = at_or_below j i (omega (arith, h)) C (λ k. less (omega (arith, k))) (λ k. same (ap suc k))
 
-pub rows_none : (t : Tour) (a : List Shape) (n : ℕ) (table : List (List Kept)) → FillsRows t a a n 0 table table
-rows_none t a n table = record {
+pub rows_none : (t : Tour) (a : List Shape) (n : ℕ) (table : List (List Kept)) (k : ℕ) → FillsRows t a a n 0 table table k k
+rows_none t a n table k = record {
   fills = fills_none t a table;
   done = λ f start below. absurd (omega (arith, below));
+  counted = omega arith;
 }
 
-pub rows_more : (t : Tour) (a b c : List Shape) (n i next : ℕ) (row : List Entry) (old mid now : List (List Kept)) → row ≡ slice_index_or t.ends i []
-    → next ≡ suc i → FillsRows t a b n i old mid → FillsRow t b c n i row mid now → FillsRows t a c n next old now
-rows_more t a b c n i next row old mid now is one h k = record {
-  fills = fills_on t a b c old mid now h.fills k.fills;
+pub rows_more : (t : Tour) (a b c : List Shape) (n i next : ℕ) (row : List Entry) (old mid now : List (List Kept)) (k l m : ℕ)
+    → row ≡ slice_index_or t.ends i [] → next ≡ suc i → FillsRows t a b n i old mid k l → FillsRow t b c n i row mid now l m
+    → FillsRows t a c n next old now k m
+rows_more t a b c n i next row old mid now k l m is one h x = record {
+  fills = fills_on t a b c old mid now h.fills x.fills;
   done = λ f start below.
       at_or_below start i (omega (arith, below, one)) (IsDone t c n f start)
-      (λ less. done_grown t b c k.fills.grows n f start (h.done f start less))
+      (λ less. done_grown t b c x.fills.grows n f start (h.done f start less))
       (λ same. subst (λ j. IsDone t c n f j) (sym same)
-      (λ e there. row_found t c n f i row e k.done (rw is there) e there));
-}
+      (λ e there. row_found t c n f i row e x.done (rw is there) e there));
+  counted =
+      x.counted ∙ ap (λ j. j + keys_at (suc n) row) h.counted ∙ added k (keys_before (suc n) t.ends i) (keys_at (suc n) row)
+      ∙ ap (λ r. k + (keys_before (suc n) t.ends i + keys_at (suc n) r)) is ∙ ap (λ j. k + keys_before (suc n) t.ends j) (sym one);
+} where
+  added : (x y z : ℕ) → (x + y) + z ≡ x + (y + z)
+  added x y z = omega arith
 
 past : (rows : List (List Entry)) (i : ℕ) → length rows ≤ i → slice_index_or rows i [] ≡ []
 past [] i h = refl
@@ -179,26 +210,33 @@ rooms_held t n rs h m is =
 
 -- ---- levels
 
-pub rows_levelled : (t : Tour) (a b : List Shape) (n i : ℕ) (table : List (List Kept)) (rooms : List (Option ℕ)) (functions : List Function)
-    → length t.ends ≤ i → functions ≡ t.core.functions → FillsRows t a b n i [] table → PutsRooms t n functions [] rooms
-    → Levels t a b (suc n) (record { table = table; rooms = rooms })
-rows_levelled t a b n i table rooms functions past same h k = record {
+pub rows_levelled : (t : Tour) (a b : List Shape) (n : ℕ) (table : List (List Kept)) (rooms : List (Option ℕ)) (functions : List Function) (x y : ℕ)
+    → functions ≡ t.core.functions → FillsRows t a b n (length t.ends) [] table x y → PutsRooms t n functions [] rooms
+    → Climbs t a b n (record { table = table; rooms = rooms }) x y
+rows_levelled t a b n table rooms functions x y same h k = record {
   grows = h.fills.grows;
   levelled = record {
     stand = h.fills.stand tt;
-    complete = all_complete t b n (λ f start below. h.done f start (omega (arith, below, past)));
+    complete = all_complete t b n h.done;
     rooms = rooms_held t n rooms (subst (λ fs. PutsRooms t n fs [] rooms) same k);
   };
+  counted = h.counted;
 }
 
-pub no_levels : (t : Tour) (a : List Shape) → Levels t a a 0 (record { table = []; rooms = [] })
-no_levels t a = record {
+pub no_levels : (t : Tour) (a : List Shape) (k : ℕ) → Levels t a a 0 (record { table = []; rooms = [] }) k k
+no_levels t a k = record {
   grows = stays;
   levelled = record { stand = tt; complete = tt; rooms = λ m is. absurd (omega (arith, is)) };
+  counted = omega arith;
 }
 
-pub levels_on : (t : Tour) (a b c : List Shape) (n m : ℕ) (l k : Levelled) → Levels t a b n l → Levels t b c m k → Levels t a c m k
-levels_on t a b c n m l k h i = record { grows = grows_on h.grows i.grows; levelled = i.levelled }
+pub levels_on : (t : Tour) (a b c : List Shape) (n next : ℕ) (l k : Levelled) (x y z : ℕ) → next ≡ suc n → Levels t a b n l x y
+    → Climbs t b c n k y z → Levels t a c next k x z
+levels_on t a b c n next l k x y z one h i = rw one (record {
+  grows = grows_on h.grows i.grows;
+  levelled = i.levelled;
+  counted = omega (arith, h.counted, i.counted);
+})
 
 pub based : (t : Tour) (b : List Shape) (n : ℕ) (l : Levelled) → IsSound t.core t.log t.limits t.depth t.ends → IsLevelled t b n l
     → Based t n l.table l.rooms b

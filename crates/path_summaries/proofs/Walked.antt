@@ -1,5 +1,5 @@
 -- The walk of a key.
-use Rattle.std.proofs.Common.{◌≡◌, ℕ, suc, List, [], ◌∷◌, ◌++◌, Option, Some, None, true, refl, sym, ap, subst, ◌∙◌, append-nil}
+use Rattle.std.proofs.Common.{◌≡◌, ◌+◌, ℕ, suc, List, [], ◌∷◌, ◌++◌, Option, Some, None, true, refl, sym, ap, subst, ◌∙◌, append-nil}
 use Rattle.std.specs.Prelude.{slice_get, slice_index, Ok}
 use Rattle.core_tree.specs.declared.program.Function.{Function}
 use Rattle.core_tree.specs.declared.program.Parameter.{Parameter}
@@ -81,11 +81,11 @@ some_of None h = absurd (cc)
 some_of (Some e) h = (e, refl)
 
 pub walked : (t : Tour) (a b c d : List Shape) (f n start : ℕ) (fn : Function) (types : List ValueType) (xs : List Number) (memory : Node)
-    (ts : List State) (room : ℕ) → IsSound t.core t.log t.limits t.depth t.ends → slice_get t.core.functions f ≡ Some fn
+    (ts : List State) (room k m : ℕ) → IsSound t.core t.log t.limits t.depth t.ends → slice_get t.core.functions f ≡ Some fn
     → has_ends (ends_at t.ends f (suc n) start) ≡ true → Enters a b fn.parameters 0 [] types [] xs → Makes b c shape.Entry (Ok memory)
-    → room ≡ room_in t n fn → Embodies (around_in t n fn) room fn xs memory start c d ts → IsBank d
-    → Walks t a d f n start (record { parameters = types; states = ts })
-walked t a b c d f n start fn types xs memory ts room sound is key enters entry room_is h bank =
+    → room ≡ room_in t n fn → Embodies (around_in t n fn) room fn xs memory start c d ts → IsBank d → m ≡ k + 1
+    → Walks t a d f n start (record { parameters = types; states = ts }) k m
+walked t a b c d f n start fn types xs memory ts room k m sound is key enters entry room_is h bank counted =
     let ends = some_of (ends_at t.ends f (suc n) start) key in
     let same : enters.more ≡ xs = sym enters.behind in
     let values : (e : Environment) (v : Values) → Models d e v → numbers_in v xs ≡ entry_values e 0 types =
@@ -95,6 +95,7 @@ walked t a b c d f n start fn types xs memory ts room sound is key enters entry 
     λ e v m. ap (λ (w : Worth). w.store) (entry.value.is e v (weaken h.grows m)) in
     record {
       grows = grows_on enters.grows (grows_on entry.grows h.grows);
+      counted = counted;
       stands = record {
         function = fn;
         is = is;

@@ -1,5 +1,5 @@
 -- The walk of a key.
-use Rattle.std.specs.Prelude.{◌≡◌, ℕ, List, ◌++◌}
+use Rattle.std.specs.Prelude.{◌≡◌, ◌+◌, ℕ, List, ◌++◌}
 use Rattle.core_tree.specs.declared.program.Parameter.{Parameter}
 use Rattle.core_tree.specs.declared.types.ValueType.{ValueType}
 use Rattle.std.specs.Prelude.{slice_index}
@@ -29,6 +29,8 @@ pub record Enters (a b : List Shape) (ps : List Parameter) (k : ℕ) (types type
   pub numbers : AreNumbers b more
   pub are : (e : Environment) (v : Values) → Models b e v → numbers_in v more ≡ entry_values e k (types_of ps)
 
-pub record Walks (t : Tour) (a b : List Shape) (f n start : ℕ) (s : Summary) : Type 0 where
+-- a key was walked, and with it one more
+pub record Walks (t : Tour) (a b : List Shape) (f n start : ℕ) (s : Summary) (walks walks_now : ℕ) : Type 0 where
   pub grows : Grows a b
   pub stands : StandsFor t b f n start s
+  pub counted : walks_now ≡ walks + 1

@@ -4,7 +4,7 @@ ghost use Rattle.c_runs.specs.Units.{limits_of};
 ghost use Rattle.log_expr.specs.Sound.{IsSound};
 ghost use Rattle.path_summaries.specs.Tours.{tour_of, room_in};
 ghost use Rattle.path_summaries.specs.Tables.{HoldsRooms};
-ghost use Rattle.path_summaries.specs.Levels.{Based, FillsKey, FillsEntry, FillsRow, FillsRows, PutsRooms, IsLevelled, Levels};
+ghost use Rattle.path_summaries.specs.Levels.{Based, FillsKey, FillsEntry, FillsRow, FillsRows, PutsRooms, IsLevelled, Climbs, Levels};
 
 use crate::level::{Level, is_key};
 use crate::table::Summaries;
@@ -38,7 +38,7 @@ pub struct Levelled {
     pub rooms: Items<Option<u64>>,
 }
 
-/// Puts the summary of one key in. A key that no run makes has none.
+/// Puts the summary of one key in, and counts the walk.
 fn walk_key<'a>(
     alloc: Global,
     floor: &Floor<'a>,
@@ -46,15 +46,16 @@ fn walk_key<'a>(
     start: usize,
     bank: &mut Bank,
     table: &mut Summaries,
+    walks: &mut u64,
 ) -> Result<(), WalkFault>
     requires { Based (tour_of floor.now.core.now floor.now.log.now floor.now.bounds.now floor.now.ends.now)
         floor.now.left floor.now.table.now floor.now.rooms.now bank.old }
     ensures { OnOk result (FillsKey (tour_of floor.now.core.now floor.now.log.now floor.now.bounds.now
-        floor.now.ends.now) bank.old bank.new floor.now.left function start table.old table.new) }
+        floor.now.ends.now) bank.old bank.new floor.now.left function start table.old table.new walks.old walks.new) }
 {
     let depth = next_number(floor.left)?;
     if !is_key(floor.ends, function, depth, start) {
-        return Ok(());
+        return Err(WalkFault::Unwalked);
     }
     match floor.core.functions.get(function as usize) {
         None => Err(WalkFault::Unwalked),
@@ -69,7 +70,7 @@ fn walk_key<'a>(
                 left: floor.left,
                 function: body,
             };
-            let summary = walk(alloc, &level, function, start, bank)?;
+            let summary = walk(alloc, &level, function, start, bank, walks)?;
             table.put(alloc, function, floor.left, start, summary)?;
             Ok(())
         }
@@ -77,6 +78,7 @@ fn walk_key<'a>(
 }
 
 /// Puts the summary of the key of an entry at a position in, where the entry has the level's depth.
+#[tactic(auto, using(crate::proofs::Levelling::entry_walked, crate::proofs::Levelling::entry_passed))]
 fn walk_entry<'a>(
     alloc: Global,
     floor: &Floor<'a>,
@@ -84,17 +86,18 @@ fn walk_entry<'a>(
     start: usize,
     bank: &mut Bank,
     table: &mut Summaries,
+    walks: &mut u64,
 ) -> Result<(), WalkFault>
     requires { Based (tour_of floor.now.core.now floor.now.log.now floor.now.bounds.now floor.now.ends.now)
         floor.now.left floor.now.table.now floor.now.rooms.now bank.old }
     ensures { OnOk result (FillsEntry (tour_of floor.now.core.now floor.now.log.now floor.now.bounds.now
-        floor.now.ends.now) bank.old bank.new floor.now.left start entry.now table.old table.new) }
+        floor.now.ends.now) bank.old bank.new floor.now.left start entry.now table.old table.new walks.old walks.new) }
 {
     let depth = next_number(floor.left)?;
     if entry.depth != depth {
         return Ok(());
     }
-    walk_key(alloc, floor, entry.function, start, bank, table)?;
+    walk_key(alloc, floor, entry.function, start, bank, table, walks)?;
     Ok(())
 }
 
@@ -106,17 +109,18 @@ fn walk_row<'a>(
     start: usize,
     bank: &mut Bank,
     table: &mut Summaries,
+    walks: &mut u64,
 ) -> Result<(), WalkFault>
     requires { Based (tour_of floor.now.core.now floor.now.log.now floor.now.bounds.now floor.now.ends.now)
         floor.now.left floor.now.table.now floor.now.rooms.now bank.old }
     ensures { OnOk result (FillsRow (tour_of floor.now.core.now floor.now.log.now floor.now.bounds.now
-        floor.now.ends.now) bank.old bank.new floor.now.left start entries.now table.old table.new) }
+        floor.now.ends.now) bank.old bank.new floor.now.left start entries.now table.old table.new walks.old walks.new) }
 {
     match entries.split_first() {
         None => Ok(()),
         Some((entry, rest)) => {
-            walk_entry(alloc, floor, entry, start, bank, table)?;
-            walk_row(alloc, floor, rest, start, bank, table)?;
+            walk_entry(alloc, floor, entry, start, bank, table, walks)?;
+            walk_row(alloc, floor, rest, start, bank, table, walks)?;
             Ok(())
         }
     }
@@ -128,15 +132,24 @@ fn walk_rows<'a>(
     floor: &Floor<'a>,
     bank: &mut Bank,
     table: &mut Summaries,
+    walks: &mut u64,
 ) -> Result<(), WalkFault>
     requires { Based (tour_of floor.now.core.now floor.now.log.now floor.now.bounds.now floor.now.ends.now)
         floor.now.left floor.now.table.now floor.now.rooms.now bank.old }
     ensures { OnOk result (FillsRows (tour_of floor.now.core.now floor.now.log.now floor.now.bounds.now
-        floor.now.ends.now) bank.old bank.new floor.now.left (length floor.now.ends.now) table.old table.new) }
+        floor.now.ends.now) bank.old bank.new floor.now.left (length floor.now.ends.now) table.old table.new walks.old walks.new) }
 {
     let mut start = 0;
     'starts: while start < floor.ends.len() {
-        walk_row(alloc, floor, floor.ends.row(start), start, bank, table)?;
+        walk_row(
+            alloc,
+            floor,
+            floor.ends.row(start),
+            start,
+            bank,
+            table,
+            walks,
+        )?;
         start += 1;
     }
     Ok(())
@@ -188,15 +201,20 @@ fn add_rooms<'a>(
 }
 
 /// A level: the summaries of all its keys, and the rooms of all functions on it.
-fn level_on<'a>(alloc: Global, floor: &Floor<'a>, bank: &mut Bank) -> Result<Levelled, WalkFault>
+fn level_on<'a>(
+    alloc: Global,
+    floor: &Floor<'a>,
+    bank: &mut Bank,
+    walks: &mut u64,
+) -> Result<Levelled, WalkFault>
     requires { Based (tour_of floor.now.core.now floor.now.log.now floor.now.bounds.now floor.now.ends.now)
         floor.now.left floor.now.table.now floor.now.rooms.now bank.old }
-    ensures { IfOk result (λ l. Levels (tour_of floor.now.core.now floor.now.log.now floor.now.bounds.now
-        floor.now.ends.now) bank.old bank.new (suc floor.now.left) l) }
+    ensures { IfOk result (λ l. Climbs (tour_of floor.now.core.now floor.now.log.now floor.now.bounds.now
+        floor.now.ends.now) bank.old bank.new floor.now.left l walks.old walks.new) }
 {
     let mut table = Summaries::new(alloc);
     let mut rooms = Items::new(alloc);
-    walk_rows(alloc, floor, bank, &mut table)?;
+    walk_rows(alloc, floor, bank, &mut table, walks)?;
     add_rooms(floor, floor.core.functions.as_slice(), &mut rooms)?;
     Ok(Levelled { table, rooms })
 }
@@ -221,10 +239,12 @@ fn level_above(
     below: &Levelled,
     left: u32,
     bank: &mut Bank,
+    walks: &mut u64,
 ) -> Result<Levelled, WalkFault>
     requires sound { IsSound core.now log.now (limits_of bounds.now) bounds.now.depth ends.now }
     requires below { IsLevelled (tour_of core.now log.now bounds.now ends.now) bank.old left below.now }
-    ensures { IfOk result (λ l. Levels (tour_of core.now log.now bounds.now ends.now) bank.old bank.new (suc left) l) }
+    ensures { IfOk result (λ l. Climbs (tour_of core.now log.now bounds.now ends.now) bank.old bank.new left l
+        walks.old walks.new) }
 {
     let floor = Floor {
         core,
@@ -235,13 +255,13 @@ fn level_above(
         rooms: below.rooms.as_slice(),
         left,
     };
-    let level = level_on(alloc, &floor, bank)?;
+    let level = level_on(alloc, &floor, bank, walks)?;
     Ok(level)
 }
 
 /// The summaries of all functions of a program along a log, as they are walked with every level of calls left: each key
-/// of the table of ends has one, which stands for it. It fails for want of memory, where the walk can't do a step yet,
-/// and where 64 bits don't count the places.
+/// of the table of ends has one, which stands for it, and is walked and counted once. It fails for want of memory, where
+/// the walk can't do a step yet, and where 64 bits don't count the places or the walks.
 pub fn summarize(
     alloc: Global,
     core: &Core,
@@ -249,15 +269,16 @@ pub fn summarize(
     bounds: &Bounds,
     ends: &EndTable,
     bank: &mut Bank,
+    walks: &mut u64,
 ) -> Result<Levelled, WalkFault>
     requires { IsSound core.now log.now (limits_of bounds.now) bounds.now.depth ends.now }
     ensures { IfOk result (λ l. Levels (tour_of core.now log.now bounds.now ends.now) bank.old bank.new
-        bounds.now.depth l) }
+        bounds.now.depth l walks.old walks.new) }
 {
     let mut below = no_level(alloc);
     let mut left = 0;
     'levels: while left < bounds.depth {
-        let level = level_above(alloc, core, log, bounds, ends, &below, left, bank)?;
+        let level = level_above(alloc, core, log, bounds, ends, &below, left, bank, walks)?;
         below = level;
         left += 1;
     }

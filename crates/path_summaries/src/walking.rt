@@ -71,6 +71,16 @@ pub(crate) fn next_number(number: u32) -> Result<u32, WalkFault>
     }
 }
 
+/// One more walk. It fails where 64 bits don't count them.
+fn one_more(walks: u64) -> Result<u64, WalkFault>
+    ensures { IfOk result (λ n. n ≡ walks + 1) }
+{
+    match walks.checked_add(1) {
+        Some(more) => Ok(more),
+        None => Err(WalkFault::TooFar),
+    }
+}
+
 /// Adds the types and the numbers of parameters, the first of which has this number. It fails as `enter_one` does.
 fn enter(
     bank: &mut Bank,
@@ -112,22 +122,24 @@ fn keeps_bank(bank: &Bank)
 }
 
 /// The summary of a level's function, which has this number, from a position in the log on: it stands for the key, for
-/// every entry memory, arguments, base and world. It fails for want of memory, where the walk can't do a step yet, and
-/// where 64 bits don't count the places.
+/// every entry memory, arguments, base and world. It counts the walk. It fails for want of memory, where the walk can't
+/// do a step yet, and where 64 bits don't count the places or the walks.
 pub fn walk<'a>(
     alloc: Global,
     level: &Level<'a>,
     function: u32,
     start: usize,
     bank: &mut Bank,
+    walks: &mut u64,
 ) -> Result<Summary, WalkFault>
     requires ready { Stays (IsReady (tour_of level.now.core.now level.now.log.now level.now.bounds.now
         level.now.ends.now) level.now.left level.now.table.now) bank.old }
     requires function { slice_get level.now.core.now.functions function ≡ Some level.now.function.now }
     requires key { has_ends (ends_at level.now.ends.now function (suc level.now.left) start) ≡ true }
     ensures { IfOk result (λ s. Walks (tour_of level.now.core.now level.now.log.now level.now.bounds.now
-        level.now.ends.now) bank.old bank.new function level.now.left start s) }
+        level.now.ends.now) bank.old bank.new function level.now.left start s walks.old walks.new) }
 {
+    *walks = one_more(*walks)?;
     let mut parameters = Items::new(alloc);
     let mut numbers = Items::new(alloc);
     enter(

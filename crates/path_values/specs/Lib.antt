@@ -1,3 +1,2 @@
 pub mod Evaluations
 pub mod Below
-pub mod TestScene

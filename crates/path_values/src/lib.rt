@@ -12,6 +12,3 @@ mod single;
 mod walking;
 
 pub use walking::{Valued, walk_value};
-
-#[cfg(test)]
-mod tests;

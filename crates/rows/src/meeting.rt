@@ -21,7 +21,7 @@ fn as_signed(bits: u64, width: Width) -> i64 {
 }
 
 /// Whether an argument meets a constraint.
-fn meets(constraint: &Constraint, arg: &Arg) -> bool {
+fn meets(constraint: &Constraint<'_>, arg: &Arg) -> bool {
     match (constraint, arg) {
         (Constraint::Equal { bits, width }, arg) => converted(arg, *width) == Some(*bits),
         (Constraint::Between { low, high }, arg) => match converted(arg, Width::W32) {
@@ -47,12 +47,12 @@ fn meets(constraint: &Constraint, arg: &Arg) -> bool {
 }
 
 /// Whether arguments meet all constraints, one for each.
-fn meet_all(constraints: &[Constraint], args: &[Arg]) -> bool {
+fn meet_all(constraints: &[Constraint<'_>], args: &[Arg]) -> bool {
     constraints.len() == args.len() && constraints.iter().zip(args).all(|(c, a)| meets(c, a))
 }
 
 /// How many splits with this end the arguments meet.
-pub fn met_count(splits: &SplitList, end: usize, args: &Args) -> usize {
+pub fn met_count(splits: &SplitList<'_>, end: usize, args: &Args) -> usize {
     splits
         .as_slice()
         .iter()
@@ -60,6 +60,6 @@ pub fn met_count(splits: &SplitList, end: usize, args: &Args) -> usize {
         .count()
 }
 
-fn is_met(split: &Split, end: usize, args: &Args) -> bool {
+fn is_met(split: &Split<'_>, end: usize, args: &Args) -> bool {
     split.end == end && meet_all(split.constraints.as_slice(), args.as_slice())
 }

@@ -41,7 +41,7 @@ pub fn answer_plain(alloc: Global, row: &str) -> Result<String> {
 }
 
 /// Puts a constraint at the end: `=BITS`, `LEAST..GREATEST`, `'TEXT'` or `'TEXT'+` where it goes on, `null`, `@NUMBER`.
-fn show(alloc: Global, out: &mut String, constraint: &Constraint) -> Result<()> {
+fn show(alloc: Global, out: &mut String, constraint: &Constraint<'_>) -> Result<()> {
     match constraint {
         Constraint::Equal { bits, .. } => write!(out, " ={bits}")?,
         Constraint::Between { low, high } => write!(out, " {low}..{high}")?,

@@ -1,36 +1,45 @@
 -- Answers to questions, of one state and of all.
 use Rattle.std.proofs.Common.{◌≡◌, ◌↔◌, ◌⊎◌, inl, inr, ◌<◌, ℕ, zero, suc, List, [], ◌∷◌, ◌++◌, length, Bool, true, false, cond}
-use Rattle.std.proofs.Common.{Option, Some, None, refl, sym, ap, subst, ◌∙◌, arith, get_or}
-use Rattle.std.specs.Prelude.{Ok}
+use Rattle.std.proofs.Common.{ℤ, nat_eq, Option, Some, None, refl, sym, ap, subst, ◌∙◌, arith}
+use Rattle.std.specs.Prelude.{Ok, slice_get}
+use Rattle.std.specs.HashMap.{get}
+use Rattle.std.specs.Map.{lookup}
 use Rattle.std.specs.List.{Any, slice_index_or}
 use Rattle.bit_words.specs.declared.fact.Fact.{Fact}
 use Rattle.bit_words.specs.declared.fact.Fact.TheVariants as fact
 use Rattle.bit_words.specs.declared.run.Event.{Event}
 use Rattle.bit_words.specs.declared.run.Finish.{Finish}
 use Rattle.bit_words.specs.declared.run.Finish.TheVariants as finish
+use Rattle.bit_words.specs.declared.run.Happening.TheVariants as happening
 use Rattle.bit_words.specs.declared.run.Run.{Run}
+use Rattle.bit_words.specs.declared.run.Side.{Side}
 use Rattle.log_text.specs.Shown.{StaysIn, Holds}
 use Rattle.core_tree.specs.States.{Done}
 use Rattle.term_bank.specs.declared.sort.Node.{Node}
+use Rattle.term_bank.specs.declared.sort.Sort.{Sort}
+use Rattle.term_bank.specs.declared.sort.Sort.TheVariants as sort
 use Rattle.term_bank.specs.declared.shape.Connective.TheVariants as connective
 use Rattle.term_bank.specs.declared.shape.Shape.{Shape}
 use Rattle.term_bank.specs.declared.shape.Shape.TheVariants as shape
-use Rattle.term_bank.specs.Terms.{Makes}
+use Rattle.term_bank.specs.Banks.{IsBank}
+use Rattle.term_bank.specs.Images.{Images, Puts}
+use Rattle.term_bank.specs.Shapes.{Each}
+use Rattle.term_bank.specs.Terms.{IsTerm, Makes}
 use Rattle.term_bank.specs.Values.{Environment, Values, Models, Grows, Worth}
 use Rattle.term_bank.proofs.BankLemmas.{weaken, stays, grows_on}
 use Rattle.term_bank.proofs.TermLemmas.{term_grown}
-use Rattle.path_states.specs.declared.state.PathEvent.{PathEvent}
 use Rattle.path_states.specs.declared.state.State.{State}
-use Rattle.path_states.specs.States.{Held, IsEvent, AreEvents, event_in, seen, done_in, run_in, standing}
+use Rattle.path_states.specs.States.{Held, done_in, run_in, standing}
 use Rattle.path_states.specs.Ways.{to_list}
-use Rattle.path_states.proofs.Growth.{seen_joined, standing_joined}
+use Rattle.path_states.proofs.Growth.{standing_joined}
 use Rattle.path_arrows.specs.Arrows.{bared}
 use Rattle.path_summaries.specs.Tours.{Tour}
 use Rattle.run_formula.specs.declared.questions.Question.{Question}
 use Rattle.run_formula.specs.declared.questions.Question.TheVariants as question
 use Rattle.run_formula.specs.Whole.{run_in_world, RunsAll}
 use Rattle.run_formula.specs.Questions.{OneOf, IsMeant, EndsSo, SameEnd, shown, Meets, MeetsOn}
-use Rattle.run_formula.specs.Questions.{TellsEvents, TellsState, TellsStates, IsAnswer, AnswerAll, AsksAll}
+use Rattle.run_formula.specs.Questions.{TellsAt, TellsShape, AllTell, TellsAll, ToldFor, TellsFor, OrMeant}
+use Rattle.run_formula.specs.Questions.{TellsState, TellsStates, IsAnswer, AnswerAll, AsksAll}
 
 -- ---- one of some
 
@@ -160,73 +169,190 @@ truth_as x y e = (λ h. sym e ∙ h, λ h. e ∙ h)
 
 -- ---- events
 
--- one event more, that is meant
-event_met : (P : Event → Type 0) (xs : List Event) (e : Event) (n t p : Bool) → p ≡ cond n true t → (n ≡ true) ↔ OneOf P xs → P e
-    → (p ≡ true) ↔ OneOf P (xs ++ cond t (e ∷ []) [])
-event_met P xs e true t p is h k = (λ g. one_left P xs _ (h.0 refl), λ g. is)
-event_met P xs e false true p is h k = (λ g. one_right P xs _ (inl k), λ g. is)
-event_met P xs e false false p is h k = (
-  λ g. let wrong : false ≡ true = sym is ∙ g in absurd (cc),
-  λ g. elim (one_parted P xs [] g) [
-    | inl i ↦ let wrong : false ≡ true = h.1 i in absurd (cc)
-    | inr i ↦ absurd i
-  ],
-)
-
--- one event more, that isn't
-event_passed : (P : Event → Type 0) (xs : List Event) (e : Event) (n t : Bool) → (n ≡ true) ↔ OneOf P xs → (P e → ⊥)
-    → (n ≡ true) ↔ OneOf P (xs ++ cond t (e ∷ []) [])
-event_passed P xs e n true h k = (
-  λ g. one_left P xs _ (h.0 g),
+-- one event more, that is meant or isn't
+event_more : (P : Event → Type 0) (xs : List Event) (e : Event) (n meant p : Bool) → p ≡ cond meant true n → (n ≡ true) ↔ OneOf P xs
+    → (meant ≡ true) ↔ P e → (p ≡ true) ↔ OneOf P (xs ++ e ∷ [])
+event_more P xs e n true p is h k = (λ g. one_right P xs (e ∷ []) (inl (k.0 refl)), λ g. is)
+event_more P xs e n false p is h k = (
+  λ g. one_left P xs (e ∷ []) (h.0 (sym is ∙ g)),
   λ g. elim (one_parted P xs (e ∷ []) g) [
-    | inl i ↦ h.1 i
-    | inr (inl i) ↦ absurd (k i)
+    | inl i ↦ is ∙ h.1 i
+    | inr (inl i) ↦ let wrong : false ≡ true = k.1 i in absurd (cc)
     | inr (inr i) ↦ absurd i
   ],
 )
-event_passed P xs e n false h k = (
-  λ g. one_left P xs _ (h.0 g),
-  λ g. elim (one_parted P xs [] g) [
-    | inl i ↦ h.1 i
-    | inr i ↦ absurd i
+
+events_both : (P : Event → Type 0) (xs ys : List Event) (n m p : Bool) → p ≡ cond n true m → (n ≡ true) ↔ OneOf P xs → (m ≡ true) ↔ OneOf P ys
+    → (p ≡ true) ↔ OneOf P (xs ++ ys)
+events_both P xs ys true m p is h k = (λ g. one_left P xs ys (h.0 refl), λ g. is)
+events_both P xs ys false m p is h k = (
+  λ g. one_right P xs ys (k.0 (sym is ∙ g)),
+  λ g. elim (one_parted P xs ys g) [
+    | inl i ↦ let wrong : false ≡ true = h.1 i in absurd (cc)
+    | inr i ↦ is ∙ k.1 i
   ],
 )
 
-pub events_none : (a b : List Shape) (log : List ℕ) (f : Fact) (n : Node) → Makes a b (shape.Flag false) (Ok n) → TellsEvents a b log f [] n
-events_none a b log f n h = record {
+events_chosen : (P : Event → Type 0) (x y : Worth) (c n m p : Bool) → p ≡ cond c n m → (n ≡ true) ↔ OneOf P x.events → (m ≡ true) ↔ OneOf P y.events
+    → (p ≡ true) ↔ OneOf P (cond {A = Worth} c x y).events
+events_chosen P x y true n m p is h k = (λ g. h.0 (sym is ∙ g), λ g. is ∙ h.1 g)
+events_chosen P x y false n m p is h k = (λ g. k.0 (sym is ∙ g), λ g. is ∙ k.1 g)
+
+module _ (log : List ℕ) (f : Fact) where
+  -- nothing happened
+  pub shape_none : (a b : List Shape) (n : Node) → Makes a b (shape.Flag false) (Ok n) → TellsShape a b log f shape.NoEvents n
+  shape_none a b n h = record {
+    grows = h.grows;
+    term = h.node;
+    is = λ e v m.
+        let no : (v n.index).truth ≡ false = ap (λ (w : Worth). w.truth) (h.value.is e v m) in
+        (λ g. let wrong : false ≡ true = sym no ∙ g in absurd (cc), λ g. absurd g);
+  }
+
+  -- one event more
+  one_more : (a b : List Shape) (events : ℕ) (x : Event) (before n : Node) (meant : Bool) → TellsAt a log f events before
+      → OrMeant a b before meant n → (meant ≡ true) ↔ IsMeant log f x → (e : Environment) (v : Values) → Models b e v
+      → ((v n.index).truth ≡ true) ↔ OneOf (IsMeant log f) ((v events).events ++ x ∷ [])
+  one_more a b events x before n meant h k j e v m =
+      event_more (IsMeant log f) (v events).events x (v before.index).truth meant (v n.index).truth (k.is e v m) (h.is e v (weaken k.grows m)) j
+
+  pub shape_branch : (a b : List Shape) (events printed at : ℕ) (side : Side) (before n : Node) (meant : Bool) → TellsAt a log f events before
+      → OrMeant a b before meant n → (meant ≡ true) ↔ IsMeant log f (record { what = happening.Branch at side; printed = printed })
+      → TellsShape a b log f (shape.BranchEvent events printed at side) n
+  shape_branch a b events printed at side before n meant h k j =
+      record { grows = k.grows; term = k.term; is = λ e v m. one_more a b events _ before n meant h k j e v m }
+
+  pub shape_call : (a b : List Shape) (events printed at : ℕ) (before n : Node) (meant : Bool) → TellsAt a log f events before
+      → OrMeant a b before meant n → (meant ≡ true) ↔ IsMeant log f (record { what = happening.Call at; printed = printed })
+      → TellsShape a b log f (shape.CallEvent events printed at) n
+  shape_call a b events printed at before n meant h k j =
+      record { grows = k.grows; term = k.term; is = λ e v m. one_more a b events _ before n meant h k j e v m }
+
+  pub shape_print : (a b : List Shape) (events printed at length seen : ℕ) (before n : Node) (meant : Bool) → TellsAt a log f events before
+      → OrMeant a b before meant n
+      → ((k : ℕ) (xs : List ℤ) → (meant ≡ true) ↔ IsMeant log f (record { what = happening.Print at k xs; printed = printed }))
+      → TellsShape a b log f (shape.PrintEvent events printed at length seen) n
+  shape_print a b events printed at length seen before n meant h k j = record {
+    grows = k.grows;
+    term = k.term;
+    is = λ e v m. one_more a b events (record { what = happening.Print at length (v seen).numbers; printed = printed }) before n meant h k
+        (j length (v seen).numbers) e v m;
+  }
+
+  pub shape_both : (a b : List Shape) (xs ys : ℕ) (one other n : Node) → TellsAt a log f xs one → TellsAt a log f ys other
+      → Makes a b (shape.Connect connective.Or one.index other.index) (Ok n) → TellsShape a b log f (shape.EventsBehind xs ys) n
+  shape_both a b xs ys one other n h k j = record {
+    grows = j.grows;
+    term = j.node;
+    is = λ e v m.
+        let ma = weaken j.grows m in
+        events_both (IsMeant log f) (v xs).events (v ys).events (v one.index).truth (v other.index).truth (v n.index).truth
+        (ap (λ (w : Worth). w.truth) (j.value.is e v m)) (h.is e v ma) (k.is e v ma);
+  }
+
+  pub shape_chosen : (a b : List Shape) (s : Sort) (c xs ys : ℕ) (one other n : Node) → TellsAt a log f xs one → TellsAt a log f ys other
+      → Makes a b (shape.Choose sort.Truth c one.index other.index) (Ok n) → TellsShape a b log f (shape.Choose s c xs ys) n
+  shape_chosen a b s c xs ys one other n h k j = record {
+    grows = j.grows;
+    term = j.node;
+    is = λ e v m.
+        let ma = weaken j.grows m in
+        events_chosen (IsMeant log f) (v xs) (v ys) (v c).truth (v one.index).truth (v other.index).truth (v n.index).truth
+        (truth_chosen (v c).truth (v one.index) (v other.index) (v n.index) (j.value.is e v m)) (h.is e v ma) (k.is e v ma);
+  } where
+    truth_chosen : (c : Bool) (x y z : Worth) → z ≡ cond c x y → z.truth ≡ cond c x.truth y.truth
+    truth_chosen true x y z h = ap (λ (w : Worth). w.truth) h
+    truth_chosen false x y z h = ap (λ (w : Worth). w.truth) h
+
+  -- ---- what is told stays so as the bank grows
+
+  tells_grown : (a b : List Shape) (n : ℕ) (node : Node) → Grows a b → TellsAt a log f n node → TellsAt b log f n node
+  tells_grown a b n node g h = record { term = term_grown a b _ node g h.term; is = λ e v m. h.is e v (weaken g m) }
+
+  pub all_grown : (a b : List Shape) (told : Images) → Grows a b → AllTell a log f told → AllTell b log f told
+  all_grown a b told g h = record { tell = λ n node is. tells_grown a b n node g (h.tell n node is) }
+
+  none_at : (told : Images) (n : ℕ) → told.entries ≡ [] → get nat_eq told n ≡ None
+  none_at told n h = ap (λ es. lookup (nat_eq n) es) h
+
+  pub all_none : (a : List Shape) (told : Images) → told.entries ≡ [] → TellsAll a a log f told
+  all_none a told none = record {
+    grows = stays;
+    all = record { tell = λ n node is. let wrong : ◌≡◌ {A = Option Node} None (Some node) = sym (none_at told n none) ∙ is in absurd (cc) };
+  }
+
+  pub all_same : (a : List Shape) (told : Images) → AllTell a log f told → TellsAll a a log f told
+  all_same a told h = record { grows = stays; all = h }
+
+  same_number : (m n : ℕ) → nat_eq m n ≡ true → m ≡ n
+  same_number m n h = grind arith
+
+  -- with one node more
+  pub all_more : (a b : List Shape) (before after : Images) (k : ℕ) (shape : Shape) (node : Node) → AllTell a log f before
+      → slice_get a k ≡ Some shape → TellsShape a b log f shape node → Puts before after k node → TellsAll a b log f after
+  all_more a b before after k shape node h at is put =
+      record { grows = is.grows; all = record { tell = λ n other found. by n other (nat_eq k n) refl (sym (put n) ∙ found) } }
+    where
+      here : TellsAt b log f k node
+      here = record {
+        term = is.term;
+        is = λ e v m.
+            subst (λ (w : Worth). ((v node.index).truth ≡ true) ↔ OneOf (IsMeant log f) w.events) (sym ((weaken is.grows m).has k shape at))
+            (is.is e v m);
+      }
+
+      by : (n : ℕ) (other : Node) (c : Bool) → nat_eq k n ≡ c → cond (nat_eq k n) (Some node) (get nat_eq before n) ≡ Some other → TellsAt b log f n other
+      by n other true e found =
+          let same : node ≡ other = some_same (sym (ap (λ c. cond c (Some node) (get nat_eq before n)) e) ∙ found) in
+          subst (λ q. TellsAt b log f n q) same (subst (λ q. TellsAt b log f q node) (same_number k n e) here)
+        where
+          some_same : {x y : Node} → Some x ≡ Some y → x ≡ y
+          some_same h = cc
+      by n other false e found =
+          tells_grown a b n other is.grows (h.tell n other (sym (ap (λ c. cond c (Some node) (get nat_eq before n)) e) ∙ found))
+
+  pub all_then : (a b c : List Shape) (before after : Images) → TellsAll a b log f before → TellsAll b c log f after → TellsAll a c log f after
+  all_then a b c before after h k = record { grows = grows_on h.grows k.grows; all = k.all }
+
+-- the condition of a choice stands in the bank
+pub condition_of : (b : List Shape) (n : ℕ) (s : Sort) (c x y : ℕ) (chosen : Shape) → IsBank b → slice_get b n ≡ Some chosen
+    → chosen ≡ shape.Choose s c x y → IsTerm b sort.Truth (record { index = c; sort = sort.Truth })
+condition_of b n s c x y chosen bank at is =
+    let well = bank.well n (shape.Choose s c x y) (at ∙ ap (λ t. Some t) is) in
+    record { stands = well.each_part.0.stands.sorted; same = refl }
+
+pub each_put : (P : Node → Type 0) (xs : List Node) (x : Node) → Each P xs → P x → Each P (xs ++ x ∷ [])
+each_put P [] x h k = (k, tt)
+each_put P (y ∷ ys) x h k = (h.0, each_put P ys x h.1 k)
+
+pub or_always : (a b : List Shape) (before n : Node) (meant : Bool) → meant ≡ true → Makes a b (shape.Flag true) (Ok n) → OrMeant a b before meant n
+or_always a b before n meant so h = record {
   grows = h.grows;
   term = h.node;
-  is = λ e v m.
-      let no : (v n.index).truth ≡ false = ap (λ (w : Worth). w.truth) (h.value.is e v m) in
-      (λ g. let wrong : false ≡ true = sym no ∙ g in absurd (cc), λ g. absurd g);
+  is = λ e v m. ap (λ (w : Worth). w.truth) (h.value.is e v m) ∙ ap (λ c. cond c true (v before.index).truth) (sym so);
 }
 
-pub events_more : (a b c : List Shape) (log : List ℕ) (f : Fact) (xs : List PathEvent) (x : PathEvent) (n p : Node) → TellsEvents a b log f xs n
-    → Makes b c (shape.Connect connective.Or n.index x.truth.index) (Ok p) → ((v : Values) → IsMeant log f (event_in v x))
-    → TellsEvents a c log f (xs ++ x ∷ []) p
-events_more a b c log f xs x n p h k met = record {
-  grows = grows_on h.grows k.grows;
-  term = k.node;
-  is = λ e v m.
-      rw (seen_joined v xs (x ∷ []))
-      (event_met (IsMeant log f) (seen v xs) (event_in v x) (v n.index).truth (v x.truth.index).truth (v p.index).truth
-      (ap (λ (w : Worth). w.truth) (k.value.is e v m)) (h.is e v (weaken k.grows m)) (met v));
+pub or_before : (a : List Shape) (before : Node) (meant : Bool) → meant ≡ false → IsTerm a sort.Truth before → OrMeant a a before meant before
+or_before a before meant so is = record {
+  grows = stays;
+  term = is;
+  is = λ e v m. ap (λ c. cond c true (v before.index).truth) (sym so);
 }
 
-pub events_passed : (a b : List Shape) (log : List ℕ) (f : Fact) (xs : List PathEvent) (x : PathEvent) (n : Node) → TellsEvents a b log f xs n
-    → ((v : Values) → IsMeant log f (event_in v x) → ⊥) → TellsEvents a b log f (xs ++ x ∷ []) n
-events_passed a b log f xs x n h passed = record {
+pub for_holds : (a b : List Shape) (log : List ℕ) (q : Question) (f : Fact) (told : Images) → q ≡ question.Holds f → TellsAll a b log f told
+    → TellsFor a b log q told
+for_holds a b log q f told is h = record {
   grows = h.grows;
-  term = h.term;
-  is = λ e v m.
-      rw (seen_joined v xs (x ∷ []))
-      (event_passed (IsMeant log f) (seen v xs) (event_in v x) (v n.index).truth (v x.truth.index).truth (h.is e v m) (passed v));
-}
+  for = record { told_of = λ g so. subst (λ x. AllTell b log x told) (one (sym is ∙ so)) h.all };
+} where
+  one : {x y : Fact} → question.Holds x ≡ question.Holds y → x ≡ y
+  one h = cc
 
-pub event_of : (b : List Shape) (i : ℕ) (xs : List PathEvent) (x : PathEvent) → AreEvents b xs → i < length xs → x ≡ get_or xs i x → IsEvent b x
-event_of b i [] x are h is = absurd (omega (arith, h))
-event_of b zero (y ∷ ys) x are h is = subst (IsEvent b) (sym is) are.0
-event_of b (suc i) (y ∷ ys) x are h is = event_of b i ys x are.1 (omega (arith, h)) is
+pub for_none : (a : List Shape) (log : List ℕ) (q : Question) (told : Images) → ((f : Fact) → q ≡ question.Holds f → ⊥) → TellsFor a a log q told
+for_none a log q told other = record { grows = stays; for = record { told_of = λ f is. absurd (other f is) } }
+
+pub for_grown : (a b : List Shape) (log : List ℕ) (q : Question) (told : Images) → Grows a b → ToldFor a log q told → ToldFor b log q told
+for_grown a b log q told g h = record { told_of = λ f is. all_grown log f a b told g (h.told_of f is) }
 
 -- ---- one state
 
@@ -249,12 +375,12 @@ either_told A B C false false p is h k j = (
   ],
 )
 
-pub holds_told : (a b c d : List Shape) (log : List ℕ) (f : Fact) (s : State) (seen ended n : Node) (x : Bool)
-    → TellsEvents a b log f s.events seen → Makes b c (shape.Flag x) (Ok ended)
+pub holds_told : (b c d : List Shape) (log : List ℕ) (f : Fact) (s : State) (seen ended n : Node) (x : Bool)
+    → TellsAt b log f s.events.index seen → Makes b c (shape.Flag x) (Ok ended)
     → Makes c d (shape.Connect connective.Or seen.index ended.index) (Ok n)
-    → ((v : Values) → (x ≡ true) ↔ EndsSo f (shown log (done_in v s)).finish) → TellsState a d log (question.Holds f) s n
-holds_told a b c d log f s seen ended n x h k j so = record {
-  grows = grows_on h.grows (grows_on k.grows j.grows);
+    → ((v : Values) → (x ≡ true) ↔ EndsSo f (shown log (done_in v s)).finish) → TellsState b d log (question.Holds f) s n
+holds_told b c d log f s seen ended n x h k j so = record {
+  grows = grows_on k.grows j.grows;
   term = j.node;
   is = λ e v m.
       let mc = weaken j.grows m in
@@ -294,6 +420,10 @@ states_none a b log q n h = record {
       let no : (v n.index).truth ≡ false = ap (λ (w : Worth). w.truth) (h.value.is e v m) in
       (λ g. let wrong : false ≡ true = sym no ∙ g in absurd (cc), λ g. absurd g);
 }
+
+pub states_from : (a b c : List Shape) (log : List ℕ) (q : Question) (ss : List State) (n : Node) → Grows a b → TellsStates b c log q ss n
+    → TellsStates a c log q ss n
+states_from a b c log q ss n g h = record { grows = grows_on g h.grows; term = h.term; is = h.is }
 
 pub states_more : (a b c d f : List Shape) (log : List ℕ) (q : Question) (ss : List State) (s : State) (n said here p : Node) → TellsStates a b log q ss n
     → TellsState b c log q s said → Makes c d (shape.Connect connective.And s.guard.index said.index) (Ok here)

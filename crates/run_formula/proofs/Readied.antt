@@ -2,6 +2,7 @@
 use Rattle.std.proofs.Common.{◌≡◌, ◌+◌, ℕ, List, [], ◌∷◌, ◌++◌, true, cond, Option, Some, None, refl, sym, ap, subst, ◌∙◌, arith}
 use Rattle.std.specs.Prelude.{Ok}
 use Rattle.bit_words.specs.declared.bounds.Bounds.{Bounds}
+use Rattle.bit_words.specs.declared.run.Event.{Event}
 use Rattle.bit_words.specs.declared.width.Width.TheVariants.{W64}
 use Rattle.c_store.specs.Store.{Store, start, initial}
 use Rattle.c_means.specs.declared.kind.Kind.{Kind}
@@ -25,7 +26,7 @@ use Rattle.term_bank.specs.Values.{Environment, Values, Models, Worth}
 use Rattle.term_bank.proofs.BankLemmas.{weaken, grows_on}
 use Rattle.term_bank.proofs.TermLemmas.{node_of, term_grown}
 use Rattle.path_states.specs.declared.state.State.{State}
-use Rattle.path_states.specs.States.{IsSized, IsRoomy, AllSized, standing}
+use Rattle.path_states.specs.States.{Held, IsSized, IsRoomy, AllSized, standing}
 use Rattle.path_states.specs.Ways.{Goes, to_list}
 use Rattle.path_arrows.specs.Arrows.{bared, by_arrow}
 use Rattle.path_arrows.specs.Arrows as arrows
@@ -84,24 +85,39 @@ sets_more x room a b c ss ts us xs s h i = record {
 
 -- ---- where a run begins
 
-pub begun_one : (log : List ℕ) (a b c : List Shape) (guard memory : Node) (s : State) → s ≡ record {
+pub begun_one : (log : List ℕ) (a b c d : List Shape) (guard memory events : Node) (s : State) → s ≡ record {
   guard = guard;
   kind = k.Running;
   value = None;
   position = 0;
   memory = memory;
-  events = [];
+  events = events;
   operands = [];
-} → Makes a b (shape.Flag true) (Ok guard) → Makes b c shape.Entry (Ok memory) → Starts log a c (s ∷ [])
-begun_one log a b c guard memory s is hg hm =
-    subst (λ q. Starts log a c (q ∷ [])) (sym is)
+} → Makes a b (shape.Flag true) (Ok guard) → Makes b c shape.Entry (Ok memory) → Makes c d shape.NoEvents (Ok events) → Starts log a d (s ∷ [])
+begun_one log a b c d guard memory events s is hg hm he =
+    let bd = grows_on hm.grows he.grows in
+    subst (λ q. Starts log a d (q ∷ [])) (sym is)
     (record {
-      grows = grows_on hg.grows hm.grows;
-      states = (record { guard = term_grown b c _ guard hm.grows hg.node; memory = hm.node; value = tt; events = tt; operands = tt }, tt);
+      grows = grows_on hg.grows bd;
+      states = (
+        record {
+          guard = term_grown b d _ guard bd hg.node;
+          memory = term_grown c d _ memory he.grows hm.node;
+          value = tt;
+          events = he.node;
+          operands = tt;
+        },
+        tt,
+      );
       stand = λ e v m.
           let first : Store → List _ = λ q. arrows.bare (entered (along log) q 0) ∷ [] in
-          ap (λ g. cond g (first (v memory.index).store) []) (ap (λ (w : Worth). w.truth) (hg.value.is e v (weaken hm.grows m)))
-          ∙ ap first (ap (λ (w : Worth). w.store) (hm.value.is e v m));
+          let begun : List Event → Held = λ l. record {
+            operands = [];
+            done = record { kind = k.Running; value = None; store = (v memory.index).store; events = l; out = 0 };
+          } in
+          ap (λ g. cond g (begun (v events.index).events ∷ []) []) (ap (λ (w : Worth). w.truth) (hg.value.is e v (weaken bd m)))
+          ∙ ap (λ l. begun l ∷ []) (ap (λ (w : Worth). w.events) (he.value.is e v m))
+          ∙ ap first (ap (λ (w : Worth). w.store) (hm.value.is e v (weaken he.grows m)));
     })
 
 -- ---- before `main` is called

@@ -69,10 +69,10 @@ told_room t b l place s i h levelled some =
     let is : h.room ≡ room_in t (t.depth - 1) i.function = levelled.rooms (t.depth - 1) depth t.core.main h.room i.function h.told i.is in
     subst (λ r. place + r ≤ 2 ^ 32) is h.within
 
-pub runs_all : (t : Tour) (a b c d : List Shape) (l : Levelled) (place : ℕ) (s : Summary) (before ss : List State) → 1 ≤ t.depth
-    → t.core.has_arguments ≡ false → Levels t a b t.depth l → HasRoom t.core l.rooms place → Readies t b c before
+pub runs_all : (t : Tour) (a b c d : List Shape) (l : Levelled) (place : ℕ) (s : Summary) (before ss : List State) (k m : ℕ) → 1 ≤ t.depth
+    → t.core.has_arguments ≡ false → Levels t a b t.depth l k m → HasRoom t.core l.rooms place → Readies t b c before
     → StandsFor t b t.core.main (t.depth - 1) 0 s → s.parameters ≡ [] → EntersAll c d s place before ss → RunsAll t a d ss
-runs_all t a b c d l place s before ss some plain levels room readies stands none enters = record {
+runs_all t a b c d l place s before ss k m some plain levels room readies stands none enters = record {
   grows = grows_on levels.grows (grows_on readies.grows enters.grows);
   states = enters.states;
   stand = λ e v m.

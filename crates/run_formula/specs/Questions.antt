@@ -1,5 +1,6 @@
 -- What is asked of a run along a log.
-use Rattle.std.specs.Prelude.{◌≡◌, ◌↔◌, ◌⊎◌, ℕ, List, [], ◌∷◌, length, take, true, Option, Some, None}
+use Rattle.std.specs.Prelude.{◌≡◌, ◌↔◌, ◌⊎◌, ℕ, List, [], ◌∷◌, length, take, Bool, true, cond, nat_eq, Option, Some, None}
+use Rattle.std.specs.HashMap.{get}
 use Rattle.bit_words.specs.declared.fact.Fact.{Fact}
 use Rattle.bit_words.specs.declared.fact.Fact.TheVariants as fact
 use Rattle.bit_words.specs.declared.run.Event.{Event}
@@ -13,10 +14,10 @@ use Rattle.term_bank.specs.declared.sort.Sort.TheVariants.{Truth}
 use Rattle.term_bank.specs.declared.sort.Node.{Node}
 use Rattle.term_bank.specs.declared.shape.Shape.{Shape}
 use Rattle.term_bank.specs.Terms.{IsTerm}
-use Rattle.term_bank.specs.Values.{Environment, Values, Models, Grows}
-use Rattle.path_states.specs.declared.state.PathEvent.{PathEvent}
+use Rattle.term_bank.specs.Values.{Environment, Values, Models, Grows, worth}
+use Rattle.term_bank.specs.Images.{Images}
 use Rattle.path_states.specs.declared.state.State.{State}
-use Rattle.path_states.specs.States.{Held, seen, done_in, standing}
+use Rattle.path_states.specs.States.{Held, done_in, standing}
 use Rattle.run_formula.specs.declared.questions.Question.{Question}
 use Rattle.run_formula.specs.declared.questions.Question.TheVariants as question
 
@@ -69,12 +70,40 @@ MeetsOn log q (Some d) = Meets log q d
 
 -- ---- nodes
 
--- true where one of the events that were seen is meant
-pub record TellsEvents (a b : List Shape) (log : List ℕ) (f : Fact) (xs : List PathEvent) (n : Node) : Type 0 where
+-- true where one of a node's events is meant
+pub record TellsAt (b : List Shape) (log : List ℕ) (f : Fact) (events : ℕ) (n : Node) : Type 0 where
+  pub term : IsTerm b Truth n
+  pub is : (e : Environment) (v : Values) → Models b e v
+      → ((v n.index).truth ≡ true) ↔ OneOf (IsMeant log f) (v events).events
+
+-- the same of a shape's
+pub record TellsShape (a b : List Shape) (log : List ℕ) (f : Fact) (shape : Shape) (n : Node) : Type 0 where
   pub grows : Grows a b
   pub term : IsTerm b Truth n
   pub is : (e : Environment) (v : Values) → Models b e v
-      → ((v n.index).truth ≡ true) ↔ OneOf (IsMeant log f) (seen v xs)
+      → ((v n.index).truth ≡ true) ↔ OneOf (IsMeant log f) (worth e v shape).events
+
+-- the same of each node that has an entry
+pub record AllTell (b : List Shape) (log : List ℕ) (f : Fact) (told : Images) : Type 0 where
+  pub tell : (n : ℕ) (node : Node) → get nat_eq told n ≡ Some node → TellsAt b log f n node
+
+pub record TellsAll (a b : List Shape) (log : List ℕ) (f : Fact) (told : Images) : Type 0 where
+  pub grows : Grows a b
+  pub all : AllTell b log f told
+
+-- what a question asks of events
+pub record ToldFor (b : List Shape) (log : List ℕ) (q : Question) (told : Images) : Type 0 where
+  pub told_of : (f : Fact) → q ≡ question.Holds f → AllTell b log f told
+
+pub record TellsFor (a b : List Shape) (log : List ℕ) (q : Question) (told : Images) : Type 0 where
+  pub grows : Grows a b
+  pub for : ToldFor b log q told
+
+-- the first truth, or this
+pub record OrMeant (a b : List Shape) (before : Node) (meant : Bool) (n : Node) : Type 0 where
+  pub grows : Grows a b
+  pub term : IsTerm b Truth n
+  pub is : (e : Environment) (v : Values) → Models b e v → (v n.index).truth ≡ cond meant true (v before.index).truth
 
 -- true where the answer is yes on what a state says of a run
 pub record TellsState (a b : List Shape) (log : List ℕ) (q : Question) (s : State) (n : Node) : Type 0 where

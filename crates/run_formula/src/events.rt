@@ -1,108 +1,260 @@
-//! Which events a fact speaks of.
-ghost use Rattle.std.specs.Prelude.{◌≡◌, ◌↔◌, ◌++◌, ◌∷◌, [], List, true, IfOk};
-ghost use Rattle.term_bank.specs.declared.sort.Sort.TheVariants.{Truth};
-ghost use Rattle.term_bank.specs.declared.shape.Shape.{Shape as ShapeType};
+//! Whether something happened of which a fact speaks, for each node of events.
+ghost use Rattle.std.specs.Prelude.{◌≡◌, ◌↔◌, ℕ, ℤ, List, Some, true, nat_eq, slice_get, IfOk};
+ghost use Rattle.std.specs.HashMap.{get};
+ghost use Rattle.bit_words.specs.declared.run.Happening.TheVariants as happening;
+ghost use Rattle.log_text.specs.Lines.{line_of};
+ghost use Rattle.term_bank.specs.Banks.{IsBank};
 ghost use Rattle.term_bank.specs.Terms.{IsTerm};
-ghost use Rattle.path_states.specs.declared.state.PathEvent.{PathEvent as PathEventType};
-ghost use Rattle.log_text.specs.Shown as spec;
-ghost use Rattle.term_bank.specs.Values.{Values as ValuesType};
-ghost use Rattle.path_states.specs.States.{AreEvents, IsEvent, event_in, happening_in};
-ghost use Rattle.run_formula.specs.Questions.{IsMeant, TellsEvents};
+ghost use Rattle.term_bank.specs.declared.sort.Sort.TheVariants.{Truth};
+ghost use Rattle.path_states.specs.States.{AreStates};
+ghost use Rattle.run_formula.specs.Questions.{IsMeant, AllTell, TellsShape, TellsAll, TellsFor, OrMeant};
 
+use crate::questions::Question;
 use bit_words::{Fact, Side};
 use log_text::LogText;
-use path_states::{Noted, PathEvent};
+use path_states::State;
+use plain_data::Items;
 use run_facts::same_side;
-use term_bank::{Bank, BankFault, Connective, Node};
+use std::alloc::{AllocError, Global};
+use std::collections::HashMap;
+use term_bank::{Bank, BankFault, Connective, Node, Shape, Sort, nodes_under, set_image};
 
-fn is_branch(what: &Noted, at: u32, side: Side) -> bool
-    ensures { (v : ValuesType) → (result ≡ true) ↔ spec.IsBranch at side (happening_in v what.now) }
+/// Whether a position is in this line of the log.
+fn is_in_line(log: &LogText, line: u32, printed: u64) -> bool
+    ensures { (result ≡ true) ↔ (line_of log.now printed ≡ line) }
 {
-    match what {
-        Noted::Branch {
+    log.line_of(printed as usize) == line as usize
+}
+
+/// Whether a fact speaks of a branch at a token that takes a side behind so many printed bytes.
+fn speaks_of_branch(fact: &Fact, log: &LogText, printed: u64, at: u32, side: Side) -> bool
+    ensures { (result ≡ true) ↔ IsMeant log.now fact.now (record { what = happening.Branch at side; printed = printed }) }
+{
+    match *fact {
+        Fact::Branch {
             at: met,
             side: taken,
-        } => *met == at && same_side(*taken, side),
+        } => at == met && same_side(side, taken),
+        Fact::BranchIn {
+            at: met,
+            side: taken,
+            line,
+        } => at == met && same_side(side, taken) && is_in_line(log, line, printed),
         _ => false,
     }
 }
 
-fn is_call(what: &Noted, at: u32) -> bool
-    ensures { (v : ValuesType) → (result ≡ true) ↔ spec.IsCall at (happening_in v what.now) }
+/// Whether a fact speaks of a call at a token behind so many printed bytes.
+fn speaks_of_call(fact: &Fact, log: &LogText, printed: u64, at: u32) -> bool
+    ensures { (result ≡ true) ↔ IsMeant log.now fact.now (record { what = happening.Call at; printed = printed }) }
 {
-    match what {
-        Noted::Call { at: met } => *met == at,
-        _ => false,
-    }
-}
-
-fn is_print(what: &Noted, at: u32) -> bool
-    ensures { (v : ValuesType) → (result ≡ true) ↔ spec.IsPrint at (happening_in v what.now) }
-{
-    match what {
-        Noted::Print { at: met, .. } => *met == at,
-        _ => false,
-    }
-}
-
-/// Whether an event begins in this line of the log.
-fn begins_in(log: &LogText, line: u32, event: &PathEvent) -> bool
-    ensures { (v : ValuesType) → (result ≡ true) ↔ spec.BeginsIn log.now line (event_in v event.now) }
-{
-    log.line_of(event.position) == line as usize
-}
-
-/// Whether a fact speaks of an event.
-fn is_meant(event: &PathEvent, fact: &Fact, log: &LogText) -> bool
-    ensures { (v : ValuesType) → (result ≡ true) ↔ IsMeant log.now fact.now (event_in v event.now) }
-{
-    let what = event.what.get();
     match *fact {
-        Fact::Branch { at, side } => is_branch(what, at, side),
-        Fact::BranchIn { at, side, line } => {
-            is_branch(what, at, side) && begins_in(log, line, event)
-        }
-        Fact::Call { at } => is_call(what, at),
-        Fact::CallIn { at, line } => is_call(what, at) && begins_in(log, line, event),
-        Fact::Print { at, line } => is_print(what, at) && begins_in(log, line, event),
+        Fact::Call { at: met } => at == met,
+        Fact::CallIn { at: met, line } => at == met && is_in_line(log, line, printed),
         _ => false,
     }
 }
 
-/// The truth that some event was seen of which the fact speaks, with one event more.
-fn or_event(
-    bank: &mut Bank,
-    any: Node,
-    event: &PathEvent,
-    fact: &Fact,
-    log: &LogText,
-) -> Result<Node, BankFault>
-    requires any { IsTerm bank.old Truth any }
-    requires event { IsEvent bank.old event.now }
-    ensures { IfOk result (λ n. (a : List ShapeType) (xs : List PathEventType)
-        → TellsEvents a bank.old log.now fact.now xs any
-        → TellsEvents a bank.new log.now fact.now (xs ++ event.now ∷ []) n) }
+/// Whether a fact speaks of a print at a token behind so many printed bytes.
+fn speaks_of_print(fact: &Fact, log: &LogText, printed: u64, at: u32) -> bool
+    ensures { (length : ℕ) (seen : List ℤ) → (result ≡ true) ↔ IsMeant log.now fact.now (record {
+      what = happening.Print at length seen;
+      printed = printed;
+    }) }
 {
-    if !is_meant(event, fact, log) {
-        return Ok(any);
+    match *fact {
+        Fact::Print { at: met, line } => at == met && is_in_line(log, line, printed),
+        _ => false,
     }
-    let node = bank.connect(Connective::Or, any, event.truth)?;
-    Ok(node)
 }
 
-/// Whether an event was seen of which the fact speaks. It fails for want of memory alone.
-pub(crate) fn any_event(
+/// The truth that is told of some events. It fails where nothing is told of them.
+fn told_of(told: &HashMap<u32, Node>, events: u32) -> Result<Node, BankFault>
+    ensures { IfOk result (λ n. get nat_eq told.now events ≡ Some n) }
+{
+    match told.get(&events) {
+        Some(node) => Ok(*node),
+        None => Err(BankFault::Memory),
+    }
+}
+
+/// The truth of what happened before, or that what happens next is meant.
+fn or_meant(bank: &mut Bank, before: Node, meant: bool) -> Result<Node, BankFault>
+    requires { IsTerm bank.old Truth before }
+    ensures { IfOk result (OrMeant bank.old bank.new before meant) }
+{
+    if meant {
+        let always = bank.truth(true)?;
+        return Ok(always);
+    }
+    Ok(before)
+}
+
+/// The truth that the fact speaks of one of a node's events, by what is told of the nodes below it.
+fn tell(
     bank: &mut Bank,
-    events: &[PathEvent],
+    told: &HashMap<u32, Node>,
+    number: u32,
+    shape: Shape,
     fact: &Fact,
     log: &LogText,
 ) -> Result<Node, BankFault>
-    requires { AreEvents bank.old events.now }
-    ensures { IfOk result (TellsEvents bank.old bank.new log.now fact.now events.now) }
+    requires told { AllTell bank.old log.now fact.now told.now }
+    requires stands { slice_get bank.old number ≡ Some shape }
+    requires bank { IsBank bank.old }
+    ensures { IfOk result (TellsShape bank.old bank.new log.now fact.now shape) }
 {
-    let mut any = bank.truth(false)?;
-    for event in events {
-        any = or_event(bank, any, event, fact, log)?;
+    match shape {
+        Shape::NoEvents => {
+            let never = bank.truth(false)?;
+            Ok(never)
+        }
+        Shape::BranchEvent {
+            events,
+            printed,
+            at,
+            side,
+        } => {
+            let before = told_of(told, events)?;
+            let meant = speaks_of_branch(fact, log, printed, at, side);
+            let node = or_meant(bank, before, meant)?;
+            Ok(node)
+        }
+        Shape::CallEvent {
+            events,
+            printed,
+            at,
+        } => {
+            let before = told_of(told, events)?;
+            let meant = speaks_of_call(fact, log, printed, at);
+            let node = or_meant(bank, before, meant)?;
+            Ok(node)
+        }
+        Shape::PrintEvent {
+            events,
+            printed,
+            at,
+            ..
+        } => {
+            let before = told_of(told, events)?;
+            let meant = speaks_of_print(fact, log, printed, at);
+            let node = or_meant(bank, before, meant)?;
+            Ok(node)
+        }
+        Shape::EventsBehind { first, second } => {
+            let one = told_of(told, first)?;
+            let other = told_of(told, second)?;
+            let node = bank.connect(Connective::Or, one, other)?;
+            Ok(node)
+        }
+        Shape::Choose {
+            condition,
+            yes,
+            no,
+            ..
+        } => {
+            let first = told_of(told, yes)?;
+            let second = told_of(told, no)?;
+            let guard = Node {
+                index: condition,
+                sort: Sort::Truth,
+            };
+            let node = bank.choose(Sort::Truth, guard, first, second)?;
+            Ok(node)
+        }
+        _ => Err(BankFault::Memory),
     }
-    Ok(any)
+}
+
+/// Whether a node is of events.
+fn has_events(bank: &Bank, number: u32) -> bool {
+    match bank.shape(number) {
+        Some(shape) => shape.sort() == Sort::Events,
+        None => false,
+    }
+}
+
+/// The nodes of events under those of states, each behind the nodes below it.
+pub(crate) fn events_under(
+    alloc: Global,
+    bank: &Bank,
+    states: &[State],
+) -> Result<Items<u32>, AllocError>
+    requires { AreStates bank.now states.now }
+{
+    let mut roots = Items::new(alloc);
+    for state in states {
+        roots.push(state.events)?;
+    }
+    let mut under = nodes_under(alloc, bank, roots.as_slice())?;
+    let mut numbers = Items::new(alloc);
+    'numbers: while let Some(number) = under.pop() {
+        if has_events(bank, number) {
+            numbers.push(number)?;
+        }
+    }
+    Ok(numbers)
+}
+
+/// One more node of events, of which it is told whether the fact speaks of one.
+fn tell_next(
+    bank: &mut Bank,
+    told: &mut HashMap<u32, Node>,
+    number: u32,
+    fact: &Fact,
+    log: &LogText,
+) -> Result<(), BankFault>
+    requires { AllTell bank.old log.now fact.now told.old }
+    ensures { IfOk result (λ _. TellsAll bank.old bank.new log.now fact.now told.new) }
+{
+    if let Some(shape) = bank.shape(number) {
+        let node = tell(bank, told, number, shape, fact, log)?;
+        set_image(told, number, node)?;
+    }
+    Ok(())
+}
+
+/// Of each of these nodes of events, which stand behind those below them, the truth that the fact speaks of one of its
+/// events. It fails for want of memory alone.
+fn tell_all(
+    alloc: Global,
+    bank: &mut Bank,
+    numbers: &[u32],
+    fact: &Fact,
+    log: &LogText,
+) -> Result<HashMap<u32, Node>, BankFault>
+    ensures { IfOk result (TellsAll bank.old bank.new log.now fact.now) }
+{
+    let mut told = HashMap::new(alloc);
+    for number in numbers {
+        tell_next(bank, &mut told, *number, fact, log)?;
+    }
+    Ok(told)
+}
+
+/// What is to be known of nodes of events for a question. It fails for want of memory alone.
+pub(crate) fn tell_for(
+    alloc: Global,
+    bank: &mut Bank,
+    numbers: &[u32],
+    question: Question,
+    log: &LogText,
+) -> Result<HashMap<u32, Node>, BankFault>
+    ensures { IfOk result (TellsFor bank.old bank.new log.now question) }
+{
+    match question {
+        Question::Holds(fact) => {
+            let told = tell_all(alloc, bank, numbers, &fact, log)?;
+            Ok(told)
+        }
+        Question::Fits | Question::Left => Ok(HashMap::new(alloc)),
+    }
+}
+
+/// The truth that the fact speaks of one of a state's events. It fails for want of memory alone.
+pub(crate) fn any_event(told: &HashMap<u32, Node>, events: Node) -> Result<Node, BankFault>
+    ensures { IfOk result (λ n. get nat_eq told.now events.index ≡ Some n) }
+{
+    let node = told_of(told, events.index)?;
+    Ok(node)
 }

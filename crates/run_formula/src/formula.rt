@@ -1,13 +1,15 @@
 //! The formula of a program's runs.
-ghost use Rattle.std.specs.Prelude.{IfOk};
+ghost use Rattle.std.specs.Prelude.{◌≡◌, ◌+◌, IfOk};
 ghost use Rattle.c_runs.specs.Units.{limits_of};
 ghost use Rattle.log_expr.specs.Sound.{IsSound};
 ghost use Rattle.path_states.specs.States.{AreStates};
+ghost use Rattle.path_summaries.specs.Levels.{keys_within};
 ghost use Rattle.path_summaries.specs.Tours.{tour_of};
 ghost use Rattle.run_formula.specs.Questions.{AsksAll};
 ghost use Rattle.run_formula.specs.Formula.{IsFormula};
 
 use crate::asking::ask;
+use crate::events::events_under;
 use crate::questions::Question;
 use crate::whole::run_states;
 use bit_words::{Bounds, Fact};
@@ -35,6 +37,7 @@ pub struct RunFormula {
 fn ask_all(
     alloc: Global,
     bank: &mut Bank,
+    events: &[u32],
     states: &[State],
     facts: &[Fact],
     log: &LogText,
@@ -44,14 +47,14 @@ fn ask_all(
 {
     let mut nodes = Items::new(alloc);
     for fact in facts {
-        let node = ask(bank, states, Question::Holds(*fact), log)?;
+        let node = ask(alloc, bank, events, states, Question::Holds(*fact), log)?;
         nodes.push(node)?;
     }
     Ok(nodes)
 }
 
-/// The formula of a program's runs along a log, for these facts. It fails for want of memory, and where the walk can't
-/// do a step yet (`run_states`).
+/// The formula of a program's runs along a log, for these facts. It counts its walks: one for each key of the table of
+/// ends. It fails for want of memory, and where the walk can't do a step yet (`run_states`).
 pub fn run_formula(
     alloc: Global,
     core: &Core,
@@ -60,13 +63,24 @@ pub fn run_formula(
     ends: &EndTable,
     facts: &[Fact],
     bank: &mut Bank,
+    walks: &mut u64,
 ) -> Result<RunFormula, WalkFault>
     requires { IsSound core.now log.now (limits_of bounds.now) bounds.now.depth ends.now }
-    ensures { IfOk result (IsFormula (tour_of core.now log.now bounds.now ends.now) bank.old bank.new facts.now) }
+    ensures formula { IfOk result (IsFormula (tour_of core.now log.now bounds.now ends.now) bank.old bank.new
+        facts.now) }
+    ensures counted { IfOk result (λ _. walks.new ≡ walks.old + keys_within bounds.now.depth ends.now) }
 {
-    let states = run_states(alloc, core, log.bytes(), bounds, ends, bank)?;
-    let fits = ask(bank, states.as_slice(), Question::Fits, log)?;
-    let left = ask(bank, states.as_slice(), Question::Left, log)?;
-    let facts = ask_all(alloc, bank, states.as_slice(), facts, log)?;
+    let states = run_states(alloc, core, log.bytes(), bounds, ends, bank, walks)?;
+    let fits = ask(alloc, bank, &[], states.as_slice(), Question::Fits, log)?;
+    let left = ask(alloc, bank, &[], states.as_slice(), Question::Left, log)?;
+    let events = events_under(alloc, bank, states.as_slice())?;
+    let facts = ask_all(
+        alloc,
+        bank,
+        events.as_slice(),
+        states.as_slice(),
+        facts,
+        log,
+    )?;
     Ok(RunFormula { fits, left, facts })
 }

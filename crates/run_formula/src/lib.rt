@@ -13,7 +13,6 @@ mod starts;
 mod texts;
 mod whole;
 
-pub use asking::ask;
 pub use formula::{RunFormula, run_formula};
 pub use questions::Question;
 pub use starts::start_memory;

@@ -105,13 +105,14 @@ fn begin(alloc: Global, bank: &mut Bank) -> Result<Items<State>, BankFault>
 {
     let guard = bank.truth(true)?;
     let memory = bank.entry()?;
+    let events = bank.no_events()?;
     let first = State {
         guard,
         kind: Kind::Running,
         value: None,
         position: 0,
         memory,
-        events: Items::new(alloc),
+        events,
         operands: Items::new(alloc),
     };
     let states = alone(alloc, first)?;

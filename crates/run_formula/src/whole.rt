@@ -1,7 +1,8 @@
 //! All runs of a program along a log at once.
-ghost use Rattle.std.specs.Prelude.{◌≡◌, Some, IfOk, slice_get};
+ghost use Rattle.std.specs.Prelude.{◌≡◌, ◌+◌, Some, IfOk, slice_get};
 ghost use Rattle.c_runs.specs.Units.{limits_of};
 ghost use Rattle.log_expr.specs.Sound.{IsSound};
+ghost use Rattle.path_summaries.specs.Levels.{keys_within};
 ghost use Rattle.path_summaries.specs.Tours.{tour_of};
 ghost use Rattle.run_formula.specs.Whole.{HasRoom, RunsAll};
 
@@ -53,8 +54,8 @@ fn place_of_main(core: &Core, rooms: &[Option<u64>]) -> Result<u64, WalkFault>
     Ok(place)
 }
 
-/// The ends of the program's runs along the log in all worlds at once, as states over the world alone. It fails for
-/// want of memory, where the walk can't do a step yet, where `main` is given arguments, which isn't walked yet, and where
+/// The ends of the program's runs along the log in all worlds at once, as states over the world alone. It counts its
+/// walks: one for each key of the table of ends. It fails for want of memory, where the walk can't do a step yet, where `main` is given arguments, which isn't walked yet, and where
 /// there are more places than numbers.
 pub fn run_states(
     alloc: Global,
@@ -63,14 +64,16 @@ pub fn run_states(
     bounds: &Bounds,
     ends: &EndTable,
     bank: &mut Bank,
+    walks: &mut u64,
 ) -> Result<Items<State>, WalkFault>
     requires { IsSound core.now log.now (limits_of bounds.now) bounds.now.depth ends.now }
-    ensures { IfOk result (λ ss. RunsAll (tour_of core.now log.now bounds.now ends.now) bank.old bank.new ss) }
+    ensures runs { IfOk result (λ ss. RunsAll (tour_of core.now log.now bounds.now ends.now) bank.old bank.new ss) }
+    ensures counted { IfOk result (λ _. walks.new ≡ walks.old + keys_within bounds.now.depth ends.now) }
 {
     if core.has_arguments {
         return Err(WalkFault::Unwalked);
     }
-    let levels = summarize(alloc, core, log, bounds, ends, bank)?;
+    let levels = summarize(alloc, core, log, bounds, ends, bank, walks)?;
     let place = place_of_main(core, levels.rooms.as_slice())?;
     let readied = ready(alloc, core, log, bounds, bank)?;
     match levels.table.find(core.main, bounds.depth - 1, 0) {

@@ -3,6 +3,7 @@
 #![tactic(auto)]
 
 use command::{run, tell_memory, tell_usage};
+use diagnoses::Kept;
 use sl_io::{FileShelf, StreamSink};
 use std::env;
 use std::io::ErrorKind;
@@ -33,7 +34,15 @@ fn status_of(rt: &HostRuntime) -> u8 {
         Ok(words) => {
             let mut shelf = FileShelf::new(rt);
             let mut out = StreamSink::new(rt.stdout());
-            run(rt.alloc(), words.as_slice(), &mut shelf, &mut out, &mut err)
+            let mut kept = Kept::new(rt.alloc());
+            run(
+                rt.alloc(),
+                words.as_slice(),
+                &mut shelf,
+                &mut out,
+                &mut err,
+                &mut kept,
+            )
         }
         Err(WordFault::NotText) => {
             tell_usage(&mut err);

@@ -1,5 +1,6 @@
 //! Runs over files and sinks in memory that fail on demand. What the files of the system show stands in `checks/`.
 use command::run;
+use diagnoses::Kept;
 use plain_data::Items;
 use sl_io::{FailShelf, FailSink, FailedWrite, MemShelf, MemSink};
 use std::alloc::Global;
@@ -109,7 +110,15 @@ fn runs_over_a_failing_outside(rt: HostRuntime) -> Result<(), Fail> {
         let mut shelf = shelf(alloc, failing)?;
         let mut out = sink(alloc, failing_out)?;
         let mut err = sink(alloc, failing_err)?;
-        let found = run(alloc, words.as_slice(), &mut shelf, &mut out, &mut err);
+        let mut kept = Kept::new(alloc);
+        let found = run(
+            alloc,
+            words.as_slice(),
+            &mut shelf,
+            &mut out,
+            &mut err,
+            &mut kept,
+        );
         assert_eq!(rt; found, status, "{line}");
         assert_eq!(rt; shelf.calls(), gets);
         let report = match line.split(' ').next() {

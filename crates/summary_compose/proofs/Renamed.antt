@@ -11,14 +11,9 @@ use Rattle.term_bank.specs.Terms.{IsTerm}
 use Rattle.term_bank.specs.Values.{Environment, Values, Models}
 use Rattle.term_bank.proofs.TermLemmas.{term_of}
 use Rattle.path_states.specs.declared.state.Number.{Number}
-use Rattle.path_states.specs.declared.state.Noted.{Noted}
-use Rattle.path_states.specs.declared.state.Noted.TheVariants as noted
-use Rattle.path_states.specs.declared.state.PathEvent.{PathEvent}
 use Rattle.path_states.specs.declared.state.State.{State}
-use Rattle.path_states.specs.States.{AreNumbers, IsMaybeNumber, IsNoted, AreEvents, IsState, AreStates}
-use Rattle.path_states.specs.States.{number_in, numbers_in, maybe_number, onto, happening_in, event_in, seen, run_in, standing}
-use Rattle.summary_compose.specs.Renaming.{each_of, number_node, maybe_node, noted_nodes, event_nodes, state_nodes}
-use Rattle.summary_compose.specs.Renaming.{other_number, other_noted, other_event, other_state, Pictures}
+use Rattle.path_states.specs.States.{AreNumbers, IsMaybeNumber, IsState, AreStates, number_in, maybe_number, onto, run_in, standing}
+use Rattle.summary_compose.specs.Renaming.{each_of, number_node, maybe_node, state_nodes, other_number, other_state, Pictures}
 use Rattle.summary_compose.proofs.Lists.{all_front, all_back}
 
 module _ (old new : List Shape) (put : Binding) (f : Node → Node) where
@@ -37,10 +32,6 @@ module _ (old new : List Shape) (put : Binding) (f : Node → Node) where
     same_number : (x : Number) → P x.node → number_in v (other_number f x) ≡ number_in w x
     same_number x h = rw (same_node x.node h) refl
 
-    same_numbers : (xs : List Number) → Has (each_of number_node xs) → numbers_in v (map (other_number f) xs) ≡ numbers_in w xs
-    same_numbers [] h = refl
-    same_numbers (x ∷ xs) h = rw (same_number x h.0, same_numbers xs h.1) refl
-
     same_onto : (zs : List ℤ) (xs : List Number) → Has (each_of number_node xs) → onto v zs (map (other_number f) xs) ≡ onto w zs xs
     same_onto zs [] h = refl
     same_onto zs (x ∷ xs) h =
@@ -50,34 +41,14 @@ module _ (old new : List Shape) (put : Binding) (f : Node → Node) where
     same_maybe None h = refl
     same_maybe (Some x) h = ap (λ z. Some z) (same_number x h.0)
 
-    same_noted : (x : Noted) → Has (noted_nodes x) → happening_in v (other_noted f x) ≡ happening_in w x
-    same_noted (noted.Branch at side) h = refl
-    same_noted (noted.Call at) h = refl
-    same_noted (noted.Print at length xs) h = rw (same_numbers xs h) refl
-
-    same_event : (x : PathEvent) → Has (event_nodes x) → event_in v (other_event f x) ≡ event_in w x
-    same_event x h = rw (same_noted x.what h.1) refl
-
-    same_seen : (xs : List PathEvent) → Has (each_of event_nodes xs) → seen v (map (other_event f) xs) ≡ seen w xs
-    same_seen [] h = refl
-    same_seen (x ∷ xs) h =
-        let one : Has (event_nodes x) = all_front P (event_nodes x) (each_of event_nodes xs) h in
-        rw (
-          same_node x.truth one.0,
-          same_event x one,
-          same_seen xs (all_back P (event_nodes x) (each_of event_nodes xs) h),
-        ) refl
-
     pub same_run : (s : State) → Has (state_nodes s) → run_in v (other_state f s) ≡ run_in w s
     same_run s h =
         let value : List Node = maybe_node s.value in
-        let events : List Node = each_of event_nodes s.events in
         let operands : List Node = each_of number_node s.operands in
-        let rest : Has (events ++ operands) = all_back P value (events ++ operands) h.1.1 in
         rw (
-          same_onto [] s.operands (all_back P events operands rest),
-          same_maybe s.value (all_front P value (events ++ operands) h.1.1),
-          same_seen s.events (all_front P events operands rest),
+          same_onto [] s.operands (all_back P value operands h.1.1.1),
+          same_maybe s.value (all_front P value operands h.1.1.1),
+          same_node s.events h.1.1.0,
           same_node s.memory h.1.0,
         ) refl
 
@@ -106,31 +77,16 @@ module _ (old new : List Shape) (put : Binding) (f : Node → Node) where
   is_maybe None h k = tt
   is_maybe (Some x) h k = record { term = other_term _ x.node h.term k.0 }
 
-  is_noted : (x : Noted) → IsNoted old x → Has (noted_nodes x) → IsNoted new (other_noted f x)
-  is_noted (noted.Branch at side) h k = tt
-  is_noted (noted.Call at) h k = tt
-  is_noted (noted.Print at length xs) h k = are_numbers xs h k
-
-  are_events : (xs : List PathEvent) → AreEvents old xs → Has (each_of event_nodes xs) → AreEvents new (map (other_event f) xs)
-  are_events [] h k = tt
-  are_events (x ∷ xs) h k =
-      let one : Has (event_nodes x) = all_front P (event_nodes x) (each_of event_nodes xs) k in (
-        record { what = is_noted x.what h.0.what one.1; truth = other_term _ x.truth h.0.truth one.0 },
-        are_events xs h.1 (all_back P (event_nodes x) (each_of event_nodes xs) k),
-      )
-
   is_state : (s : State) → IsState old s → Has (state_nodes s) → IsState new (other_state f s)
   is_state s h k =
       let value : List Node = maybe_node s.value in
-      let events : List Node = each_of event_nodes s.events in
       let operands : List Node = each_of number_node s.operands in
-      let rest : Has (events ++ operands) = all_back P value (events ++ operands) k.1.1 in
       record {
         guard = other_term _ s.guard h.guard k.0;
         memory = other_term _ s.memory h.memory k.1.0;
-        value = is_maybe s.value h.value (all_front P value (events ++ operands) k.1.1);
-        events = are_events s.events h.events (all_front P events operands rest);
-        operands = are_numbers s.operands h.operands (all_back P events operands rest);
+        value = is_maybe s.value h.value (all_front P value operands k.1.1.1);
+        events = other_term _ s.events h.events k.1.1.0;
+        operands = are_numbers s.operands h.operands (all_back P value operands k.1.1.1);
       }
 
   pub are_states : (ss : List State) → AreStates old ss → Has (each_of state_nodes ss) → AreStates new (map (other_state f) ss)

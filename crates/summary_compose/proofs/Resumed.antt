@@ -14,21 +14,19 @@ use Rattle.core_tree.specs.States.{Done, ◌>>=◌, along, note, returned_in}
 use Rattle.core_tree.specs.Values.{needed}
 use Rattle.term_bank.specs.declared.sort.Node.{Node}
 use Rattle.term_bank.specs.declared.shape.Shape.{Shape}
-use Rattle.term_bank.specs.declared.shape.Shape.TheVariants.{Flag, Connect}
+use Rattle.term_bank.specs.declared.shape.Shape.TheVariants.{Connect, CallEvent, EventsBehind}
 use Rattle.term_bank.specs.declared.shape.Connective.TheVariants.{And}
 use Rattle.term_bank.specs.Terms.{Makes}
 use Rattle.term_bank.specs.Values.{Environment, Worth, Values, Models, Grows}
 use Rattle.term_bank.proofs.BankLemmas.{weaken, stays, grows_on}
 use Rattle.term_bank.proofs.TermLemmas.{term_grown}
 use Rattle.path_states.specs.declared.state.Number.{Number}
-use Rattle.path_states.specs.declared.state.Noted.TheVariants as noted
-use Rattle.path_states.specs.declared.state.PathEvent.{PathEvent}
 use Rattle.path_states.specs.declared.state.State.{State}
 use Rattle.path_states.specs.declared.state.Walked.{Walked}
 use Rattle.path_states.specs.States.{Held, IsNumber, IsMaybeNumber, IsState}
-use Rattle.path_states.specs.States.{number_in, maybe_number, onto, seen, done_in, run_in, standing}
+use Rattle.path_states.specs.States.{number_in, maybe_number, onto, done_in, run_in, standing}
 use Rattle.path_states.specs.Ways.{going, ending, to_list}
-use Rattle.path_states.proofs.Growth.{state_grown, states_grown, states_joined, events_joined, seen_joined, standing_joined, numbers_joined, onto_pushed}
+use Rattle.path_states.proofs.Growth.{state_grown, states_grown, states_joined, standing_joined, numbers_joined, onto_pushed}
 use Rattle.path_numbers.specs.Answers.{Numbered}
 use Rattle.path_steps.specs.Operands.{pushed}
 use Rattle.path_forms.specs.declared.calling.CallSite.{CallSite}
@@ -38,49 +36,34 @@ use Rattle.summary_compose.proofs.Lists.{each_joined}
 
 -- ---- the caller with what an end left and noted
 
-abbrev pub after_end : State → State → ℕ → Node → Node → State
-after_end caller end at always guard = record caller {
-  guard = guard;
-  position = end.position;
-  memory = end.memory;
-  events = (caller.events ++ record { what = noted.Call at; position = caller.position; truth = always } ∷ []) ++ end.events;
-}
+abbrev pub after_end : State → State → Node → Node → State
+after_end caller end guard events = record caller { guard = guard; position = end.position; memory = end.memory; events = events }
 
-noted_seen : (v : Values) (xs ys : List PathEvent) (at position : ℕ) (always : Node) → (v always.index).truth ≡ true
-    → seen v ((xs ++ record { what = noted.Call at; position = position; truth = always } ∷ []) ++ ys)
-    ≡ (seen v xs ++ record { what = happening.Call at; printed = position } ∷ []) ++ seen v ys
-noted_seen v xs ys at position always h =
-    let x : PathEvent = record { what = noted.Call at; position = position; truth = always } in
-    seen_joined v (xs ++ x ∷ []) ys ∙ ap (λ l. l ++ seen v ys) (seen_joined v xs (x ∷ []) ∙ ap (λ l. seen v xs ++ l) (one h)) where
-      one : (v always.index).truth ≡ true → cond {A = List Event} (v always.index).truth (record { what = happening.Call at; printed = position } ∷ []) []
-          ≡ record { what = happening.Call at; printed = position } ∷ []
-      one is = rw is refl
-
-pub continued : (a b c : List Shape) (site : CallSite) (caller end : State) (always guard : Node) → IsState a caller → IsState a end
-    → Makes a b (Flag true) (Ok always) → Makes b c (Connect And caller.guard.index end.guard.index) (Ok guard)
-    → Continues a c site caller end (after_end caller end site.at always guard)
-continued a b c site caller end always guard h k ma mg =
-    let ac = grows_on ma.grows mg.grows in
-    let one = state_grown ac caller h in
-    let other = state_grown ac end k in
+pub continued : (a b c d : List Shape) (site : CallSite) (caller end : State) (guard called events : Node) → IsState a caller → IsState a end
+    → Makes a b (Connect And caller.guard.index end.guard.index) (Ok guard)
+    → Makes b c (CallEvent caller.events.index caller.position site.at) (Ok called)
+    → Makes c d (EventsBehind called.index end.events.index) (Ok events)
+    → Continues a d site caller end (after_end caller end guard events)
+continued a b c d site caller end guard called events h k mg mc me =
+    let bd = grows_on mc.grows me.grows in
+    let ad = grows_on mg.grows bd in
+    let one = state_grown ad caller h in
+    let other = state_grown ad end k in
     record {
-      grows = ac;
+      grows = ad;
       state = record {
-        guard = mg.node;
+        guard = term_grown b d _ guard bd mg.node;
         memory = other.memory;
         value = one.value;
-        events = events_joined c (caller.events ++ record { what = noted.Call site.at; position = caller.position; truth = always } ∷ []) end.events
-            (events_joined c caller.events (record { what = noted.Call site.at; position = caller.position; truth = always } ∷ []) one.events
-            (record { what = tt; truth = term_grown b c _ always mg.grows ma.node }, tt))
-            other.events;
+        events = me.node;
         operands = one.operands;
       };
       operands = refl;
-      guard = λ e v m. ap (λ (x : Worth). x.truth) (mg.value.is e v m);
+      guard = λ e v m. ap (λ (x : Worth). x.truth) (mg.value.is e v (weaken bd m));
       is = λ e v m.
           ap (λ l. record (done_in v caller) { store = (v end.memory.index).store; events = l; out = end.position })
-          (noted_seen v caller.events end.events site.at caller.position always
-          (ap (λ (x : Worth). x.truth) (ma.value.is e v (weaken mg.grows m))));
+          (ap (λ (x : Worth). x.events) (me.value.is e v m)
+          ∙ ap (λ (x : Worth). x.events ++ (v end.events.index).events) (mc.value.is e v (weaken me.grows m)));
     }
 
 -- ---- the value

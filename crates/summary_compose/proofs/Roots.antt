@@ -11,12 +11,9 @@ use Rattle.term_bank.specs.Images.{Images, AreImages, Puts, image_at}
 use Rattle.term_bank.specs.Shapes.{Each, IsNode}
 use Rattle.term_bank.proofs.TermLemmas.{node_of}
 use Rattle.path_states.specs.declared.state.Number.{Number}
-use Rattle.path_states.specs.declared.state.Noted.{Noted}
-use Rattle.path_states.specs.declared.state.Noted.TheVariants as noted
-use Rattle.path_states.specs.declared.state.PathEvent.{PathEvent}
 use Rattle.path_states.specs.declared.state.State.{State}
-use Rattle.path_states.specs.States.{AreNumbers, IsMaybeNumber, IsNoted, AreEvents, IsState, AreStates}
-use Rattle.summary_compose.specs.Renaming.{each_of, number_node, maybe_node, noted_nodes, event_nodes, state_nodes, Pictures}
+use Rattle.path_states.specs.States.{AreNumbers, IsMaybeNumber, IsState, AreStates}
+use Rattle.summary_compose.specs.Renaming.{each_of, number_node, maybe_node, state_nodes, Pictures}
 
 -- ---- the nodes stand in the bank
 
@@ -32,29 +29,18 @@ maybe_roots : (b : List Shape) (x : Option Number) → IsMaybeNumber b x → Eac
 maybe_roots b None h = tt
 maybe_roots b (Some x) h = (node_of b _ x.node h.term, tt)
 
-noted_roots : (b : List Shape) (x : Noted) → IsNoted b x → Each (IsNode b) (noted_nodes x)
-noted_roots b (noted.Branch at side) h = tt
-noted_roots b (noted.Call at) h = tt
-noted_roots b (noted.Print at length xs) h = number_roots b xs h
-
-event_roots : (b : List Shape) (xs : List PathEvent) → AreEvents b xs → Each (IsNode b) (each_of event_nodes xs)
-event_roots b [] h = tt
-event_roots b (x ∷ xs) h =
-    all_joined (IsNode b) (event_nodes x) (each_of event_nodes xs)
-    (node_of b _ x.truth h.0.truth, noted_roots b x.what h.0.what) (event_roots b xs h.1)
-
 state_roots : (b : List Shape) (s : State) → IsState b s → Each (IsNode b) (state_nodes s)
-state_roots b s h =
-    let N : Node → Type 0 = IsNode b in
-    let events : List Node = each_of event_nodes s.events in
-    let operands : List Node = each_of number_node s.operands in (
-      node_of b _ s.guard h.guard,
-      (
-        node_of b _ s.memory h.memory,
-        all_joined N (maybe_node s.value) (events ++ operands) (maybe_roots b s.value h.value)
-            (all_joined N events operands (event_roots b s.events h.events) (number_roots b s.operands h.operands)),
-      ),
-    )
+state_roots b s h = (
+  node_of b _ s.guard h.guard,
+  (
+    node_of b _ s.memory h.memory,
+    (
+      node_of b _ s.events h.events,
+      all_joined (IsNode b) (maybe_node s.value) (each_of number_node s.operands) (maybe_roots b s.value h.value)
+          (number_roots b s.operands h.operands),
+    ),
+  ),
+)
 
 pub roots_stand : (b : List Shape) (ss : List State) → AreStates b ss → Each (IsNode b) (each_of state_nodes ss)
 roots_stand b [] h = tt

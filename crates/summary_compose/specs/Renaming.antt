@@ -7,9 +7,6 @@ use Rattle.term_bank.specs.declared.sort.Node.{Node}
 use Rattle.term_bank.specs.Bindings.{HasImage}
 use Rattle.term_bank.specs.Shapes.{Each}
 use Rattle.path_states.specs.declared.state.Number.{Number}
-use Rattle.path_states.specs.declared.state.Noted.{Noted}
-use Rattle.path_states.specs.declared.state.Noted.TheVariants as noted
-use Rattle.path_states.specs.declared.state.PathEvent.{PathEvent}
 use Rattle.path_states.specs.declared.state.State.{State}
 
 -- ---- the nodes of states, in order
@@ -26,37 +23,21 @@ abbrev pub maybe_node : Option Number → List Node
 maybe_node None = []
 maybe_node (Some x) = x.node ∷ []
 
-abbrev pub noted_nodes : Noted → List Node
-noted_nodes (noted.Branch at side) = []
-noted_nodes (noted.Call at) = []
-noted_nodes (noted.Print at length seen) = each_of number_node seen
-
-abbrev pub event_nodes : PathEvent → List Node
-event_nodes x = x.truth ∷ noted_nodes x.what
-
 abbrev pub state_nodes : State → List Node
 state_nodes s =
-    s.guard ∷ (s.memory ∷ (maybe_node s.value ++ (each_of event_nodes s.events ++ each_of number_node s.operands)))
+    s.guard ∷ (s.memory ∷ (s.events ∷ (maybe_node s.value ++ each_of number_node s.operands)))
 
 -- ---- states over other nodes
 
 abbrev pub other_number : (Node → Node) → Number → Number
 other_number f x = record x { node = f x.node }
 
-abbrev pub other_noted : (Node → Node) → Noted → Noted
-other_noted f (noted.Branch at side) = noted.Branch at side
-other_noted f (noted.Call at) = noted.Call at
-other_noted f (noted.Print at length seen) = noted.Print at length (map (other_number f) seen)
-
-abbrev pub other_event : (Node → Node) → PathEvent → PathEvent
-other_event f x = record { what = other_noted f x.what; position = x.position; truth = f x.truth }
-
 abbrev pub other_state : (Node → Node) → State → State
 other_state f s = record s {
   guard = f s.guard;
   value = option_map (other_number f) s.value;
   memory = f s.memory;
-  events = map (other_event f) s.events;
+  events = f s.events;
   operands = map (other_number f) s.operands;
 }
 

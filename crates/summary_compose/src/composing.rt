@@ -2,7 +2,6 @@
 ghost use Rattle.std.specs.Prelude.{◌≡◌, ◌∷◌, ◌++◌, [], ℕ, List, IfOk, MatchOption};
 ghost use Rattle.c_means.specs.declared.kind.Kind.TheVariants as k;
 ghost use Rattle.core_tree.specs.declared.expr.Callee.TheVariants as callee;
-ghost use Rattle.path_states.specs.declared.state.Noted.TheVariants as noted;
 ghost use Rattle.term_bank.specs.Banks.{IsBank};
 ghost use Rattle.term_bank.specs.Bindings.{IsBinding};
 ghost use Rattle.path_states.specs.States.{IsState, AreStates, IsMaybeNumber};
@@ -23,27 +22,10 @@ use core_tree::ValueType;
 use path_arrows::place;
 use path_forms::{CallSite, WalkFault};
 use path_numbers::constant;
-use path_states::{Noted, Number, PathEvent, State, Walked, alone, copy_kind};
-use plain_data::{Items, Shared};
+use path_states::{Number, State, Walked, alone};
+use plain_data::Items;
 use std::alloc::{AllocError, Global};
 use term_bank::{Bank, BankFault, Binding, Connective, Node};
-
-/// The event of a call, where it is always so.
-fn call_event(
-    alloc: Global,
-    at: u32,
-    position: usize,
-    always: Node,
-) -> Result<PathEvent, AllocError>
-    ensures { IfOk result (λ x. x ≡ record { what = noted.Call at; position = position; truth = always }) }
-{
-    let what = Shared::new(alloc, Noted::Call { at })?;
-    Ok(PathEvent {
-        what,
-        position,
-        truth: always,
-    })
-}
 
 /// The caller with what an end of the callee left and noted.
 fn go_on(
@@ -57,16 +39,14 @@ fn go_on(
     requires end { IsState bank.old end.now }
     ensures { IfOk result (λ t. Continues bank.old bank.new site caller.now end.now t) }
 {
-    let always = bank.truth(true)?;
     let guard = bank.connect(Connective::And, caller.guard, end.guard)?;
-    let call = call_event(alloc, site.at, caller.position, always)?;
-    let noted = end.copy(alloc)?.events;
+    let called = bank.call_event(caller.events, caller.position as u64, site.at)?;
+    let events = bank.events_behind(called, end.events)?;
     let mut next = caller.copy(alloc)?;
     next.guard = guard;
     next.position = end.position;
     next.memory = end.memory;
-    next.events.push(call)?;
-    next.events.append(noted)?;
+    next.events = events;
     Ok(next)
 }
 

@@ -5,10 +5,10 @@ ghost use Rattle.term_bank.specs.declared.shape.Shape.{Shape as ShapeType};
 ghost use Rattle.term_bank.specs.declared.binding.Binding.{Binding as BindingType};
 ghost use Rattle.term_bank.specs.Bindings.{HasImage};
 ghost use Rattle.term_bank.specs.Images.{AreImages, image_at};
-ghost use Rattle.summary_compose.specs.Renaming.{other_number, other_noted, other_event, other_state, Pictures};
+ghost use Rattle.summary_compose.specs.Renaming.{other_number, other_state, Pictures};
 
-use path_states::{Noted, Number, PathEvent, State, copy_kind};
-use plain_data::{Items, Shared};
+use path_states::{Number, State, copy_kind};
+use plain_data::Items;
 use std::alloc::{AllocError, Global};
 use std::collections::HashMap;
 use term_bank::{Node, set_image};
@@ -55,50 +55,6 @@ fn number_images(
     Ok(all)
 }
 
-fn noted_image(
-    alloc: Global,
-    images: &HashMap<u32, Node>,
-    noted: &Noted,
-) -> Result<Noted, AllocError>
-    ensures { IfOk result (λ x. x ≡ other_noted (image_at images.now) noted.now) }
-{
-    match noted {
-        Noted::Branch { at, side } => Ok(Noted::Branch {
-            at: *at,
-            side: *side,
-        }),
-        Noted::Call { at } => Ok(Noted::Call { at: *at }),
-        Noted::Print { at, length, seen } => {
-            let seen = number_images(alloc, images, seen.as_slice())?;
-            Ok(Noted::Print {
-                at: *at,
-                length: *length,
-                seen,
-            })
-        }
-    }
-}
-
-fn event_images(
-    alloc: Global,
-    images: &HashMap<u32, Node>,
-    events: &[PathEvent],
-) -> Result<Items<PathEvent>, AllocError>
-    ensures { IfOk result (λ xs. xs ≡ map (other_event (image_at images.now)) events.now) }
-{
-    let mut all = Items::new(alloc);
-    for event in events {
-        let noted = noted_image(alloc, images, event.what.get())?;
-        let what = Shared::new(alloc, noted)?;
-        all.push(PathEvent {
-            what,
-            position: event.position,
-            truth: image(images, event.truth),
-        })?;
-    }
-    Ok(all)
-}
-
 fn state_image(
     alloc: Global,
     images: &HashMap<u32, Node>,
@@ -107,7 +63,6 @@ fn state_image(
     ensures { IfOk result (λ s. s ≡ other_state (image_at images.now) state.now) }
 {
     let kind = copy_kind(&state.kind)?;
-    let events = event_images(alloc, images, state.events.as_slice())?;
     let operands = number_images(alloc, images, state.operands.as_slice())?;
     Ok(State {
         guard: image(images, state.guard),
@@ -115,7 +70,7 @@ fn state_image(
         value: maybe_image(images, state.value),
         position: state.position,
         memory: image(images, state.memory),
-        events,
+        events: image(images, state.events),
         operands,
     })
 }

@@ -1,8 +1,8 @@
 //! The nodes of states.
 ghost use Rattle.std.specs.Prelude.{◌≡◌, ◌++◌, OnOk, IfOk};
-ghost use Rattle.summary_compose.specs.Renaming.{each_of, number_node, maybe_node, noted_nodes, event_nodes, state_nodes};
+ghost use Rattle.summary_compose.specs.Renaming.{each_of, number_node, maybe_node, state_nodes};
 
-use path_states::{Noted, Number, PathEvent, State};
+use path_states::{Number, State};
 use plain_data::Items;
 use std::alloc::{AllocError, Global};
 use term_bank::Node;
@@ -25,32 +25,13 @@ fn put_maybe(number: Option<Number>, nodes: &mut Items<Node>) -> Result<(), Allo
     Ok(())
 }
 
-fn put_noted(noted: &Noted, nodes: &mut Items<Node>) -> Result<(), AllocError>
-    ensures { OnOk result (nodes.new ≡ nodes.old ++ noted_nodes noted.now) }
-{
-    if let Noted::Print { seen, .. } = noted {
-        put_numbers(seen.as_slice(), nodes)?;
-    }
-    Ok(())
-}
-
-fn put_events(events: &[PathEvent], nodes: &mut Items<Node>) -> Result<(), AllocError>
-    ensures { OnOk result (nodes.new ≡ nodes.old ++ each_of event_nodes events.now) }
-{
-    for event in events {
-        nodes.push(event.truth)?;
-        put_noted(event.what.get(), nodes)?;
-    }
-    Ok(())
-}
-
 fn put_state(state: &State, nodes: &mut Items<Node>) -> Result<(), AllocError>
     ensures { OnOk result (nodes.new ≡ nodes.old ++ state_nodes state.now) }
 {
     nodes.push(state.guard)?;
     nodes.push(state.memory)?;
+    nodes.push(state.events)?;
     put_maybe(state.value, nodes)?;
-    put_events(state.events.as_slice(), nodes)?;
     put_numbers(state.operands.as_slice(), nodes)?;
     Ok(())
 }

@@ -14,7 +14,7 @@ use Rattle.term_bank.specs.declared.sort.Node.{Node}
 use Rattle.term_bank.specs.declared.binding.Binding.{Binding}
 use Rattle.term_bank.specs.declared.shape.Extension.TheVariants as extension
 use Rattle.term_bank.specs.declared.shape.Shape.{Shape}
-use Rattle.term_bank.specs.declared.shape.Shape.TheVariants.{Flag, Constant, Parameter, Base, Entry, Initial, WorldWord, InitialByte, Binary, Test, Convert, Not, Connect, Choose, Write, ZeroRange, CopyRange, Made, Ended, Read, ObjectSize, IsLive, HasKind}
+use Rattle.term_bank.specs.declared.shape.Shape.TheVariants.{Flag, Constant, Parameter, Base, Entry, Initial, WorldWord, InitialByte, Binary, Test, Convert, Not, Connect, Choose, Write, ZeroRange, CopyRange, Made, Ended, Read, ObjectSize, IsLive, HasKind, NoEvents, BranchEvent, CallEvent, PrintEvent, EventsBehind, NoNumbers, NumberBehind}
 use Rattle.term_bank.specs.Shapes.{Each, IsNode, IsWell, parts, sort_of, sort_at}
 use Rattle.term_bank.specs.Values.{Environment, Worth, Values, Models, Grows, IsOfSort, IsWorth, worth, of_word, converted}
 use Rattle.term_bank.specs.Banks.{IsPart, IsBank}
@@ -60,6 +60,13 @@ put_value e v put f (Read w m a) no_parameter no_base no_entry = refl
 put_value e v put f (ObjectSize m p) no_parameter no_base no_entry = refl
 put_value e v put f (IsLive m a n) no_parameter no_base no_entry = refl
 put_value e v put f (HasKind k m p) no_parameter no_base no_entry = refl
+put_value e v put f NoEvents no_parameter no_base no_entry = refl
+put_value e v put f (BranchEvent xs n at side) no_parameter no_base no_entry = refl
+put_value e v put f (CallEvent xs n at) no_parameter no_base no_entry = refl
+put_value e v put f (PrintEvent xs n at length seen) no_parameter no_base no_entry = refl
+put_value e v put f (EventsBehind xs ys) no_parameter no_base no_entry = refl
+put_value e v put f NoNumbers no_parameter no_base no_entry = refl
+put_value e v put f (NumberBehind xs w s x) no_parameter no_base no_entry = refl
 
 pub put_shape : (shapes : List Shape) (put : Binding) (f : ℕ → ℕ) (s : Shape) (node : Node) → ((k : ℕ) (w : Width) → s ≡ Parameter k w → ⊥) → (s ≡ Base → ⊥) → (s ≡ Entry → ⊥) → IsNode shapes node → node.sort ≡ sort_of (over_images f s) → IsWorth shapes (over_images f s) node → IsPutIn shapes put f s node
 put_shape shapes put f s node no_parameter no_base no_entry stands is h = record {
@@ -154,14 +161,28 @@ converted-zero from to x = refl
 pub word_converted : (shapes : List Shape) (node : Node) (from w : Width) (new : Node) → IsNode shapes new → new.sort ≡ sort.Word w → IsWorth shapes (Convert extension.Zero from w node.index) new → HasWordOf shapes node w new
 word_converted shapes node from w new is s h = record { stands = is; sort = s; value = λ e v m. h.is e v m ∙ ap of_word (converted-zero from w (v node.index).word) }
 
-no_word : (s : Sort) (x : Worth) → (s ≡ sort.Truth) ⊎ (s ≡ sort.Memory) → IsOfSort s x → x.word ≡ 0
-no_word s x (inl h) k = let is : IsOfSort sort.Truth x = subst (λ s. IsOfSort s x) h k in ap (λ (y : Worth). y.word) is
-no_word s x (inr h) k = let is : IsOfSort sort.Memory x = subst (λ s. IsOfSort s x) h k in ap (λ (y : Worth). y.word) is
+-- words aside
+abbrev pub IsNoWord : Sort → Type 0
+IsNoWord (sort.Word w) = ⊥
+IsNoWord _ = Unit {0}
+
+pub no_words : (s : Sort) → (s ≡ sort.Truth) ⊎ ((s ≡ sort.Memory) ⊎ ((s ≡ sort.Events) ⊎ (s ≡ sort.Numbers))) → IsNoWord s
+no_words s (inl h) = rw h tt
+no_words s (inr (inl h)) = rw h tt
+no_words s (inr (inr (inl h))) = rw h tt
+no_words s (inr (inr (inr h))) = rw h tt
+
+no_word : (s : Sort) (x : Worth) → IsNoWord s → IsOfSort s x → x.word ≡ 0
+no_word sort.Truth x h k = ap (λ (y : Worth). y.word) k
+no_word (sort.Word w) x h k = absurd h
+no_word sort.Memory x h k = ap (λ (y : Worth). y.word) k
+no_word sort.Events x h k = ap (λ (y : Worth). y.word) k
+no_word sort.Numbers x h k = ap (λ (y : Worth). y.word) k
 
 zero_kept : (w : Width) (x : ℕ) → x ≡ 0 → 0 ≡ x % 2 ^ bits w
 zero_kept w x h = sym (ap (λ n. n % 2 ^ bits w) h ∙ mod-eq_of_lt (pow_pos (bits w)))
 
-pub word_none : (old new : List Shape) (node : Node) (w : Width) (made : Node) → IsBank old → IsNode old node → Grows old new → (node.sort ≡ sort.Truth) ⊎ (node.sort ≡ sort.Memory) → IsNode new made → made.sort ≡ sort.Word w → IsWorth new (Constant 0 w) made → HasWordOf new node w made
+pub word_none : (old new : List Shape) (node : Node) (w : Width) (made : Node) → IsBank old → IsNode old node → Grows old new → IsNoWord node.sort → IsNode new made → made.sort ≡ sort.Word w → IsWorth new (Constant 0 w) made → HasWordOf new node w made
 word_none old new node w made bank here g none is s h = record {
   stands = is;
   sort = s;

@@ -2,9 +2,12 @@
 use Rattle.std.proofs.Common.{◌≡◌, true, arith}
 use Rattle.bit_words.specs.declared.width.Width.{Width}
 use Rattle.bit_words.specs.declared.width.Width.TheVariants as width
+use Rattle.bit_words.specs.declared.run.Side.{Side}
+use Rattle.bit_words.specs.declared.run.Side.TheVariants as side
 use Rattle.c_store.specs.declared.object.ObjectKind.{ObjectKind}
 use Rattle.c_store.specs.declared.object.ObjectKind.TheVariants as kind
 use Rattle.bit_words.specs.contracts.width.WidthPartialEq.TheImpl.{ghosts as width_ghosts}
+use Rattle.bit_words.specs.contracts.run.SidePartialEq.TheImpl.{ghosts as side_ghosts}
 use Rattle.c_store.specs.contracts.object.ObjectKindPartialEq.TheImpl.{ghosts as kind_ghosts}
 use Rattle.term_bank.specs.contracts.sort.SortPartialEq.TheImpl.{ghosts as sort_ghosts}
 use Rattle.term_bank.specs.contracts.shape.WordOperatorPartialEq.TheImpl.{ghosts as operator_ghosts}
@@ -23,7 +26,7 @@ use Rattle.term_bank.specs.declared.shape.Connective.TheVariants as connective
 use Rattle.term_bank.specs.declared.shape.Extension.{Extension}
 use Rattle.term_bank.specs.declared.shape.Extension.TheVariants as extension
 use Rattle.term_bank.specs.declared.shape.Shape.{Shape}
-use Rattle.term_bank.specs.declared.shape.Shape.TheVariants.{Flag, Constant, Parameter, Base, Entry, Initial, WorldWord, InitialByte, Binary, Test, Convert, Not, Connect, Choose, Write, ZeroRange, CopyRange, Made, Ended, Read, ObjectSize, IsLive, HasKind}
+use Rattle.term_bank.specs.declared.shape.Shape.TheVariants.{Flag, Constant, Parameter, Base, Entry, Initial, WorldWord, InitialByte, Binary, Test, Convert, Not, Connect, Choose, Write, ZeroRange, CopyRange, Made, Ended, Read, ObjectSize, IsLive, HasKind, NoEvents, BranchEvent, CallEvent, PrintEvent, EventsBehind, NoNumbers, NumberBehind}
 
 pub width_true : (a b : Width) → width_ghosts.eq a b ≡ true → a ≡ b
 width_true width.W8 b h = grind arith
@@ -75,6 +78,14 @@ pub sort_true : (a b : Sort) → sort_ghosts.eq a b ≡ true → a ≡ b
 sort_true sort.Truth b h = grind arith
 sort_true (sort.Word w) b h = grind (arith, width_true)
 sort_true sort.Memory b h = grind arith
+sort_true sort.Events b h = grind arith
+sort_true sort.Numbers b h = grind arith
+
+side_true : (a b : Side) → side_ghosts.eq a b ≡ true → a ≡ b
+side_true side.Yes b h = grind arith
+side_true side.No b h = grind arith
+side_true (side.Case x) b h = grind arith
+side_true side.Otherwise b h = grind arith
 
 pub shape_true : (s t : Shape) → ghosts.eq s t ≡ true → s ≡ t
 shape_true (Flag b) (Flag b2) h = grind arith
@@ -120,3 +131,15 @@ shape_true (IsLive m a n) (IsLive m2 a2 n2) h = grind arith
 shape_true (IsLive m a n) t h = cc
 shape_true (HasKind k m p) (HasKind k2 m2 p2) h = grind (arith, kind_true)
 shape_true (HasKind k m p) t h = cc
+shape_true NoEvents t h = grind arith
+shape_true (BranchEvent xs n at s) (BranchEvent xs2 n2 at2 s2) h = grind (arith, side_true)
+shape_true (BranchEvent xs n at s) t h = cc
+shape_true (CallEvent xs n at) (CallEvent xs2 n2 at2) h = grind arith
+shape_true (CallEvent xs n at) t h = cc
+shape_true (PrintEvent xs n at l seen) (PrintEvent xs2 n2 at2 l2 seen2) h = grind arith
+shape_true (PrintEvent xs n at l seen) t h = cc
+shape_true (EventsBehind xs ys) (EventsBehind xs2 ys2) h = grind arith
+shape_true (EventsBehind xs ys) t h = cc
+shape_true NoNumbers t h = grind arith
+shape_true (NumberBehind xs w' s x) (NumberBehind xs2 w2 s2 x2) h = grind (arith, width_true)
+shape_true (NumberBehind xs w' s x) t h = cc

@@ -1,5 +1,5 @@
 -- Constants, and parts that have their shape's value.
-use Rattle.std.proofs.Common.{◌≡◌, ◌<◌, ◌^◌, ℕ, List, Some, Bool, true, false, refl, sym, ap, subst, ◌∙◌, cond}
+use Rattle.std.proofs.Common.{◌≡◌, ◌<◌, ◌^◌, ◌++◌, [], ℕ, List, Some, Bool, true, false, refl, sym, ap, subst, ◌∙◌, cond, append-nil}
 use Rattle.std.specs.Prelude.{slice_get, not, Result, Ok, Err, IfOk}
 use Rattle.std.specs.Option.{option_map}
 use Rattle.bit_words.specs.Words.{bits}
@@ -10,13 +10,14 @@ use Rattle.term_bank.specs.declared.sort.Node.{Node}
 use Rattle.term_bank.specs.declared.shape.WordOperator.{WordOperator}
 use Rattle.term_bank.specs.declared.shape.WordTest.{WordTest}
 use Rattle.term_bank.specs.declared.shape.Connective.{Connective}
+use Rattle.term_bank.specs.declared.shape.Connective.TheVariants as connective
 use Rattle.term_bank.specs.declared.shape.Extension.{Extension}
 use Rattle.term_bank.specs.declared.shape.Shape.{Shape}
-use Rattle.term_bank.specs.declared.shape.Shape.TheVariants.{Flag, Constant, Binary, Test, Convert, Not, Connect, Choose}
+use Rattle.term_bank.specs.declared.shape.Shape.TheVariants.{Flag, Constant, Binary, Test, Convert, Not, Connect, Choose, NoEvents, EventsBehind}
 use Rattle.term_bank.specs.Shapes.{IsNode, IsWell, word, sort_of}
-use Rattle.term_bank.specs.Values.{Environment, Worth, Values, Models, Grows, IsWorth, of_word, of_truth, result_of, outcome_of, converted, connected}
+use Rattle.term_bank.specs.Values.{Environment, Worth, Values, Models, Grows, IsWorth, of_word, of_truth, of_events, result_of, outcome_of, converted, connected}
 use Rattle.term_bank.specs.Banks.{IsBank}
-use Rattle.term_bank.specs.Folds.{IsConstant, IsSame, IsSamePart}
+use Rattle.term_bank.specs.Folds.{IsConstant, IsSame, IsSamePart, deciding, leaving}
 use Rattle.term_bank.proofs.Worth.{result_below, converted_below}
 use Rattle.term_bank.proofs.BankLemmas.{weaken}
 use Rattle.term_bank.proofs.BindingLemmas.{node_sorted}
@@ -67,14 +68,6 @@ same_not shapes n b x h is = record {
   value = λ e v m. ap of_truth is ∙ rw (truth_is shapes e v n b m h) refl;
 }
 
-pub same_connect : (shapes : List Shape) (c : Connective) (l r : ℕ) (a b x : Bool) → slice_get shapes l ≡ Some (Flag a) → slice_get shapes r ≡ Some (Flag b) → x ≡ connected c a b → IsSame shapes (Connect c l r) (Flag x)
-same_connect shapes c l r a b x h k is = record {
-  fixed = tt;
-  well = record { parts_stand = tt; in_width = tt };
-  sort = refl;
-  value = λ e v m. ap of_truth is ∙ rw (truth_is shapes e v l a m h, truth_is shapes e v r b m k) refl;
-}
-
 twice : (b : Bool) → b ≡ not (not b)
 twice true = refl
 twice false = refl
@@ -101,6 +94,134 @@ part_choose shapes s c n k well same = record {
   stands = well.parts_stand.1.0;
   sort = refl;
   value = λ e v m. either_arm (v c).truth (v n) ∙ ap (λ i. cond (v c).truth (v n) (v i)) same;
+}
+
+-- a connective that one side decides
+pub decided_left : (shapes : List Shape) (c : Connective) (l r : ℕ) (b : Bool) → slice_get shapes l ≡ Some (Flag b)
+    → ((x : Bool) → b ≡ connected c b x) → IsSame shapes (Connect c l r) (Flag b)
+decided_left shapes c l r b h is = record {
+  fixed = tt;
+  well = record { parts_stand = tt; in_width = tt };
+  sort = refl;
+  value = λ e v m. ap of_truth (is (v r).truth) ∙ ap (λ y. of_truth (connected c y (v r).truth)) (sym (truth_is shapes e v l b m h));
+}
+
+pub decided_right : (shapes : List Shape) (c : Connective) (l r : ℕ) (b : Bool) → slice_get shapes r ≡ Some (Flag b)
+    → ((x : Bool) → b ≡ connected c x b) → IsSame shapes (Connect c l r) (Flag b)
+decided_right shapes c l r b h is = record {
+  fixed = tt;
+  well = record { parts_stand = tt; in_width = tt };
+  sort = refl;
+  value = λ e v m. ap of_truth (is (v l).truth) ∙ ap (λ y. of_truth (connected c (v l).truth y)) (sym (truth_is shapes e v r b m h));
+}
+
+pub decides_left : (c : Connective) (x : Bool) → deciding c ≡ connected c (deciding c) x
+decides_left connective.And x = refl
+decides_left connective.Or x = refl
+
+pub decides_right : (c : Connective) (x : Bool) → deciding c ≡ connected c x (deciding c)
+decides_right connective.And true = refl
+decides_right connective.And false = refl
+decides_right connective.Or true = refl
+decides_right connective.Or false = refl
+
+leaves_right : (c : Connective) (x : Bool) → x ≡ connected c (leaving c) x
+leaves_right connective.And x = refl
+leaves_right connective.Or x = refl
+
+leaves_left : (c : Connective) (x : Bool) → x ≡ connected c x (leaving c)
+leaves_left connective.And true = refl
+leaves_left connective.And false = refl
+leaves_left connective.Or true = refl
+leaves_left connective.Or false = refl
+
+of_itself : (c : Connective) (x : Bool) → x ≡ connected c x x
+of_itself connective.And true = refl
+of_itself connective.And false = refl
+of_itself connective.Or true = refl
+of_itself connective.Or false = refl
+
+-- the right side, where the left one leaves it
+pub part_right : (shapes : List Shape) (c : Connective) (l r : ℕ) → IsBank shapes → IsWell shapes (Connect c l r)
+    → slice_get shapes l ≡ Some (Flag (leaving c)) → IsSamePart shapes (Connect c l r) (record { index = r; sort = sort.Truth })
+part_right shapes c l r bank well h = record {
+  over = record { under = λ b g q flag constant has below. below.1.0 };
+  stands = well.parts_stand.1.0;
+  sort = refl;
+  value = λ e v m.
+      node_sorted shapes e v (record { index = r; sort = sort.Truth }) bank well.parts_stand.1.0 m
+      ∙ ap of_truth (leaves_right c (v r).truth)
+      ∙ ap (λ y. of_truth (connected c y (v r).truth)) (sym (truth_is shapes e v l (leaving c) m h));
+}
+
+pub part_left : (shapes : List Shape) (c : Connective) (l r : ℕ) → IsBank shapes → IsWell shapes (Connect c l r)
+    → slice_get shapes r ≡ Some (Flag (leaving c)) → IsSamePart shapes (Connect c l r) (record { index = l; sort = sort.Truth })
+part_left shapes c l r bank well h = record {
+  over = record { under = λ b g q flag constant has below. below.0 };
+  stands = well.parts_stand.0;
+  sort = refl;
+  value = λ e v m.
+      node_sorted shapes e v (record { index = l; sort = sort.Truth }) bank well.parts_stand.0 m
+      ∙ ap of_truth (leaves_left c (v l).truth)
+      ∙ ap (λ y. of_truth (connected c (v l).truth y)) (sym (truth_is shapes e v r (leaving c) m h));
+}
+
+pub part_both : (shapes : List Shape) (c : Connective) (l r : ℕ) → IsBank shapes → IsWell shapes (Connect c l r) → l ≡ r
+    → IsSamePart shapes (Connect c l r) (record { index = r; sort = sort.Truth })
+part_both shapes c l r bank well same = record {
+  over = record { under = λ b g q flag constant has below. below.1.0 };
+  stands = well.parts_stand.1.0;
+  sort = refl;
+  value = λ e v m.
+      node_sorted shapes e v (record { index = r; sort = sort.Truth }) bank well.parts_stand.1.0 m
+      ∙ ap of_truth (of_itself c (v r).truth)
+      ∙ ap (λ i. of_truth (connected c (v i).truth (v r).truth)) (sym same);
+}
+
+-- the arm that a known condition takes
+pub part_taken : (shapes : List Shape) (s : Sort) (c n k : ℕ) → IsWell shapes (Choose s c n k) → slice_get shapes c ≡ Some (Flag true)
+    → IsSamePart shapes (Choose s c n k) (record { index = n; sort = s })
+part_taken shapes s c n k well h = record {
+  over = record { under = λ b g q flag constant has below. below.1.0 };
+  stands = well.parts_stand.1.0;
+  sort = refl;
+  value = λ e v m. ap (λ b. cond b (v n) (v k)) (sym (truth_is shapes e v c true m h));
+}
+
+pub part_left_out : (shapes : List Shape) (s : Sort) (c n k : ℕ) → IsWell shapes (Choose s c n k)
+    → slice_get shapes c ≡ Some (Flag false) → IsSamePart shapes (Choose s c n k) (record { index = k; sort = s })
+part_left_out shapes s c n k well h = record {
+  over = record { under = λ b g q flag constant has below. below.1.1.0 };
+  stands = well.parts_stand.1.1.0;
+  sort = refl;
+  value = λ e v m. ap (λ b. cond b (v n) (v k)) (sym (truth_is shapes e v c false m h));
+}
+
+none_is : (shapes : List Shape) (e : Environment) (v : Values) (n : ℕ) → Models shapes e v → slice_get shapes n ≡ Some NoEvents → (v n).events ≡ []
+none_is shapes e v n m h = ap (λ (y : Worth). y.events) (m.has n NoEvents h)
+
+-- events with none before them, or behind them
+pub part_second : (shapes : List Shape) (xs ys : ℕ) → IsBank shapes → IsWell shapes (EventsBehind xs ys) → slice_get shapes xs ≡ Some NoEvents
+    → IsSamePart shapes (EventsBehind xs ys) (record { index = ys; sort = sort.Events })
+part_second shapes xs ys bank well h = record {
+  over = record { under = λ b g q flag constant has below. below.1.0 };
+  stands = well.parts_stand.1.0;
+  sort = refl;
+  value = λ e v m.
+      node_sorted shapes e v (record { index = ys; sort = sort.Events }) bank well.parts_stand.1.0 m
+      ∙ ap (λ l. of_events (l ++ (v ys).events)) (sym (none_is shapes e v xs m h));
+}
+
+pub part_first : (shapes : List Shape) (xs ys : ℕ) → IsBank shapes → IsWell shapes (EventsBehind xs ys) → slice_get shapes ys ≡ Some NoEvents
+    → IsSamePart shapes (EventsBehind xs ys) (record { index = xs; sort = sort.Events })
+part_first shapes xs ys bank well h = record {
+  over = record { under = λ b g q flag constant has below. below.0 };
+  stands = well.parts_stand.0;
+  sort = refl;
+  value = λ e v m.
+      node_sorted shapes e v (record { index = xs; sort = sort.Events }) bank well.parts_stand.0 m
+      ∙ ap of_events (sym (append-nil (v xs).events))
+      ∙ ap (λ l. of_events ((v xs).events ++ l)) (sym (none_is shapes e v ys m h));
 }
 
 -- a node that has the value of a shape that is the same

@@ -5,7 +5,7 @@ use Rattle.std.specs.HashMap.{get}
 use Rattle.std.proofs.lemmas.Bool.Decides.{nat_tests}
 use Rattle.term_bank.specs.declared.sort.Node.{Node}
 use Rattle.term_bank.specs.declared.shape.Shape.{Shape}
-use Rattle.term_bank.specs.declared.shape.Shape.TheVariants.{Flag, Constant, Parameter, Base, Entry, Initial, WorldWord, InitialByte, Binary, Test, Convert, Not, Connect, Choose, Write, ZeroRange, CopyRange, Made, Ended, Read, ObjectSize, IsLive, HasKind}
+use Rattle.term_bank.specs.declared.shape.Shape.TheVariants.{Flag, Constant, Parameter, Base, Entry, Initial, WorldWord, InitialByte, Binary, Test, Convert, Not, Connect, Choose, Write, ZeroRange, CopyRange, Made, Ended, Read, ObjectSize, IsLive, HasKind, NoEvents, BranchEvent, CallEvent, PrintEvent, EventsBehind, NoNumbers, NumberBehind}
 use Rattle.term_bank.specs.Shapes.{Each, IsInWidth, IsNode, IsWell, parts, sort_of}
 use Rattle.term_bank.specs.Images.{Images, Imaged, AreImages, Puts, image_at, image_in, index_in, over_images}
 
@@ -33,6 +33,13 @@ sort_over f (Read w m a) = refl
 sort_over f (ObjectSize m p) = refl
 sort_over f (IsLive m a n) = refl
 sort_over f (HasKind k m p) = refl
+sort_over f NoEvents = refl
+sort_over f (BranchEvent xs n at side) = refl
+sort_over f (CallEvent xs n at) = refl
+sort_over f (PrintEvent xs n at length seen) = refl
+sort_over f (EventsBehind xs ys) = refl
+sort_over f NoNumbers = refl
+sort_over f (NumberBehind xs w s x) = refl
 
 -- a shape over other parts may be added where these have the sorts that its operator asks for
 pub well_over : (shapes : List Shape) (f : ℕ → ℕ) (s : Shape) → Each (λ p. IsNode shapes (record { index = f p.index; sort = p.sort })) (parts s) → IsInWidth s → IsWell shapes (over_images f s)
@@ -59,6 +66,13 @@ well_over shapes f (Read w m a) q h = record { parts_stand = q; in_width = h }
 well_over shapes f (ObjectSize m p) q h = record { parts_stand = q; in_width = h }
 well_over shapes f (IsLive m a n) q h = record { parts_stand = q; in_width = h }
 well_over shapes f (HasKind k m p) q h = record { parts_stand = q; in_width = h }
+well_over shapes f NoEvents q h = record { parts_stand = q; in_width = h }
+well_over shapes f (BranchEvent xs n at side) q h = record { parts_stand = q; in_width = h }
+well_over shapes f (CallEvent xs n at) q h = record { parts_stand = q; in_width = h }
+well_over shapes f (PrintEvent xs n at length seen) q h = record { parts_stand = q; in_width = h }
+well_over shapes f (EventsBehind xs ys) q h = record { parts_stand = q; in_width = h }
+well_over shapes f NoNumbers q h = record { parts_stand = q; in_width = h }
+well_over shapes f (NumberBehind xs w s x) q h = record { parts_stand = q; in_width = h }
 
 pub image_found : (images : Images) (n : ℕ) (node : Node) → get nat_eq images n ≡ Some node → image_in images n ≡ node.index
 image_found images n node is = ap index_in is

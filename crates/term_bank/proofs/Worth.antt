@@ -16,7 +16,7 @@ use Rattle.term_bank.specs.declared.shape.WordOperator.TheVariants as operator
 use Rattle.term_bank.specs.declared.shape.Extension.{Extension}
 use Rattle.term_bank.specs.declared.shape.Extension.TheVariants as extension
 use Rattle.term_bank.specs.declared.shape.Shape.{Shape}
-use Rattle.term_bank.specs.declared.shape.Shape.TheVariants.{Flag, Constant, Parameter, Base, Entry, Initial, WorldWord, InitialByte, Binary, Test, Convert, Not, Connect, Choose, Write, ZeroRange, CopyRange, Made, Ended, Read, ObjectSize, IsLive, HasKind}
+use Rattle.term_bank.specs.declared.shape.Shape.TheVariants.{Flag, Constant, Parameter, Base, Entry, Initial, WorldWord, InitialByte, Binary, Test, Convert, Not, Connect, Choose, Write, ZeroRange, CopyRange, Made, Ended, Read, ObjectSize, IsLive, HasKind, NoEvents, BranchEvent, CallEvent, PrintEvent, EventsBehind, NoNumbers, NumberBehind}
 use Rattle.term_bank.specs.Memories.{octets, read, behind}
 use Rattle.term_bank.specs.Shapes.{Each, IsInWidth, parts, sort_of}
 use Rattle.term_bank.specs.Values.{Environment, Worth, Values, worth, IsOfSort, result_of, converted, divided, shifted}
@@ -50,6 +50,13 @@ worth_same e v w (Read w' m a) q = rw (q.0, q.1.0) refl
 worth_same e v w (ObjectSize m p) q = rw (q.0, q.1.0) refl
 worth_same e v w (IsLive m a n) q = rw (q.0, q.1.0, q.1.1.0) refl
 worth_same e v w (HasKind k m p) q = rw (q.0, q.1.0) refl
+worth_same e v w NoEvents q = refl
+worth_same e v w (BranchEvent xs n at side) q = rw q.0 refl
+worth_same e v w (CallEvent xs n at) q = rw q.0 refl
+worth_same e v w (PrintEvent xs n at length seen) q = rw (q.0, q.1.0) refl
+worth_same e v w (EventsBehind xs ys) q = rw (q.0, q.1.0) refl
+worth_same e v w NoNumbers q = refl
+worth_same e v w (NumberBehind xs w' s x) q = rw (q.0, q.1.0) refl
 
 -- ---- words are below 2^N
 
@@ -125,3 +132,10 @@ worth_of_sort e v (Read w m a) q h = (refl, read_below w _ _)
 worth_of_sort e v (ObjectSize m p) q h = (refl, mod_below _ W64)
 worth_of_sort e v (IsLive m a n) q h = refl
 worth_of_sort e v (HasKind k m p) q h = refl
+worth_of_sort e v NoEvents q h = refl
+worth_of_sort e v (BranchEvent xs n at side) q h = refl
+worth_of_sort e v (CallEvent xs n at) q h = refl
+worth_of_sort e v (PrintEvent xs n at length seen) q h = refl
+worth_of_sort e v (EventsBehind xs ys) q h = refl
+worth_of_sort e v NoNumbers q h = refl
+worth_of_sort e v (NumberBehind xs w s x) q h = refl

@@ -1,8 +1,10 @@
 -- What has a shape's value without being it.
-use Rattle.std.specs.Prelude.{◌≡◌, ◌<◌, ◌^◌, ℕ, List, Some, slice_get}
+use Rattle.std.specs.Prelude.{◌≡◌, ◌<◌, ◌^◌, ℕ, List, Some, Bool, true, false, slice_get}
 use Rattle.bit_words.specs.Words.{bits}
 use Rattle.bit_words.specs.declared.width.Width.{Width}
 use Rattle.term_bank.specs.declared.sort.Node.{Node}
+use Rattle.term_bank.specs.declared.shape.Connective.{Connective}
+use Rattle.term_bank.specs.declared.shape.Connective.TheVariants as connective
 use Rattle.term_bank.specs.declared.shape.Shape.{Shape}
 use Rattle.term_bank.specs.declared.shape.Shape.TheVariants.{Flag, Constant}
 use Rattle.term_bank.specs.Shapes.{IsNode, IsWell, sort_of}
@@ -32,3 +34,12 @@ pub record IsSamePart (shapes : List Shape) (shape : Shape) (node : Node) : Type
   pub sort : node.sort ≡ sort_of shape
   pub value : (e : Environment) (v : Values) → Models shapes e v → v node.index ≡ worth e v shape
   pub over : IsOver shapes shape node
+
+-- what decides a connective, and what leaves it to the other side
+abbrev pub deciding : Connective → Bool
+deciding connective.And = false
+deciding connective.Or = true
+
+abbrev pub leaving : Connective → Bool
+leaving connective.And = true
+leaving connective.Or = false

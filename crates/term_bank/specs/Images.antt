@@ -5,7 +5,7 @@ use Rattle.std.specs.declared.hash.FoldHasher.{FoldHasher}
 use Rattle.std.specs.declared.hash.BuildHasherDefault.{BuildHasherDefault}
 use Rattle.term_bank.specs.declared.sort.Node.{Node}
 use Rattle.term_bank.specs.declared.shape.Shape.{Shape}
-use Rattle.term_bank.specs.declared.shape.Shape.TheVariants.{Flag, Constant, Parameter, Base, Entry, Initial, WorldWord, InitialByte, Binary, Test, Convert, Not, Connect, Choose, Write, ZeroRange, CopyRange, Made, Ended, Read, ObjectSize, IsLive, HasKind}
+use Rattle.term_bank.specs.declared.shape.Shape.TheVariants.{Flag, Constant, Parameter, Base, Entry, Initial, WorldWord, InitialByte, Binary, Test, Convert, Not, Connect, Choose, Write, ZeroRange, CopyRange, Made, Ended, Read, ObjectSize, IsLive, HasKind, NoEvents, BranchEvent, CallEvent, PrintEvent, EventsBehind, NoNumbers, NumberBehind}
 
 abbrev pub Images : Type 0
 Images = HashMap ℕ Node (BuildHasherDefault FoldHasher)
@@ -51,6 +51,13 @@ over_images f (Read w m a) = Read w (f m) (f a)
 over_images f (ObjectSize m p) = ObjectSize (f m) (f p)
 over_images f (IsLive m a n) = IsLive (f m) (f a) (f n)
 over_images f (HasKind k m p) = HasKind k (f m) (f p)
+over_images f NoEvents = NoEvents
+over_images f (BranchEvent xs n at side) = BranchEvent (f xs) n at side
+over_images f (CallEvent xs n at) = CallEvent (f xs) n at
+over_images f (PrintEvent xs n at length seen) = PrintEvent (f xs) n at length (f seen)
+over_images f (EventsBehind xs ys) = EventsBehind (f xs) (f ys)
+over_images f NoNumbers = NoNumbers
+over_images f (NumberBehind xs w s x) = NumberBehind (f xs) w s (f x)
 
 -- a node stands for the node of this number, and P holds of both
 pub record Imaged (P : ℕ → Node → Type 0) (images : Images) (n : ℕ) : Type 0 where

@@ -5,10 +5,10 @@ use Rattle.bit_words.specs.Words.{bits}
 use Rattle.bit_words.specs.declared.width.Width.{Width}
 use Rattle.bit_words.specs.declared.width.Width.TheVariants.{W8, W64}
 use Rattle.term_bank.specs.declared.sort.Sort.{Sort}
-use Rattle.term_bank.specs.declared.sort.Sort.TheVariants.{Truth, Word, Memory}
+use Rattle.term_bank.specs.declared.sort.Sort.TheVariants.{Truth, Word, Memory, Events, Numbers}
 use Rattle.term_bank.specs.declared.sort.Node.{Node}
 use Rattle.term_bank.specs.declared.shape.Shape.{Shape}
-use Rattle.term_bank.specs.declared.shape.Shape.TheVariants.{Flag, Constant, Parameter, Base, Entry, Initial, WorldWord, InitialByte, Binary, Test, Convert, Not, Connect, Choose, Write, ZeroRange, CopyRange, Made, Ended, Read, ObjectSize, IsLive, HasKind}
+use Rattle.term_bank.specs.declared.shape.Shape.TheVariants.{Flag, Constant, Parameter, Base, Entry, Initial, WorldWord, InitialByte, Binary, Test, Convert, Not, Connect, Choose, Write, ZeroRange, CopyRange, Made, Ended, Read, ObjectSize, IsLive, HasKind, NoEvents, BranchEvent, CallEvent, PrintEvent, EventsBehind, NoNumbers, NumberBehind}
 
 -- the sort of a node of this shape
 abbrev pub sort_of : Shape → Sort
@@ -35,6 +35,13 @@ sort_of (Read w m a) = Word w
 sort_of (ObjectSize m p) = Word W64
 sort_of (IsLive m a n) = Truth
 sort_of (HasKind k m p) = Truth
+sort_of NoEvents = Events
+sort_of (BranchEvent xs n at side) = Events
+sort_of (CallEvent xs n at) = Events
+sort_of (PrintEvent xs n at length seen) = Events
+sort_of (EventsBehind xs ys) = Events
+sort_of NoNumbers = Numbers
+sort_of (NumberBehind xs w s x) = Numbers
 
 abbrev pub truth : ℕ → Node
 truth n = record { index = n; sort = Truth }
@@ -44,6 +51,12 @@ word w n = record { index = n; sort = Word w }
 
 abbrev pub memory : ℕ → Node
 memory n = record { index = n; sort = Memory }
+
+abbrev pub events : ℕ → Node
+events n = record { index = n; sort = Events }
+
+abbrev pub numbers : ℕ → Node
+numbers n = record { index = n; sort = Numbers }
 
 -- a shape's parts, each with the sort that the operator asks for
 abbrev pub parts : Shape → List Node
@@ -70,6 +83,13 @@ parts (Read w m a) = memory m ∷ (word W64 a ∷ [])
 parts (ObjectSize m p) = memory m ∷ (word W64 p ∷ [])
 parts (IsLive m a n) = memory m ∷ (word W64 a ∷ (word W64 n ∷ []))
 parts (HasKind k m p) = memory m ∷ (word W64 p ∷ [])
+parts NoEvents = []
+parts (BranchEvent xs n at side) = events xs ∷ []
+parts (CallEvent xs n at) = events xs ∷ []
+parts (PrintEvent xs n at length seen) = events xs ∷ (numbers seen ∷ [])
+parts (EventsBehind xs ys) = events xs ∷ (events ys ∷ [])
+parts NoNumbers = []
+parts (NumberBehind xs w s x) = numbers xs ∷ (word w x ∷ [])
 
 -- each node of a list has the property
 abbrev pub Each : (Node → Type 0) → List Node → Type 0

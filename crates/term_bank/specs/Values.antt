@@ -1,8 +1,10 @@
 -- What nodes are worth in an environment.
-use Rattle.std.specs.Prelude.{◌≡◌, ◌≤◌, ◌<◌, ◌/◌, ◌%◌, ◌^◌, ◌-◌, ℕ, List, length, Some, Bool, true, false, not, cond, nat_eq, nat_lt, ◌&&◌, bit_and, bit_or, bit_xor, slice_get, slice_index}
+use Rattle.std.specs.Prelude.{◌≡◌, ◌≤◌, ◌<◌, ◌/◌, ◌%◌, ◌^◌, ◌-◌, ◌++◌, [], ◌∷◌, ℕ, ℤ, pos, List, length, Some, Bool, true, false, not, cond, nat_eq, nat_lt, ◌&&◌, bit_and, bit_or, bit_xor, slice_get, slice_index}
 use Rattle.bit_words.specs.Words.{bits, word, signed, add, sub, mul, sdiv, srem, shl, lshr, ashr, add_over, sub_over, mul_over, shl_over, ult, slt}
 use Rattle.bit_words.specs.declared.width.Width.{Width}
 use Rattle.bit_words.specs.declared.width.Width.TheVariants.{W8, W64}
+use Rattle.bit_words.specs.declared.run.Event.{Event}
+use Rattle.bit_words.specs.declared.run.Happening.TheVariants as happening
 use Rattle.c_store.specs.Store.{Store, initial, make, end, object_size}
 use Rattle.c_store.specs.Access.{is_live}
 use Rattle.term_bank.specs.declared.sort.Sort.{Sort}
@@ -17,7 +19,7 @@ use Rattle.term_bank.specs.declared.shape.Connective.TheVariants as connective
 use Rattle.term_bank.specs.declared.shape.Extension.{Extension}
 use Rattle.term_bank.specs.declared.shape.Extension.TheVariants as extension
 use Rattle.term_bank.specs.declared.shape.Shape.{Shape}
-use Rattle.term_bank.specs.declared.shape.Shape.TheVariants.{Flag, Constant, Parameter, Base, Entry, Initial, WorldWord, InitialByte, Binary, Test, Convert, Not, Connect, Choose, Write, ZeroRange, CopyRange, Made, Ended, Read, ObjectSize, IsLive, HasKind}
+use Rattle.term_bank.specs.declared.shape.Shape.TheVariants.{Flag, Constant, Parameter, Base, Entry, Initial, WorldWord, InitialByte, Binary, Test, Convert, Not, Connect, Choose, Write, ZeroRange, CopyRange, Made, Ended, Read, ObjectSize, IsLive, HasKind, NoEvents, BranchEvent, CallEvent, PrintEvent, EventsBehind, NoNumbers, NumberBehind}
 use Rattle.term_bank.specs.Memories.{octets, write, zero_range, copy_range, read, has_kind}
 
 -- What nodes depend on: the memory that the entry finds, the words of the parameters, the base of places, the world's
@@ -31,20 +33,28 @@ pub record Environment : Type 0 where
   pub bytes : ℕ → ℕ
   pub rows : ℕ → ℕ → ℕ
 
--- a truth, a word and a store: a node of one sort has fixed ones in the others
+-- a truth, a word, a store, events and numbers: a node of one sort has fixed ones in the others
 pub record Worth : Type 0 where
   pub truth : Bool
   pub word : ℕ
   pub store : Store
+  pub events : List Event
+  pub numbers : List ℤ
 
 abbrev pub of_truth : Bool → Worth
-of_truth b = record { truth = b; word = 0; store = initial (λ _. 0) }
+of_truth b = record { truth = b; word = 0; store = initial (λ _. 0); events = []; numbers = [] }
 
 abbrev pub of_word : ℕ → Worth
-of_word x = record { truth = false; word = x; store = initial (λ _. 0) }
+of_word x = record { truth = false; word = x; store = initial (λ _. 0); events = []; numbers = [] }
 
 abbrev pub of_store : Store → Worth
-of_store s = record { truth = false; word = 0; store = s }
+of_store s = record { truth = false; word = 0; store = s; events = []; numbers = [] }
+
+abbrev pub of_events : List Event → Worth
+of_events xs = record { truth = false; word = 0; store = initial (λ _. 0); events = xs; numbers = [] }
+
+abbrev pub of_numbers : List ℤ → Worth
+of_numbers xs = record { truth = false; word = 0; store = initial (λ _. 0); events = []; numbers = xs }
 
 -- what each node is worth, by its number
 abbrev pub Values : Type 0
@@ -94,6 +104,10 @@ unfoldable pub converted : Extension → Width → Width → ℕ → ℕ
 converted extension.Zero from to x = x % 2 ^ bits to
 converted extension.Sign from to x = word to (signed from x)
 
+-- the number that a word is, signed or not (C99 6.2.6.2)
+abbrev pub number : Bool → Width → ℕ → ℤ
+number is_signed w x = cond is_signed (signed w x) (pos x)
+
 -- ---- shapes
 
 -- what a shape is worth, by what its parts are worth
@@ -121,6 +135,14 @@ worth e v (Read w m a) = of_word (read (octets w) (v m).store (v a).word)
 worth e v (ObjectSize m p) = of_word (object_size (v m).store (v p).word % 2 ^ bits W64)
 worth e v (IsLive m a n) = of_truth (is_live (v m).store (v a).word (v n).word)
 worth e v (HasKind k m p) = of_truth (has_kind k ((v m).store.objects (v p).word))
+worth e v NoEvents = of_events []
+worth e v (BranchEvent xs n at side) = of_events ((v xs).events ++ record { what = happening.Branch at side; printed = n } ∷ [])
+worth e v (CallEvent xs n at) = of_events ((v xs).events ++ record { what = happening.Call at; printed = n } ∷ [])
+worth e v (PrintEvent xs n at length seen) =
+    of_events ((v xs).events ++ record { what = happening.Print at length (v seen).numbers; printed = n } ∷ [])
+worth e v (EventsBehind xs ys) = of_events ((v xs).events ++ (v ys).events)
+worth e v NoNumbers = of_numbers []
+worth e v (NumberBehind xs w s x) = of_numbers ((v xs).numbers ++ number s w (v x).word ∷ [])
 
 -- every node is worth what its shape says of its parts
 pub record Models (shapes : List Shape) (e : Environment) (v : Values) : Type 0 where
@@ -131,6 +153,8 @@ abbrev pub IsOfSort : Sort → Worth → Type 0
 IsOfSort sort.Truth x = x ≡ of_truth x.truth
 IsOfSort (sort.Word w) x = (x ≡ of_word x.word) × (x.word < 2 ^ bits w)
 IsOfSort sort.Memory x = x ≡ of_store x.store
+IsOfSort sort.Events x = x ≡ of_events x.events
+IsOfSort sort.Numbers x = x ≡ of_numbers x.numbers
 
 -- in every environment the node is worth what the shape is
 pub record IsWorth (shapes : List Shape) (shape : Shape) (node : Node) : Type 0 where

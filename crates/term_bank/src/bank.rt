@@ -85,8 +85,8 @@ impl Bank {
     }
 
     /// A node that has the shape's value in every environment: the shape's own, which stands once, or one that is
-    /// simpler. An operator on constants is the constant that it gives, two negations go away, and so does a choice of
-    /// one node.
+    /// simpler. An operator on constants is the constant that it gives, two negations go away, and so do a choice that is
+    /// decided or of one node, a connective with a side that decides or leaves it, and events behind none.
     pub fn add(&mut self, shape: Shape) -> Result<Node, BankFault>
         requires { IsWell self.old shape }
         ensures node { IfOk result (IsNode self.new) }

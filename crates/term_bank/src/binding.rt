@@ -44,7 +44,9 @@ pub fn over(images: &HashMap<u32, Node>, shape: Shape) -> Shape
         | Shape::Parameter { .. }
         | Shape::Base
         | Shape::Entry
-        | Shape::Initial => shape,
+        | Shape::Initial
+        | Shape::NoEvents
+        | Shape::NoNumbers => shape,
         Shape::WorldWord { width, place } => Shape::WorldWord {
             width,
             place: image(images, place),
@@ -186,6 +188,54 @@ pub fn over(images: &HashMap<u32, Node>, shape: Shape) -> Shape
             memory: image(images, memory),
             object: image(images, object),
         },
+        Shape::BranchEvent {
+            events,
+            printed,
+            at,
+            side,
+        } => Shape::BranchEvent {
+            events: image(images, events),
+            printed,
+            at,
+            side,
+        },
+        Shape::CallEvent {
+            events,
+            printed,
+            at,
+        } => Shape::CallEvent {
+            events: image(images, events),
+            printed,
+            at,
+        },
+        Shape::PrintEvent {
+            events,
+            printed,
+            at,
+            length,
+            seen,
+        } => Shape::PrintEvent {
+            events: image(images, events),
+            printed,
+            at,
+            length,
+            seen: image(images, seen),
+        },
+        Shape::EventsBehind { first, second } => Shape::EventsBehind {
+            first: image(images, first),
+            second: image(images, second),
+        },
+        Shape::NumberBehind {
+            numbers,
+            width,
+            is_signed,
+            word,
+        } => Shape::NumberBehind {
+            numbers: image(images, numbers),
+            width,
+            is_signed,
+            word: image(images, word),
+        },
     }
 }
 
@@ -232,7 +282,9 @@ impl Bank {
                 to: width,
                 operand: node.index,
             }),
-            Sort::Truth | Sort::Memory => self.add(Shape::Constant { bits: 0, width }),
+            Sort::Truth | Sort::Memory | Sort::Events | Sort::Numbers => {
+                self.add(Shape::Constant { bits: 0, width })
+            }
         }
     }
 

@@ -2,14 +2,16 @@ ghost use Rattle.std.specs.Prelude.{◌<◌, ◌^◌};
 ghost use Rattle.bit_words.specs.Words.{bits};
 ghost use Rattle.bit_words.specs.declared.width.Width.TheVariants.{W64};
 ghost use Rattle.term_bank.specs.Terms.{IsTerm, Makes};
-ghost use Rattle.term_bank.specs.declared.sort.Sort.TheVariants.{Truth, Word};
+ghost use Rattle.term_bank.specs.declared.sort.Sort.TheVariants.{Truth, Word, Events, Numbers};
 ghost use Rattle.term_bank.specs.declared.shape.Shape.TheVariants.{Flag, Constant, Parameter, Base, Entry, WorldWord};
 ghost use Rattle.term_bank.specs.declared.shape.Shape.TheVariants.{Binary, Test, Convert, Not, Connect, Choose};
+ghost use Rattle.term_bank.specs.declared.shape.Shape.TheVariants.{NoEvents, BranchEvent, CallEvent, PrintEvent};
+ghost use Rattle.term_bank.specs.declared.shape.Shape.TheVariants.{EventsBehind, NoNumbers, NumberBehind};
 
 use crate::bank::{Bank, BankFault};
 use crate::shape::{Connective, Extension, Shape, WordOperator, WordTest};
 use crate::sort::{Node, Sort};
-use bit_words::Width;
+use bit_words::{Side, Width};
 
 // Terms by their parts' nodes.
 impl Bank {
@@ -163,6 +165,106 @@ impl Bank {
             condition: condition.index,
             yes: yes.index,
             no: no.index,
+        })
+    }
+
+    /// Nothing happened.
+    pub fn no_events(&mut self) -> Result<Node, BankFault>
+        ensures { Makes self.old self.new NoEvents result }
+    {
+        self.add(Shape::NoEvents)
+    }
+
+    /// What happened, and behind it that the branch at a token takes a side, where so many bytes were printed before.
+    pub fn branch_event(
+        &mut self,
+        events: Node,
+        printed: u64,
+        at: u32,
+        side: Side,
+    ) -> Result<Node, BankFault>
+        requires { IsTerm self.old Events events }
+        ensures { Makes self.old self.new (BranchEvent events.index printed at side) result }
+    {
+        self.add(Shape::BranchEvent {
+            events: events.index,
+            printed,
+            at,
+            side,
+        })
+    }
+
+    /// What happened, and behind it that the call at a token begins, where so many bytes were printed before.
+    pub fn call_event(&mut self, events: Node, printed: u64, at: u32) -> Result<Node, BankFault>
+        requires { IsTerm self.old Events events }
+        ensures { Makes self.old self.new (CallEvent events.index printed at) result }
+    {
+        self.add(Shape::CallEvent {
+            events: events.index,
+            printed,
+            at,
+        })
+    }
+
+    /// What happened, and behind it that the log call at a token prints so many bytes, where so many were printed
+    /// before.
+    pub fn print_event(
+        &mut self,
+        events: Node,
+        printed: u64,
+        at: u32,
+        length: u64,
+        seen: Node,
+    ) -> Result<Node, BankFault>
+        requires events { IsTerm self.old Events events }
+        requires seen { IsTerm self.old Numbers seen }
+        ensures { Makes self.old self.new (PrintEvent events.index printed at length seen.index) result }
+    {
+        self.add(Shape::PrintEvent {
+            events: events.index,
+            printed,
+            at,
+            length,
+            seen: seen.index,
+        })
+    }
+
+    /// What happened first, and behind it what happened second.
+    pub fn events_behind(&mut self, first: Node, second: Node) -> Result<Node, BankFault>
+        requires first { IsTerm self.old Events first }
+        requires second { IsTerm self.old Events second }
+        ensures { Makes self.old self.new (EventsBehind first.index second.index) result }
+    {
+        self.add(Shape::EventsBehind {
+            first: first.index,
+            second: second.index,
+        })
+    }
+
+    /// No number.
+    pub fn no_numbers(&mut self) -> Result<Node, BankFault>
+        ensures { Makes self.old self.new NoNumbers result }
+    {
+        self.add(Shape::NoNumbers)
+    }
+
+    /// Numbers, and behind them the one that a word is, signed or not.
+    pub fn number_behind(
+        &mut self,
+        numbers: Node,
+        width: Width,
+        is_signed: bool,
+        word: Node,
+    ) -> Result<Node, BankFault>
+        requires numbers { IsTerm self.old Numbers numbers }
+        requires word { IsTerm self.old (Word width) word }
+        ensures { Makes self.old self.new (NumberBehind numbers.index width is_signed word.index) result }
+    {
+        self.add(Shape::NumberBehind {
+            numbers: numbers.index,
+            width,
+            is_signed,
+            word: word.index,
         })
     }
 }

@@ -2,7 +2,7 @@ ghost use Rattle.std.specs.Prelude.{◌≡◌};
 ghost use Rattle.term_bank.specs.Shapes.{sort_of};
 
 use crate::sort::Sort;
-use bit_words::Width;
+use bit_words::{Side, Width};
 use c_store::ObjectKind;
 
 /// An operator on two words of one width. Division by 0 and a shift by the width or more give 0.
@@ -177,6 +177,44 @@ pub enum Shape {
         memory: u32,
         object: u32,
     },
+    /// Nothing happened.
+    NoEvents,
+    /// What happened, and behind it that the branch at the token takes a side, where so many bytes were printed before.
+    BranchEvent {
+        events: u32,
+        printed: u64,
+        at: u32,
+        side: Side,
+    },
+    /// What happened, and behind it that the call at the token begins, where so many bytes were printed before.
+    CallEvent {
+        events: u32,
+        printed: u64,
+        at: u32,
+    },
+    /// What happened, and behind it that the log call at the token prints so many bytes, where so many were printed
+    /// before; `seen` are the values of its watched variables.
+    PrintEvent {
+        events: u32,
+        printed: u64,
+        at: u32,
+        length: u64,
+        seen: u32,
+    },
+    /// What happened first, and behind it what happened second.
+    EventsBehind {
+        first: u32,
+        second: u32,
+    },
+    /// No number.
+    NoNumbers,
+    /// Numbers, and behind them the one that a word is, signed or not.
+    NumberBehind {
+        numbers: u32,
+        width: Width,
+        is_signed: bool,
+        word: u32,
+    },
 }
 
 impl Shape {
@@ -207,6 +245,12 @@ impl Shape {
             | Shape::CopyRange { .. }
             | Shape::Made { .. }
             | Shape::Ended { .. } => Sort::Memory,
+            Shape::NoEvents
+            | Shape::BranchEvent { .. }
+            | Shape::CallEvent { .. }
+            | Shape::PrintEvent { .. }
+            | Shape::EventsBehind { .. } => Sort::Events,
+            Shape::NoNumbers | Shape::NumberBehind { .. } => Sort::Numbers,
         }
     }
 }

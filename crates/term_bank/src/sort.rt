@@ -9,6 +9,10 @@ pub enum Sort {
     Word(Width),
     /// A memory: a byte at each address, and the live objects.
     Memory,
+    /// What happened in a run, in order.
+    Events,
+    /// Whole numbers, in order.
+    Numbers,
 }
 
 /// A node of a bank: its number there, and its sort.

@@ -30,11 +30,15 @@ fn add_parts(shape: Shape, set: &mut BTreeSet<u32>) -> Result<(), AllocError>
         | Shape::Parameter { .. }
         | Shape::Base
         | Shape::Entry
-        | Shape::Initial => Ok(()),
+        | Shape::Initial
+        | Shape::NoEvents
+        | Shape::NoNumbers => Ok(()),
         Shape::WorldWord { place: a, .. }
         | Shape::InitialByte { address: a, .. }
         | Shape::Convert { operand: a, .. }
-        | Shape::Not(a) => add_all(&[a], set),
+        | Shape::Not(a)
+        | Shape::BranchEvent { events: a, .. }
+        | Shape::CallEvent { events: a, .. } => add_all(&[a], set),
         Shape::Binary {
             left: a,
             right: b,
@@ -66,6 +70,20 @@ fn add_parts(shape: Shape, set: &mut BTreeSet<u32>) -> Result<(), AllocError>
         | Shape::HasKind {
             memory: a,
             object: b,
+            ..
+        }
+        | Shape::PrintEvent {
+            events: a,
+            seen: b,
+            ..
+        }
+        | Shape::EventsBehind {
+            first: a,
+            second: b,
+        }
+        | Shape::NumberBehind {
+            numbers: a,
+            word: b,
             ..
         } => add_all(&[a, b], set),
         Shape::Choose {

@@ -1,6 +1,6 @@
-use Rattle.std.proofs.Common.{◌∙◌, Some, arith, inl, inr, map, refl, string_bytes, sym}
+use Rattle.std.proofs.Common.{◌∙◌, Some, inl, inr, map, string_bytes, sym}
 use Rattle.command.specs.Inputs.{asked_in}
-use Rattle.command.proofs.Calls.{asked_for, asked_nothing, none_of, not_asked, refusals_of, whole}
+use Rattle.command.proofs.Calls.{answer_of, asked_for, asked_nothing, no_fault, no_usage, no_want, none_of, not_asked, not_refused, refusals_of, whole}
 use Rattle.command.proofs.Deciding.{none_answered}
 use Rattle.command.proofs.call.run.Goals as goal
 
@@ -33,41 +33,68 @@ returns-in_default-clause-complete g c =
     rw (asked_for (map string_bytes c.args.words.now) c.in-Ok.job c.request_of.result c.in-Ok.ensures
     c.request_of.ensures ∙ none_of c.request_of.result c.in_default.not-Some) tt
 
-pub returns-in-Ok-true-clause-found : goal.returns-in-Ok-true-clause-found
-returns-in-Ok-true-clause-found g c =
+pub returns-in-Ok-serve-clause-answered : goal.returns-in-Ok-serve-clause-answered
+returns-in-Ok-serve-clause-answered g c =
     let asks = asked_for (map string_bytes c.args.words.now) c.in-Ok.job (Some c.in-Some.request) c.in-Ok.ensures
     c.in-Some.ensures in
-    λ e. rw asks (rw c.in-Ok-true.field-0-test at c.in-Ok-true.ensures.answered)
+    λ e. rw asks c.in-Ok-serve.ensures.answered
 
-pub returns-in-Ok-true-clause-unserved : goal.returns-in-Ok-true-clause-unserved
-returns-in-Ok-true-clause-unserved g c =
+pub returns-in-Ok-serve-clause-usage : goal.returns-in-Ok-serve-clause-usage
+returns-in-Ok-serve-clause-usage g c =
+    let is = answer_of (asked_in c.in-Some.request) _ c.in-Ok-serve.status _ _ _ _ _ c.in-Ok-serve.ensures.answered in
+    λ e. absurd (no_usage _ is e)
+
+pub returns-in-Ok-serve-clause-usage_line : goal.returns-in-Ok-serve-clause-usage_line
+returns-in-Ok-serve-clause-usage_line g c =
+    let is = answer_of (asked_in c.in-Some.request) _ c.in-Ok-serve.status _ _ _ _ _ c.in-Ok-serve.ensures.answered in
+    λ e. absurd (no_usage _ is e)
+
+pub returns-in-Ok-serve-clause-unserved : goal.returns-in-Ok-serve-clause-unserved
+returns-in-Ok-serve-clause-unserved g c =
     let asks = asked_for (map string_bytes c.args.words.now) c.in-Ok.job (Some c.in-Some.request) c.in-Ok.ensures
     c.in-Some.ensures in
     λ none. absurd (not_asked _ (sym asks ∙ none))
 
-pub returns-in-Ok-true-clause-decided : goal.returns-in-Ok-true-clause-decided
-returns-in-Ok-true-clause-decided g c =
-    let asks = asked_for (map string_bytes c.args.words.now) c.in-Ok.job (Some c.in-Some.request) c.in-Ok.ensures
-    c.in-Some.ensures in
-    rw asks (λ well. (λ e. omega (arith, e), λ e. omega (arith, e)))
+pub returns-in-Ok-serve-clause-refused : goal.returns-in-Ok-serve-clause-refused
+returns-in-Ok-serve-clause-refused g c =
+    let is = answer_of (asked_in c.in-Some.request) _ c.in-Ok-serve.status _ _ _ _ _ c.in-Ok-serve.ensures.answered in
+    λ r. absurd (not_refused _ is r)
 
-pub returns-in-Ok-false-clause-nothing : goal.returns-in-Ok-false-clause-nothing
-returns-in-Ok-false-clause-nothing g c =
-    let asks = asked_for (map string_bytes c.args.words.now) c.in-Ok.job (Some c.in-Some.request) c.in-Ok.ensures
-    c.in-Some.ensures in
-    λ e. rw asks (rw c.in-Ok-false.field-0-test at c.in-Ok-false.ensures.answered)
+pub returns-in-Ok-serve-clause-memory : goal.returns-in-Ok-serve-clause-memory
+returns-in-Ok-serve-clause-memory g c =
+    let is = answer_of (asked_in c.in-Some.request) _ c.in-Ok-serve.status _ _ _ _ _ c.in-Ok-serve.ensures.answered in
+    λ e. absurd (no_want _ is e)
 
-pub returns-in-Ok-false-clause-unserved : goal.returns-in-Ok-false-clause-unserved
-returns-in-Ok-false-clause-unserved g c =
-    let asks = asked_for (map string_bytes c.args.words.now) c.in-Ok.job (Some c.in-Some.request) c.in-Ok.ensures
-    c.in-Some.ensures in
-    λ none. absurd (not_asked _ (sym asks ∙ none))
+pub returns-in-Ok-serve-clause-memory_line : goal.returns-in-Ok-serve-clause-memory_line
+returns-in-Ok-serve-clause-memory_line g c =
+    let is = answer_of (asked_in c.in-Some.request) _ c.in-Ok-serve.status _ _ _ _ _ c.in-Ok-serve.ensures.answered in
+    λ e. absurd (no_want _ is e)
 
-pub returns-in-Ok-false-clause-decided : goal.returns-in-Ok-false-clause-decided
-returns-in-Ok-false-clause-decided g c =
+pub returns-in-Ok-serve-clause-statuses : goal.returns-in-Ok-serve-clause-statuses
+returns-in-Ok-serve-clause-statuses g c =
+    let is = answer_of (asked_in c.in-Some.request) _ c.in-Ok-serve.status _ _ _ _ _ c.in-Ok-serve.ensures.answered in
+    inl is
+
+pub returns-in-Ok-serve-clause-decided : goal.returns-in-Ok-serve-clause-decided
+returns-in-Ok-serve-clause-decided g c =
     let asks = asked_for (map string_bytes c.args.words.now) c.in-Ok.job (Some c.in-Some.request) c.in-Ok.ensures
     c.in-Some.ensures in
-    rw asks (λ well. (λ e. omega (arith, e), λ e. omega (arith, e)))
+    let is = answer_of (asked_in c.in-Some.request) _ c.in-Ok-serve.status _ _ _ _ _ c.in-Ok-serve.ensures.answered in
+    rw asks (λ well. no_fault _ is)
+
+pub returns-in-Ok-serve-clause-no_program : goal.returns-in-Ok-serve-clause-no_program
+returns-in-Ok-serve-clause-no_program g c =
+    let asks = asked_for (map string_bytes c.args.words.now) c.in-Ok.job (Some c.in-Some.request) c.in-Ok.ensures
+    c.in-Some.ensures in
+    rw asks (λ u. absurd (none_answered (asked_in c.in-Some.request) (g.H.Shelf.state c.args.shelf.now)
+    (g.H.Shelf.state c.serve.new.shelf) c.in-Ok-serve.status _ _ _ _ _ u c.in-Ok-serve.ensures.answered))
+
+pub returns-in-Ok-serve-clause-complete : goal.returns-in-Ok-serve-clause-complete
+returns-in-Ok-serve-clause-complete g c =
+    let asks = asked_for (map string_bytes c.args.words.now) c.in-Ok.job (Some c.in-Some.request) c.in-Ok.ensures
+    c.in-Some.ensures in
+    let is = answer_of (asked_in c.in-Some.request) _ c.in-Ok-serve.status _ _ _ _ _ c.in-Ok-serve.ensures.answered in
+    rw asks (λ a. inl is)
 
 pub returns-clause-unserved : goal.returns-clause-unserved
 returns-clause-unserved g c =
@@ -84,7 +111,7 @@ returns-clause-refused g c =
     (g.O.Sink.state c.args.out.now) (g.O.Sink.state c.serve.new.out) (g.E.Sink.state c.args.err.now)
     (g.E.Sink.state c.serve.new.err) (g.E.Sink.state c.tell_refusal.new.err) c.in-Err.refusal c.tell_refusal.result
     c.in-Err.ensures.refused c.in-Err.ensures.untold c.tell_refusal.ensures in
-    λ more less. rw asks (all.refused more less)
+    λ is. rw asks (all.refused is)
 
 pub returns-clause-memory : goal.returns-clause-memory
 returns-clause-memory g c =
@@ -115,32 +142,6 @@ returns-clause-decided g c =
     c.in-Err.ensures.refused c.in-Err.ensures.untold c.tell_refusal.ensures in
     rw asks (λ well. all.decided well)
 
-pub returns-in-Ok-true-clause-no_program : goal.returns-in-Ok-true-clause-no_program
-returns-in-Ok-true-clause-no_program g c =
-    let asks = asked_for (map string_bytes c.args.words.now) c.in-Ok.job (Some c.in-Some.request) c.in-Ok.ensures
-    c.in-Some.ensures in
-    rw asks (λ u. absurd (none_answered (asked_in c.in-Some.request) (g.H.Shelf.state c.args.shelf.now)
-    (g.H.Shelf.state c.serve.new.shelf) c.in-Ok-true.field-0 _ _ _ _ u c.in-Ok-true.ensures.answered))
-
-pub returns-in-Ok-true-clause-complete : goal.returns-in-Ok-true-clause-complete
-returns-in-Ok-true-clause-complete g c =
-    let asks = asked_for (map string_bytes c.args.words.now) c.in-Ok.job (Some c.in-Some.request) c.in-Ok.ensures
-    c.in-Some.ensures in
-    rw asks (λ a. inl refl)
-
-pub returns-in-Ok-false-clause-no_program : goal.returns-in-Ok-false-clause-no_program
-returns-in-Ok-false-clause-no_program g c =
-    let asks = asked_for (map string_bytes c.args.words.now) c.in-Ok.job (Some c.in-Some.request) c.in-Ok.ensures
-    c.in-Some.ensures in
-    rw asks (λ u. absurd (none_answered (asked_in c.in-Some.request) (g.H.Shelf.state c.args.shelf.now)
-    (g.H.Shelf.state c.serve.new.shelf) c.in-Ok-false.field-0 _ _ _ _ u c.in-Ok-false.ensures.answered))
-
-pub returns-in-Ok-false-clause-complete : goal.returns-in-Ok-false-clause-complete
-returns-in-Ok-false-clause-complete g c =
-    let asks = asked_for (map string_bytes c.args.words.now) c.in-Ok.job (Some c.in-Some.request) c.in-Ok.ensures
-    c.in-Some.ensures in
-    rw asks (λ a. inr (inl refl))
-
 pub returns-clause-no_program : goal.returns-clause-no_program
 returns-clause-no_program g c =
     let asks = asked_for (map string_bytes c.args.words.now) c.in-Ok.job (Some c.in-Some.request) c.in-Ok.ensures
@@ -162,3 +163,12 @@ returns-clause-complete g c =
     (g.E.Sink.state c.serve.new.err) (g.E.Sink.state c.tell_refusal.new.err) c.in-Err.refusal c.tell_refusal.result
     c.in-Err.ensures.refused c.in-Err.ensures.untold c.tell_refusal.ensures in
     rw asks (λ a. whole c.tell_refusal.result (all.complete a))
+
+pub returns-clause-statuses : goal.returns-clause-statuses
+returns-clause-statuses g c =
+    let all = refusals_of (asked_in c.in-Some.request) (g.H.Shelf.state c.args.shelf.now)
+    (g.H.Shelf.state c.serve.new.shelf)
+    (g.O.Sink.state c.args.out.now) (g.O.Sink.state c.serve.new.out) (g.E.Sink.state c.args.err.now)
+    (g.E.Sink.state c.serve.new.err) (g.E.Sink.state c.tell_refusal.new.err) c.in-Err.refusal c.tell_refusal.result
+    c.in-Err.ensures.refused c.in-Err.ensures.untold c.tell_refusal.ensures in
+    inr (inr all.kinds)

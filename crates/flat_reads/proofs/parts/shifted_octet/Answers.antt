@@ -1,3 +1,5 @@
+use Rattle.flat_reads.proofs.WordLemmas.{gives_failed}
+use Rattle.std.proofs.lemmas.Result.{err_from_is_err_and}
 use Rattle.std.proofs.Common.{◌∷◌, []}
 use Rattle.bit_words.specs.declared.width.Width.TheVariants.{W8, W64}
 use Rattle.term_bank.specs.declared.shape.WordOperator.TheVariants as operator
@@ -49,3 +51,10 @@ binary-requires-clause-left c = node_grown c.args.bank.now c.constant.new.bank (
 
 pub binary-requires-2-clause-left : goal.binary-requires-2-clause-left
 binary-requires-2-clause-left c = node_grown c.args.bank.now c.converted_to.new.bank (word c.args.width c.args.value) (grows_on c.in_ok-three.ensures.grows (grows_on c.in_ok-shift.ensures.grows c.in_ok-by.ensures.grows)) c.requires.value
+
+pub returns-in_err-low : goal.returns-in_err-low
+returns-in_err-low c =
+    let p = err_from_is_err_and c.from_residual-in_err-low.result c.from_residual-in_err-low.ensures.1 in
+    let failed = c.in_err-low.ensures in
+    gives_failed _ _ _ _ _ _ p.0 p.1
+    (grows_on c.in_ok-three.ensures.grows (grows_on c.in_ok-shift.ensures.grows (grows_on c.in_ok-by.ensures.grows failed.grows))) failed.bank

@@ -1,6 +1,7 @@
+use Rattle.term_bank.proofs.BankLemmas.{node_grown}
 use Rattle.std.proofs.Common.{subst}
 use Rattle.bit_words.specs.declared.width.Width.TheVariants.{W64}
-use Rattle.term_bank.specs.Shapes.{word}
+use Rattle.term_bank.specs.Shapes.{word, memory as memory_node}
 use Rattle.flat_reads.specs.Choices.{Asks}
 use Rattle.flat_reads.proofs.AnswerLemmas.{answers_grown}
 use Rattle.flat_reads.proofs.WordLemmas.{byte_gives}
@@ -16,3 +17,6 @@ returns-in-Asked-clause-byte c =
     let mid = c.place_at.new.bank in
     byte_gives c.args.bank.now mid c.answer.new.bank c.args.memory c.args.address c.args.far place c.in-Asked.question c.answer.result e.grows c.answer.ensures.grows e.bank c.answer.ensures.bank e.node e.value e.flat
     (subst (Asks mid c.args.memory (word W64 place.index)) c.in-Asked.is c.asked.ensures) c.answer.ensures.node
+
+pub asked-requires-clause-memory : goal.asked-requires-clause-memory
+asked-requires-clause-memory c = node_grown c.args.bank.now c.place_at.new.bank (memory_node c.args.memory) c.in_ok-place.ensures.grows c.requires.memory

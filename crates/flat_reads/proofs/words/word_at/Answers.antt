@@ -98,3 +98,6 @@ returns-clause-word c =
       grows = h.grows;
       bank = h.bank;
     }
+
+pub byte_at-requires-in-octets-clause-memory : goal.byte_at-requires-in-octets-clause-memory
+byte_at-requires-in-octets-clause-memory c = node_grown c.args.bank.now c.octets.bank (memory c.args.memory) c.octets.invariant.grows c.requires.memory

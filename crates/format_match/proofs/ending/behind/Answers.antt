@@ -24,8 +24,8 @@ returns c =
     behind_all c.args.piece.now c.args.log.now c.args.before.now c.starts.from-index c.starts.ends
     (subst (λ l. length l ≤ c.starts.from-index) c.as_slice-from-items.ensures.value c.starts-test.false) c.starts.invariant
 
-pub returns-then-is_plain_text : goal.returns-then-is_plain_text
-returns-then-is_plain_text c =
-    let r = plain_is c.args.piece.now (sym c.is_plain_text.ensures ∙ c.if-is_plain_text.true) in
+pub returns-then-is_swept : goal.returns-then-is_swept
+returns-then-is_swept c =
+    let r = plain_is c.args.piece.now (c.is_swept.ensures c.if-is_swept.true) in
     subst (λ p. EndsBehind p c.args.log.now c.args.before.now c.in_ok-ends.ends) (sym r.1)
     (texts_end r.0 c.args.log.now (λ k. omega (arith, c.type_inv.log k)) c.args.before.now c.requires c.in_ok-ends.ends c.in_ok-ends.ensures)

@@ -15,5 +15,5 @@ positions-preserved c =
     record {
       goes = c.may_go_on-goes_on.ensures ∙ ap (λ z. z && is_printed log at) w ∙ ap (goes_on before log) next;
       below = c.in_ok-push_where.ensures.below;
-      ends = λ y. ends_one before log at y _ _ wanted (c.positions.invariant.ends y) w (c.in_ok-push_where.ensures.has y);
+      ends = λ y. ends_one (may_end before log) at y _ _ wanted (c.positions.invariant.ends y) w (c.in_ok-push_where.ensures.has y);
     }

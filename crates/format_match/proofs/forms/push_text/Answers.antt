@@ -25,12 +25,12 @@ returns-in_default-text_ended c =
 pub returns : goal.returns
 returns c =
     let a = c.args in
-    let t = c.in_ok-bytes.bytes in
+    let t = c.of-bytes.result in
     let ended = c.in-Some-text_ended.ended in
     let beside : unpadded a.flags a.sizes a.slice.now a.padding ≡ Some c.in-Some.text.now = search rules in
-    let beside' : unpadded a.flags a.sizes a.slice.now a.padding ≡ Some t = beside ∙ ap Some (sym c.in_ok-bytes.ensures) in
+    let beside' : unpadded a.flags a.sizes a.slice.now a.padding ≡ Some t = beside ∙ ap Some (sym c.of-bytes.ensures) in
     let some : text_ended a.sizes.precision.value c.in-Some.text.now ≡ Some ended = search rules in
-    let some' : text_ended a.sizes.precision.value t ≡ Some ended = ap (text_ended a.sizes.precision.value) c.in_ok-bytes.ensures ∙ some in
+    let some' : text_ended a.sizes.precision.value t ≡ Some ended = ap (text_ended a.sizes.precision.value) c.of-bytes.ensures ∙ some in
     let bytes : All (λ b. b < 256) a.slice.now = All-from_get_or (λ b. b < 256) a.slice.now 0 (λ i h. omega (arith, c.type_inv.slice i)) in
     Adds-one _ _ _ c.in_ok-push_way.ensures
     (sized_split a.sizes kind.Text (padded_end a.flags a.sizes a.slice.now a.end a.padding) (Text t ended) a.end (arg.Text t) c.requires.held refl

@@ -1,6 +1,5 @@
-use Rattle.std.proofs.Common.{◌≡◌, ◌+◌, ◌≤◌, ◌∙◌, List, negsuc, pos, true, take, drop, length, ap, subst, arith}
-use Rattle.printf_text.specs.Texts.{conversion_text, size_of, size_kinds, first}
-use Rattle.printf_text.specs.declared.piece.Arg.{Arg}
+use Rattle.std.proofs.Common.{◌≡◌, ◌+◌, ◌≤◌, ◌∙◌, true, take, drop, length, ap, subst, arith}
+use Rattle.printf_text.specs.Texts.{conversion_text}
 use Rattle.format_match.specs.Splits.{begins}
 use Rattle.format_match.specs.Ways.{upto, here, kept_here}
 use Rattle.format_match.proofs.MetEnds.{Describes-grown, Describes-same, upto_more}
@@ -20,12 +19,9 @@ returns c =
     let rest = c.split_at.result.1.now in
     let most = c.reach-most.result in
     let n : c.lengths.len ≡ most + 1 = omega arith in
-    let reached : (args : List Arg) → begins (conversion_text a.c.now args) rest ≡ true → length (conversion_text a.c.now args) ≤ most =
-    (λ args. c.reach-most.ensures.reached a.c.now.flags (size_of (pos 0) a.c.now.width args) (size_of (negsuc 0) a.c.now.precision (drop (length (size_kinds a.c.now.width)) args))
-    (first (drop (length (size_kinds a.c.now.precision)) (drop (length (size_kinds a.c.now.width)) args)))) in
     Describes-same _ c.lengths.invariant
     (λ args h. ap (upto (λ len. kept_here a.next.now (drop len rest) (here (conversion_text a.c.now args) (take len rest) (a.from + len)))) n
     ∙ ap (λ r. upto (λ len. kept_here a.next.now (drop len r) (here (conversion_text a.c.now args) (take len r) (a.from + len))) (most + 1)) c.split_at.ensures.back
     ∙ upto_kept a.next.now (conversion_text a.c.now args) a.log.now a.from most c.requires
     (subst (λ r. most ≤ length r) c.split_at.ensures.back c.reach-most.ensures.within)
-    (subst (λ r. begins (conversion_text a.c.now args) r ≡ true → length (conversion_text a.c.now args) ≤ most) c.split_at.ensures.back (reached args)))
+    (subst (λ r. begins (conversion_text a.c.now args) r ≡ true → length (conversion_text a.c.now args) ≤ most) c.split_at.ensures.back (c.reach-most.ensures.reached args)))

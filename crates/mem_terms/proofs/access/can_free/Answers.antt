@@ -3,7 +3,7 @@ use Rattle.std.specs.Prelude.{◌&&◌}
 use Rattle.bit_words.specs.declared.width.Width.TheVariants.{W64}
 use Rattle.c_store.specs.Store.{object_of, offset_of}
 use Rattle.c_store.specs.Access.{is_heap}
-use Rattle.term_bank.specs.declared.sort.Sort.TheVariants.{Truth, Word}
+use Rattle.term_bank.specs.declared.sort.Sort.TheVariants.{Truth, Word, Memory}
 use Rattle.term_bank.proofs.BankLemmas.{grows_on, stays}
 use Rattle.term_bank.proofs.TermLemmas.{term_grown}
 use Rattle.mem_terms.proofs.TruthLemmas.{truths_or}
@@ -23,3 +23,7 @@ is_allocated-requires-clause-address c = term_grown c.args.bank.now c.is_zero.ne
 
 pub connect-requires-clause-left : goal.connect-requires-clause-left
 connect-requires-clause-left c = term_grown c.is_zero.new.bank c.is_allocated.new.bank Truth c.in_ok-null.null c.in_ok-allocated.ensures.grows c.in_ok-null.ensures.node
+
+pub is_allocated-requires-clause-memory : goal.is_allocated-requires-clause-memory
+is_allocated-requires-clause-memory c =
+    term_grown c.args.bank.now c.is_zero.new.bank Memory c.args.memory c.in_ok-null.ensures.grows c.requires.memory

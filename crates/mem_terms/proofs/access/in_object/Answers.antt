@@ -1,7 +1,7 @@
 use Rattle.std.proofs.Common.{ap}
 use Rattle.bit_words.specs.declared.width.Width.TheVariants.{W64}
 use Rattle.c_store.specs.Access.{is_live}
-use Rattle.term_bank.specs.declared.sort.Sort.TheVariants.{Word}
+use Rattle.term_bank.specs.declared.sort.Sort.TheVariants.{Word, Memory}
 use Rattle.term_bank.specs.declared.shape.Shape.TheVariants.{IsLive}
 use Rattle.term_bank.specs.Values.{of_truth}
 use Rattle.term_bank.proofs.TermLemmas.{term_grown}
@@ -19,3 +19,6 @@ returns c =
 
 pub is_live-requires-clause-address : goal.is_live-requires-clause-address
 is_live-requires-clause-address c = term_grown c.args.bank.now c.word.new.self (Word W64) c.args.address c.in_ok-nothing.ensures.grows c.requires.address
+
+pub is_live-requires-clause-memory : goal.is_live-requires-clause-memory
+is_live-requires-clause-memory c = term_grown c.args.bank.now c.word.new.self Memory c.args.memory c.in_ok-nothing.ensures.grows c.requires.memory

@@ -15,3 +15,7 @@ returns c =
 
 pub test-requires-clause-left : goal.test-requires-clause-left
 test-requires-clause-left c = term_grown c.object_number.new.bank c.object_number-2.new.bank (Word W64) c.in_ok-one.one c.in_ok-other.ensures.grows c.in_ok-one.ensures.node
+
+pub object_number-requires-2 : goal.object_number-requires-2
+object_number-requires-2 c =
+    term_grown c.args.bank.now c.object_number.new.bank (Word W64) c.args.right c.in_ok-one.ensures.grows c.requires.right

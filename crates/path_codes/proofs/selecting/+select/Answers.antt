@@ -10,6 +10,6 @@ returns-in_ok-select-in-Some t c =
 
 pub returns-in_ok-push-in-None : goal.returns-in_ok-push-in-None
 returns-in_ok-push-in-None t c =
-    rw (nil_from_length c.args.cases.now c.in-None.ensures.cases, c.in_ok-push-in-None.ensures.ok, c.in_ok-last-in-None.ensures)
-    (selects_last c.args.at c.args.word c.args.number c.args.state.now c.args.bank.now _ c.args.all.now c.in_ok-always-in-None.always
-    c.requires.state c.requires.all c.in_ok-always-in-None.ensures)
+    rw (nil_from_length c.args.cases.now c.in-None.ensures.cases, c.in_ok-push-in-None.ensures.ok)
+    (selects_last c.args.at c.args.word c.args.number c.args.state.now c.args.bank.now _ c.args.all.now c.in_ok-last-in-None.last
+    c.requires.state c.requires.all c.in_ok-last-in-None.ensures)

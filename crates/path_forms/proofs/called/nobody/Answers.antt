@@ -5,14 +5,15 @@ use Rattle.path_forms.proofs.called.nobody.Goals as goal
 
 pub returns : goal.returns
 returns c =
-    rw (c.new.ensures, c.new-2.ensures) (record {
-      grows = grows_on c.in_ok-guard.ensures.grows c.in_ok-memory.ensures.grows;
+    let behind = grows_on c.in_ok-memory.ensures.grows c.in_ok-events.ensures.grows in
+    rw c.new.ensures (record {
+      grows = grows_on c.in_ok-guard.ensures.grows behind;
       state = record {
-        guard = term_grown _ _ _ _ c.in_ok-memory.ensures.grows c.in_ok-guard.ensures.node;
-        memory = c.in_ok-memory.ensures.node;
+        guard = term_grown _ _ _ _ behind c.in_ok-guard.ensures.node;
+        memory = term_grown _ _ _ _ c.in_ok-events.ensures.grows c.in_ok-memory.ensures.node;
         value = tt;
-        events = tt;
+        events = c.in_ok-events.ensures.node;
         operands = tt;
       };
-      nobody = λ e v m. ap (λ w. w.truth) (c.in_ok-guard.ensures.value.is e v (weaken c.in_ok-memory.ensures.grows m));
+      nobody = λ e v m. ap (λ w. w.truth) (c.in_ok-guard.ensures.value.is e v (weaken behind m));
     })

@@ -1,4 +1,5 @@
 use Rattle.std.proofs.Common.{rules}
+use Rattle.term_bank.proofs.TermLemmas.{term_grown}
 use Rattle.format_match.specs.Splits.{meets, meet_all}
 use Rattle.path_prints.specs.Arguments.{arg_in, args_in}
 use Rattle.path_prints.proofs.ArgumentLemmas.{numbers_rest}
@@ -23,3 +24,6 @@ returns t c =
     (met_both c.args.bank.now c.meets.new.bank c.meet_all.new.bank c.connect.new.self c.in_ok-first.first c.in_ok-rest.rest c.in_ok-both.both
     (λ v. meets c.in-Some.constraint.now (arg_in v c.in-Some-split_first.number.now))
     (λ v. meet_all c.in-Some.others.now (args_in v c.in-Some-split_first.more.now)) c.in_ok-first.ensures c.in_ok-rest.ensures c.in_ok-both.ensures)
+
+pub connect-requires-clause-left : goal.connect-requires-clause-left
+connect-requires-clause-left t c = term_grown _ _ _ c.in_ok-first.first c.in_ok-rest.ensures.grows c.in_ok-first.ensures.term

@@ -1,7 +1,7 @@
-use Rattle.term_bank.specs.declared.sort.Sort.TheVariants.{Truth, Memory}
+use Rattle.term_bank.specs.declared.sort.Sort.TheVariants.{Truth, Memory, Events}
 use Rattle.term_bank.proofs.BankLemmas.{grows_on}
 use Rattle.term_bank.proofs.TermLemmas.{term_grown}
-use Rattle.path_states.proofs.Growth.{numbers_grown, maybe_grown, events_grown}
+use Rattle.path_states.proofs.Growth.{numbers_grown, maybe_grown}
 use Rattle.path_states.proofs.Chosen.{merged}
 use Rattle.path_states.proofs.joining.merge.Goals as goal
 
@@ -46,32 +46,30 @@ chosen_all-requires-clause-second c =
 pub chosen_all-requires-clause-alike : goal.chosen_all-requires-clause-alike
 chosen_all-requires-clause-alike c = rw (c.as_slice.ensures, c.as_slice-2.ensures) c.requires.alike.operands
 
-pub chosen_events-requires-clause-guard : goal.chosen_events-requires-clause-guard
-chosen_events-requires-clause-guard c =
+pub choose-requires-2-clause-condition : goal.choose-requires-2-clause-condition
+choose-requires-2-clause-condition c =
     term_grown _ _ Truth _
     (grows_on (grows_on (grows_on c.in_ok-guard.ensures.grows c.in_ok-value.ensures.grows) c.in_ok-memory.ensures.grows) c.in_ok-operands.ensures.grows)
     c.requires.first.guard
 
-pub chosen_events-requires-clause-first : goal.chosen_events-requires-clause-first
-chosen_events-requires-clause-first c =
-    rw c.as_slice-3.ensures
-    (events_grown
+pub choose-requires-2-clause-yes : goal.choose-requires-2-clause-yes
+choose-requires-2-clause-yes c =
+    term_grown _ _ Events _
     (grows_on (grows_on (grows_on c.in_ok-guard.ensures.grows c.in_ok-value.ensures.grows) c.in_ok-memory.ensures.grows) c.in_ok-operands.ensures.grows)
-    c.args.first.now.events c.requires.first.events)
+    c.requires.first.events
 
-pub chosen_events-requires-clause-second : goal.chosen_events-requires-clause-second
-chosen_events-requires-clause-second c =
-    rw c.as_slice-4.ensures
-    (events_grown
+pub choose-requires-2-clause-no : goal.choose-requires-2-clause-no
+choose-requires-2-clause-no c =
+    term_grown _ _ Events _
     (grows_on (grows_on (grows_on c.in_ok-guard.ensures.grows c.in_ok-value.ensures.grows) c.in_ok-memory.ensures.grows) c.in_ok-operands.ensures.grows)
-    c.args.second.now.events c.requires.second.events)
+    c.requires.second.events
 
 pub returns : goal.returns
 returns c =
     let operands = rw (c.as_slice.ensures, c.as_slice-2.ensures) at c.in_ok-operands.ensures in
-    let events = rw (c.as_slice-3.ensures, c.as_slice-4.ensures) at c.in_ok-events.ensures in
     rw c.in_ok-kind.ensures
-    (merged c.args.bank.now c.connect.new.self c.chosen_maybe.new.bank c.choose.new.self c.chosen_all.new.bank c.chosen_events.new.bank
+    (merged c.args.bank.now c.connect.new.self c.chosen_maybe.new.bank c.choose.new.self c.chosen_all.new.bank c.choose-2.new.self
     c.args.first.now c.args.second.now c.in_ok-guard.guard c.in_ok-value.value c.in_ok-memory.memory c.in_ok-operands.operands
     c.in_ok-events.events c.requires.alike c.in_ok-guard.ensures.grows c.in_ok-guard.ensures.node c.in_ok-guard.ensures.value
-    c.in_ok-value.ensures c.in_ok-memory.ensures.grows c.in_ok-memory.ensures.node c.in_ok-memory.ensures.value operands events)
+    c.in_ok-value.ensures c.in_ok-memory.ensures.grows c.in_ok-memory.ensures.node c.in_ok-memory.ensures.value operands
+    c.in_ok-events.ensures.grows c.in_ok-events.ensures.node c.in_ok-events.ensures.value)

@@ -16,4 +16,5 @@ returns-in_ok-walk_row-in-Some t c =
     let l = c.args.floor.now in
     row_more (tour_of l.core.now l.log.now l.bounds.now l.ends.now) c.args.bank.now c.walk_entry.new.bank c.walk_row.new.bank l.left
     c.args.start c.in-Some.entry.now c.in-Some.rest.now c.args.entries.now c.args.table.now c.walk_entry.new.table c.walk_row.new.table
+    c.args.walks.now c.walk_entry.new.walks c.walk_row.new.walks
     c.in-Some.ensures.cases.0 c.in_ok-walk_entry-in-Some.ensures c.in_ok-walk_row-in-Some.ensures

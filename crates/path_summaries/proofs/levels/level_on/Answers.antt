@@ -1,4 +1,4 @@
-use Rattle.std.proofs.Common.{length, refl, arith}
+use Rattle.std.proofs.Common.{refl}
 use Rattle.path_summaries.specs.Tours.{tour_of}
 use Rattle.path_summaries.proofs.Levelling.{rows_levelled}
 use Rattle.path_summaries.proofs.levels.level_on.Goals as goal
@@ -9,5 +9,5 @@ returns c =
     let t = tour_of l.core.now l.log.now l.bounds.now l.ends.now in
     let rows = rw c.new-table.ensures at c.in_ok-walk_rows.ensures in
     let rooms = rw (c.new-rooms.ensures, c.as_slice.ensures) at c.in_ok-add_rooms.ensures in
-    rows_levelled t c.args.bank.now c.walk_rows.new.bank l.left (length l.ends.now) c.walk_rows.new.table c.add_rooms.new.rooms
-    l.core.now.functions (omega arith) refl rows rooms
+    rows_levelled t c.args.bank.now c.walk_rows.new.bank l.left c.walk_rows.new.table c.add_rooms.new.rooms l.core.now.functions
+    c.args.walks.now c.walk_rows.new.walks refl rows rooms

@@ -5,7 +5,8 @@ use Rattle.path_summaries.proofs.levels.summarize.Given as goal
 
 abbrev pub invariant-levels : goal.invariant-levels
 invariant-levels l =
-    Levels (tour_of l.core l.log l.bounds l.ends) l.initial.bank l.bank l.left l.below × (l.left ≤ l.bounds.depth)
+    Levels (tour_of l.core l.log l.bounds l.ends) l.initial.bank l.bank l.left l.below l.initial.walks l.walks
+    × (l.left ≤ l.bounds.depth)
 
 abbrev pub decreases-levels : goal.decreases-levels
 decreases-levels l = l.bounds.depth - l.left

@@ -22,5 +22,5 @@ returns c =
     let enters = rw (c.new-parameters.ensures, c.new-numbers.ensures, c.as_slice.ensures) at c.in_ok-enter.ensures in
     let embodies = rw c.as_slice-2.ensures at c.in_ok-states.ensures in
     walked t _ _ _ _ c.args.function l.left c.args.start l.function.now c.enter.new.types c.enter.new.numbers c.in_ok-memory.memory
-    c.in_ok-states.states c.in_ok-room.room (c.requires.ready _ stays).sound c.requires.function c.requires.key enters
-    c.in_ok-memory.ensures c.in_ok-room.ensures embodies c.keeps_bank.ensures
+    c.in_ok-states.states c.in_ok-room.room _ _ (c.requires.ready _ stays).sound c.requires.function c.requires.key enters
+    c.in_ok-memory.ensures c.in_ok-room.ensures embodies c.keeps_bank.ensures c.in_ok-walks.ensures

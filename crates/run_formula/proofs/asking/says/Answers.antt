@@ -7,3 +7,6 @@ returns-in_ok-node-in-Left c =
     rw c.in-Left.is
     (flag_told _ _ c.args.log.now question.Left c.args.state.now c.leaves.result c.in_ok-node-in-Left.node c.in_ok-node-in-Left.ensures
     (c.leaves.ensures c.args.log.now))
+
+pub holds_on-requires : goal.holds_on-requires
+holds_on-requires c = record { told = c.requires.told.told_of c.in-Holds.fact c.in-Holds.is }

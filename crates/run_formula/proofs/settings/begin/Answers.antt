@@ -13,9 +13,10 @@ returns c =
       value = None;
       position = 0;
       memory = c.in_ok-memory.memory;
-      events = [];
+      events = c.in_ok-events.events;
       operands = [];
     } in
     λ log.
-    rw (c.in_ok-states.ensures, c.new.ensures, c.new-2.ensures)
-    (begun_one log _ _ _ c.in_ok-guard.guard c.in_ok-memory.memory first refl c.in_ok-guard.ensures c.in_ok-memory.ensures)
+    rw (c.in_ok-states.ensures, c.new.ensures)
+    (begun_one log _ _ _ _ c.in_ok-guard.guard c.in_ok-memory.memory c.in_ok-events.events first refl c.in_ok-guard.ensures
+    c.in_ok-memory.ensures c.in_ok-events.ensures)

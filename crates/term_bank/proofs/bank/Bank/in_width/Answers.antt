@@ -6,7 +6,7 @@ use Rattle.term_bank.specs.declared.sort.Sort.TheVariants.{Word}
 use Rattle.term_bank.specs.declared.shape.Extension.TheVariants.{Zero}
 use Rattle.term_bank.specs.declared.shape.Shape.TheVariants.{Convert, Constant}
 use Rattle.term_bank.proofs.Equality.{width_true}
-use Rattle.term_bank.proofs.BindingLemmas.{if_ok, word_same, word_converted, word_none}
+use Rattle.term_bank.proofs.BindingLemmas.{if_ok, word_same, word_converted, word_none, no_words}
 use Rattle.term_bank.proofs.bank.Bank.in_width.Goals as goal
 
 pub returns-in-Word-clause-word : goal.returns-in-Word-clause-word
@@ -26,7 +26,7 @@ returns-in-Truth c =
     let e = c.add-in-Truth.ensures in
     record {
       word = if_ok (IsNode shapes) (λ n. n.sort ≡ Word c.args.width) (IsWorth shapes (Constant 0 c.args.width)) (HasWordOf shapes c.args.node c.args.width) c.add-in-Truth.result e.node e.sort e.value
-          (λ n is s h. word_none c.args.self.now shapes c.args.node c.args.width n c.requires.bank c.requires.node e.grows c.in-Truth.is is s h);
+          (λ n is s h. word_none c.args.self.now shapes c.args.node c.args.width n c.requires.bank c.requires.node e.grows (no_words c.args.node.sort c.in-Truth.is) is s h);
       grows = e.grows;
       bank = e.bank;
     }

@@ -1,0 +1,3 @@
+pub mod Assumed
+pub mod Asked
+pub mod Noted

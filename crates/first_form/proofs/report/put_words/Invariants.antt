@@ -1,8 +1,0 @@
-use Rattle.std.proofs.Common.{◌≡◌, ◌++◌}
-use Rattle.std.specs.Prelude.{codes}
-use Rattle.std.specs.List.{flat_map}
-use Rattle.first_form.specs.Reports.{entry_line}
-use Rattle.first_form.proofs.report.put_words.Given as goal
-
-abbrev pub invariant-loop-place : goal.invariant-loop-place
-invariant-loop-place l = l.text ++ flat_map (entry_line (codes "w ")) l.place-iterator ≡ l.fn.text ++ flat_map (entry_line (codes "w ")) l.fn.world.words

@@ -1,6 +1,0 @@
--- Elements of lists, by cases.
-use Rattle.std.specs.Prelude.{◌≡◌, ◌⊎◌, List, [], ◌∷◌}
-
-abbrev pub Among : {X : Type 0} → X → List X → Type 0
-Among x [] = ⊥
-Among x (y ∷ ys) = (x ≡ y) ⊎ Among x ys

@@ -1,0 +1,15 @@
+//! What is asked.
+use acceptance::Accepted;
+use bit_words::{Bounds, Fact};
+use log_text::LogText;
+
+/// An accepted source within bounds, a log, the facts that are asked of the runs that print it, and how many conflicts
+/// each question may take.
+#[derive(Clone, Copy)]
+pub struct Inquiry<'a> {
+    pub program: &'a Accepted,
+    pub bounds: &'a Bounds,
+    pub log: &'a LogText,
+    pub facts: &'a [Fact],
+    pub conflicts: u32,
+}

@@ -1,0 +1,4 @@
+use Rattle.table_rows.proofs.text.+put_count.Given as goal
+
+abbrev pub decreases-put_count : goal.decreases-put_count
+decreases-put_count l = l.count

@@ -1,0 +1,136 @@
+//! Answers what is found of a program along a log, for comparison with rows that were worked out by hand. Standard input
+//! has a preprocessed source, a byte 0, and a log.
+//!
+//! - `ends`: the table of ends (`ends`). `count`: how many keys it has, and how many ends.
+//! - `facts`, `lines`: the facts along the log, without and with those of each line, and the watched variables
+//!   (`facts`).
+//! - `sites`: the log calls (`sites`).
+//! - `walks`: how many bodies are walked. `nodes`: behind that, how many nodes the formula of the runs has (`walks`).
+//!
+//! A second word says how many turns a loop may take, a third how many levels of calls there may be.
+#![tactic(auto)]
+
+mod ends;
+mod facts;
+mod input;
+mod sites;
+mod text;
+mod walks;
+
+use acceptance::Accepted;
+use anyhow::{Result, anyhow};
+use bit_words::{Bounds, Bytes};
+use ends::{put_sums, put_table};
+use facts::put_facts;
+use input::{bounds_of, log_of, program_of, split};
+use log_expr::end_table;
+use program_facts::facts_of;
+use sites::put_sites;
+use std::alloc::Global;
+use std::env;
+use std::io::{self, Read, Write};
+use walks::put_walks;
+
+/// Puts the table of ends at the end, or its sums.
+fn answer_ends(
+    alloc: Global,
+    program: &Accepted,
+    log: &[u8],
+    bounds: &Bounds,
+    is_whole: bool,
+    text: &mut Bytes,
+) -> Result<()> {
+    let table = end_table(alloc, &program.core, log, bounds)?;
+    if is_whole {
+        put_table(program.core.functions.as_slice(), &table, text)?;
+    } else {
+        put_sums(&table, text)?;
+    }
+    Ok(())
+}
+
+/// Puts the facts at the end.
+fn answer_facts(
+    alloc: Global,
+    program: &Accepted,
+    log: &[u8],
+    by_line: bool,
+    text: &mut Bytes,
+) -> Result<()> {
+    let log = log_of(alloc, log)?;
+    let facts = facts_of(alloc, &program.core, &log, by_line)?;
+    put_facts(&facts, text)?;
+    Ok(())
+}
+
+/// Puts what the walk takes at the end.
+fn answer_walks(
+    alloc: Global,
+    program: &Accepted,
+    log: &[u8],
+    bounds: &Bounds,
+    has_nodes: bool,
+    text: &mut Bytes,
+) -> Result<()> {
+    let log = log_of(alloc, log)?;
+    put_walks(alloc, &program.core, &log, bounds, has_nodes, text)?;
+    Ok(())
+}
+
+/// Puts the log calls at the end.
+fn answer_sites(alloc: Global, program: &Accepted, text: &mut Bytes) -> Result<()> {
+    let found = log_sites::sites(alloc, &program.core)?;
+    put_sites(found.as_slice(), text)?;
+    Ok(())
+}
+
+/// What is found of a program.
+fn found(
+    alloc: Global,
+    word: &str,
+    program: &Accepted,
+    log: &[u8],
+    bounds: &Bounds,
+) -> Result<Bytes> {
+    let mut text = Bytes::new(alloc);
+    match word {
+        "ends" => answer_ends(alloc, program, log, bounds, true, &mut text)?,
+        "count" => answer_ends(alloc, program, log, bounds, false, &mut text)?,
+        "facts" => answer_facts(alloc, program, log, false, &mut text)?,
+        "lines" => answer_facts(alloc, program, log, true, &mut text)?,
+        "sites" => answer_sites(alloc, program, &mut text)?,
+        "walks" => answer_walks(alloc, program, log, bounds, false, &mut text)?,
+        "nodes" => answer_walks(alloc, program, log, bounds, true, &mut text)?,
+        _ => return Err(anyhow!("no such word")),
+    }
+    Ok(text)
+}
+
+/// The answer to a source and a log.
+fn answer(alloc: Global, word: &str, bounds: &Bounds, input: &[u8]) -> Result<Bytes> {
+    let (source, log) = split(input)?;
+    match program_of(alloc, source) {
+        Ok(program) => found(alloc, word, &program, log, bounds),
+        Err(fault) => Err(fault),
+    }
+}
+
+/// Answers the source and the log in standard input.
+fn run(rt: &HostRuntime, word: &str, turns: &str, depth: &str) -> Result<()> {
+    let bounds = bounds_of(turns.parse::<u32>()?, depth.parse::<u32>()?)?;
+    let mut input = Vec::new(rt.alloc());
+    rt.reader().read_to_end(&mut input)?;
+    let text = answer(rt.alloc(), word, &bounds, input.as_slice())?;
+    io::writer(rt).write_all(text.as_slice())?;
+    Ok(())
+}
+
+fn main(rt: HostRuntime) -> Result<()> {
+    let mut words = env::args(&rt)?.skip(1);
+    let word = words.next().ok_or(anyhow!("no word"))?;
+    match (words.next(), words.next()) {
+        (Some(turns), Some(depth)) => run(&rt, &word, &turns, &depth),
+        (Some(turns), None) => run(&rt, &word, &turns, "8"),
+        _ => run(&rt, &word, "8", "8"),
+    }
+}

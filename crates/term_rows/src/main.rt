@@ -1,0 +1,68 @@
+//! Answers rows of terms in standard input, for comparison with values that a script works out by itself.
+//!
+//! Each line is a row: statements with `;` between them, each of which makes a node over those of the statements before
+//! it, named by their numbers from 0, or says what one is to be (`terms`). The last node is the root.
+//!
+//! - `values`: what the root is worth in a model of its clauses, whether it is worth that in each, and the world that
+//!   the model stands for (`asking`).
+//! - `sizes`: how many clauses the root takes, and how many literals they have.
+//! - `chain COUNT`: no rows; the same of a chain of so many connectives over the world.
+#![tactic(auto)]
+
+mod asking;
+mod blasting;
+mod chains;
+mod names;
+mod solving;
+mod terms;
+
+use anyhow::{Result, anyhow};
+use asking::{answer, size};
+use chains::answer_chain;
+use std::env;
+
+/// Answers each line of standard input by what the root is worth.
+fn answer_values(rt: &(impl Input + Print + AllocGlobal)) -> Result<()> {
+    for line in rt.lines(rt.alloc()) {
+        let line = line?;
+        let text = answer(rt.alloc(), line.as_str())?;
+        print!(rt; "{text}")?;
+    }
+    Ok(())
+}
+
+/// Answers each line of standard input by how many clauses the root takes.
+fn answer_sizes(rt: &(impl Input + Print + AllocGlobal)) -> Result<()> {
+    for line in rt.lines(rt.alloc()) {
+        let line = line?;
+        let text = size(rt.alloc(), line.as_str())?;
+        print!(rt; "{text}")?;
+    }
+    Ok(())
+}
+
+/// Answers a chain.
+fn print_chain(rt: &(impl Print + AllocGlobal), count: &str) -> Result<()> {
+    let text = answer_chain(rt.alloc(), count.parse::<u32>()?)?;
+    print!(rt; "{text}")?;
+    Ok(())
+}
+
+/// Does what the words ask for.
+fn run(rt: &HostRuntime, word: &str, second: &str) -> Result<()> {
+    match word {
+        "values" => answer_values(rt),
+        "sizes" => answer_sizes(rt),
+        "chain" => print_chain(rt, second),
+        _ => Err(anyhow!("no such rows")),
+    }
+}
+
+fn main(rt: HostRuntime) -> Result<()> {
+    let mut words = env::args(&rt)?.skip(1);
+    let first = words.next().ok_or(anyhow!("no word"))?;
+    match words.next() {
+        Some(second) => run(&rt, &first, &second),
+        None => run(&rt, &first, ""),
+    }
+}
