@@ -11,7 +11,7 @@ use bit_words::Width;
 use c_store::ObjectKind;
 use std::alloc::Global;
 use std::test::Fail;
-use term_bank::{Bank, BankFault, Connective, Node, Shape};
+use term_bank::{Bank, BankFault, Connective, Node, Shape, WordOperator};
 
 const A: Width = Width::W64;
 
@@ -46,12 +46,12 @@ fn call(
     }
 }
 
-/// The shape that a call answers, where the address is the fourth byte of object 5 and the length is 4.
+/// The shape that a call answers, where the address and the length are parameters.
 fn called(alloc: Global, number: u32) -> Result<Option<Shape>, BankFault> {
     let mut bank = Bank::new(alloc);
     let memory = initial(&mut bank)?;
-    let address = bank.word(0x5_0000_0003, A)?;
-    let length = bank.word(4, A)?;
+    let address = bank.parameter_word(0, A)?;
+    let length = bank.parameter_word(1, A)?;
     let node = call(&mut bank, memory, address, length, number)?;
     Ok(bank.shape(node.index))
 }
@@ -131,8 +131,24 @@ static ROWS: [(u32, Shape); 15] = [
             object: 1,
         },
     ),
-    (9, Shape::Constant { bits: 5, width: A }),
-    (10, Shape::Constant { bits: 3, width: A }),
+    (
+        9,
+        Shape::Binary {
+            operator: WordOperator::Lshr,
+            width: A,
+            left: 1,
+            right: 3,
+        },
+    ),
+    (
+        10,
+        Shape::Binary {
+            operator: WordOperator::And,
+            width: A,
+            left: 1,
+            right: 3,
+        },
+    ),
     (
         11,
         Shape::Connect {
@@ -154,7 +170,7 @@ static ROWS: [(u32, Shape); 15] = [
         Shape::Connect {
             connective: Connective::Or,
             left: 4,
-            right: 10,
+            right: 11,
         },
     ),
     (
@@ -162,7 +178,7 @@ static ROWS: [(u32, Shape); 15] = [
         Shape::Connect {
             connective: Connective::And,
             left: 6,
-            right: 9,
+            right: 10,
         },
     ),
 ];

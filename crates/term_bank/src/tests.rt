@@ -79,7 +79,10 @@ fn call(
         2 => bank.test(WordTest::SignedBelow, W, word, word),
         3 => bank.convert(Extension::Sign, W, A, word),
         4 => bank.not(truth),
-        5 => bank.connect(Connective::Or, truth, truth),
+        5 => {
+            let other = bank.not(truth)?;
+            bank.connect(Connective::Or, truth, other)
+        }
         6 => bank.choose(Sort::Word(W), truth, word, word),
         _ => bank.binary(WordOperator::Udiv, W, word, word),
     }
@@ -122,7 +125,7 @@ static ROWS: [(u32, Shape); 8] = [
         Shape::Connect {
             connective: Connective::Or,
             left: 2,
-            right: 2,
+            right: 3,
         },
     ),
     (
