@@ -87,7 +87,7 @@ fn put_watched(watched: &[Watched], text: &mut Bytes) -> Result<(), AllocError> 
 
 /// Puts facts at the end, and `watched FACT OBJECT` for each variable that a print fact, by its number, shows.
 pub fn put_facts(facts: &Facts, text: &mut Bytes) -> Result<(), AllocError> {
-    for fact in &facts.facts {
+    for fact in facts.facts.as_slice() {
         put_fact(fact, text)?;
         put(text, "\n")?;
     }
