@@ -1,13 +1,13 @@
 -- Assumptions, rooms and the assignment that a search ends in.
-use Rattle.std.proofs.Common.{◌≡◌, ◌<◌, ◌≤◌, ◌⊎◌, ◌+◌, ◌*◌, ◌++◌, ◌∷◌, [], ℕ, zero, suc, List, Option, Some, None, Bool, true, false, not, cond, ◌&&◌, refl, sym, ap, ◌∙◌, inl, inr, subst, arith, length, vec_len, get_or, take, take_all, map}
-use Rattle.std.specs.List.{slice_get, flat_map, list_any, list_all}
+use Rattle.std.proofs.Common.{◌≡◌, ◌<◌, ◌≤◌, ◌+◌, ◌*◌, ◌++◌, ◌∷◌, [], ℕ, zero, suc, List, Some, Bool, true, false, refl, sym, ap, ◌∙◌, inl, inr, subst, arith, length, vec_len, get_or, take, take_all}
+use Rattle.std.specs.List.{slice_get, flat_map, list_any}
 use Rattle.std.specs.Option.{option_map}
-use Rattle.std.proofs.lemmas.Bool.{cases_eq, cases_Bool, both_ways, false_from_ne_true, and_from, or_left, or_right}
+use Rattle.std.proofs.lemmas.Bool.{cases_eq, both_ways, false_from_ne_true, and_from, or_left, or_right}
 use Rattle.std.proofs.lemmas.List.{take_more}
 use Rattle.std.proofs.lemmas.List.Folds.{list_all-append}
 use Rattle.std.proofs.lemmas.Option.{slice_get_within, slice_get-get_or}
 use Rattle.proof_check.proofs.ClauseLemmas.{slice_get-left, slice_get-right}
-use Rattle.cnf_core.specs.Literal.{Literal, negated, code_of}
+use Rattle.cnf_core.specs.Literal.{Literal, negated}
 use Rattle.cnf_core.specs.Truth.{Valuation, value_of, literal_holds, clause_holds, formula_holds}
 use Rattle.cdcl.specs.declared.clauses.ClauseId.{ClauseId}
 use Rattle.cdcl.specs.declared.clauses.ClauseId.TheVariants.{Assumed}
@@ -18,7 +18,7 @@ use Rattle.cdcl.specs.Sources.{named}
 use Rattle.cdcl.specs.Known.{known, Member, HasTrue}
 use Rattle.cdcl.specs.Fits.{Fits, AllFit}
 use Rattle.cdcl.specs.Tidy.{units}
-use Rattle.cdcl.specs.Trails.{literal_at, PlacedBelow, Falsifies, IsConflict, Implies, ArePlaced, AreDistinct, HasRoom, HaveLevels, IsTrailOf}
+use Rattle.cdcl.specs.Trails.{literal_at, PlacedBelow, IsConflict, Implies, ArePlaced, AreDistinct, HasRoom, HaveLevels}
 use Rattle.cdcl.specs.Searches.{AreHeld}
 use Rattle.cdcl.proofs.Readings.{slice-cases, slice-last}
 

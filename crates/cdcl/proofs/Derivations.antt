@@ -1,10 +1,10 @@
 -- What conflict analysis keeps: wherever the marked literals are taken as true, propagation along the hints ends in a false clause.
-use Rattle.std.proofs.Common.{◌≡◌, ◌<◌, ◌⊎◌, ◌++◌, ◌∷◌, [], ℕ, ◌+◌, zero, suc, List, Some, None, Bool, true, false, cond, ◌||◌, refl, sym, ap, ◌∙◌, inl, inr, subst, arith, length, map, get_or, take, reverse, ◌≤◌, Contains, eqb}
-use Rattle.std.specs.List.{slice_get, All}
+use Rattle.std.proofs.Common.{◌≡◌, ◌<◌, ◌⊎◌, ◌++◌, ◌∷◌, [], ℕ, ◌+◌, zero, suc, List, Some, Bool, true, false, ◌||◌, refl, sym, ap, ◌∙◌, inl, inr, subst, arith, length, get_or, reverse, Contains, eqb}
+use Rattle.std.specs.List.{slice_get}
 use Rattle.std.specs.Option.{option_map}
 use Rattle.std.proofs.lemmas.Option.{slice_get-get_or}
 use Rattle.std.proofs.lemmas.List.{reverse-append}
-use Rattle.std.proofs.lemmas.Bool.{or_cases, or_left, or_right, false_from_ne_true, both_ways, cases_eq, cases_Bool, eqb-true, eq-eqb}
+use Rattle.std.proofs.lemmas.Bool.{or_cases, or_left, or_right, false_from_ne_true, both_ways, cases_eq, eq-eqb}
 use Rattle.cnf_core.specs.Literal.{Literal, negated, same}
 use Rattle.cnf_core.specs.Equality.{same-self, same-true}
 use Rattle.proof_check.specs.declared.propagation.Reading.TheVariants.{Falsified, Implied}
@@ -17,8 +17,8 @@ use Rattle.cdcl.specs.Sources.{Lookup, named, IsCiteable}
 use Rattle.cdcl.specs.Known.{Member}
 use Rattle.cdcl.specs.Fits.{Fits}
 use Rattle.cdcl.specs.Tidy.{AreApart}
-use Rattle.cdcl.specs.Trails.{seen_at, names, if_named, follows, literal_at, PlacedBelow, Implies, AreDistinct, HaveReasons, HasRoom, IsConflict, Falsifies}
-use Rattle.cdcl.specs.Derives.{Derives, PlacedFrom, NamesWithin, MarksWithin, WorkWithin}
+use Rattle.cdcl.specs.Trails.{seen_at, names, follows, literal_at, PlacedBelow, Implies, AreDistinct, HaveReasons, HasRoom, IsConflict, Falsifies}
+use Rattle.cdcl.specs.Derives.{Derives, PlacedFrom, NamesWithin, WorkWithin}
 use Rattle.cdcl.proofs.Members.{names-member, member-named, negated-negated, reading-falsified, reading-implied, within-member}
 use Rattle.cdcl.proofs.Naming.{named-lower, named-any}
 use Rattle.cdcl.proofs.Readings.{member-cases, slice-left, slice-last}

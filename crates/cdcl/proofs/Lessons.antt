@@ -1,5 +1,5 @@
 -- Clauses learnt, one more at a time, and the refutation that they end in.
-use Rattle.std.proofs.Common.{◌≡◌, ◌<◌, ◌≤◌, ◌+◌, ◌++◌, ◌∷◌, [], ℕ, zero, suc, List, Option, Some, None, Bool, true, false, map, length, refl, sym, ap, ◌∙◌, arith, subst, length-append, append-nil, get_or, Contains}
+use Rattle.std.proofs.Common.{◌≡◌, ◌<◌, ◌+◌, ◌++◌, ◌∷◌, [], ℕ, zero, suc, List, Option, Some, None, true, map, length, refl, sym, ap, ◌∙◌, arith, subst, length-append, append-nil, append_assoc, get_or, ◌-◌, inl, inr, ◌⊎◌, Contains}
 use Rattle.std.specs.List.{slice_get, All, flat_map}
 use Rattle.std.specs.Option.{option_map}
 use Rattle.std.proofs.lemmas.Option.{slice_get_within, get_or_from_slice_get}
@@ -9,20 +9,24 @@ use Rattle.std.proofs.lemmas.Grind.{flat_map-append}
 use Rattle.cnf_core.specs.Literal.{Literal}
 use Rattle.proof_check.specs.Steps.{Step, clause_of}
 use Rattle.proof_check.specs.Propagation.{negations}
-use Rattle.proof_check.specs.Room.{Within, AllWithin, Covers, variables_of}
-use Rattle.proof_check.specs.Refutations.{AreValid, IsRefutation, is_empty, ends_empty}
+use Rattle.proof_check.specs.Room.{Within, AllWithin, variables_of}
+use Rattle.proof_check.specs.Refutations.{AreValid, IsRefutation}
 use Rattle.proof_check.proofs.RoomLemmas.{covers-all}
 use Rattle.proof_check.proofs.StepLemmas.{member-within}
 use Rattle.cdcl.specs.declared.clauses.ClauseId.{ClauseId}
 use Rattle.cdcl.specs.declared.clauses.ClauseId.TheVariants.{Given, Assumed, Learnt}
 use Rattle.cdcl.specs.declared.clauses.Clauses.{Clauses}
-use Rattle.cdcl.specs.declared.assigned.Entry.{Entry}
 use Rattle.cdcl.specs.declared.assigned.Assigned.{Assigned}
 use Rattle.cdcl.specs.Sources.{named, numbered, shifted_step}
-use Rattle.cdcl.specs.Trails.{follows, HaveReasons, IsTrailOf}
+use Rattle.cdcl.specs.Trails.{follows, IsTrailOf}
 use Rattle.cdcl.specs.Derives.{NamesWithin}
+use Rattle.cdcl.specs.Fits.{Fits, AllFit}
 use Rattle.cdcl.specs.Tidy.{AreApart, IsTidy, AreTidy, units}
-use Rattle.cdcl.specs.Searches.{AreLearnt}
+use Rattle.cdcl.specs.Searches.{AreLearnt, IsWithin, ContainsNone, AreFresh, OneMore}
+use Rattle.proof_check.proofs.ClauseLemmas.{slice_get-left, slice_get-right}
+use Rattle.std.proofs.lemmas.Option.{slice_get-map}
+use Rattle.cdcl.proofs.Readings.{slice-cases, slice-last}
+use Rattle.cdcl.proofs.Searching.{le-cases}
 use Rattle.cdcl.proofs.Numbering.{follows-numbered, numbered-at, numbered-behind, valid-push, ends-push, shifted-valid, shifted-clauses}
 
 All-one : {X : Type 0} (P : X → Type 0) (x : X) → P x → All P (x ∷ [])
@@ -32,10 +36,26 @@ All-one P x p (suc k) d h = absurd (omega arith)
 All-none : {X : Type 0} (P : X → Type 0) → All P []
 All-none P k d h = absurd (omega arith)
 
-pub learnt-push : (clauses : Clauses) (clause : List Literal) (ids : List ClauseId) (step : Step) (next : List Step) → AreLearnt clauses → length clauses.given + length clauses.assumed + length clauses.learnt + 1 < 4294967296 → step.clause ≡ clause → step.hints ≡ map (numbered (length clauses.given) 0) ids → follows (named 1 clauses) (negations clause) ids ≡ true → AreApart clause → Within (variables_of clauses.given) clause → next ≡ clauses.learnt ++ step ∷ [] → AreLearnt (record { given = clauses.given; assumed = clauses.assumed; learnt = next })
-learnt-push clauses clause ids step next l room c h f a w n =
+-- a step that no earlier clause is within
+fresh-push : (clauses : List (List Literal)) (steps : List Step) (step : Step) → AreFresh clauses steps → ((i : ℕ) (c : List Literal) → slice_get (clauses ++ map clause_of steps) i ≡ Some c → IsWithin c step.clause → ⊥) → AreFresh clauses (steps ++ step ∷ [])
+fresh-push clauses [] step f none = ((λ i c at. none i c (ap (λ t. slice_get t i) (append-nil clauses) ∙ at)), tt)
+fresh-push clauses (s ∷ steps) step (now, f) none = (now, fresh-push (clauses ++ s.clause ∷ []) steps step f (λ i c at. none i c (ap (λ t. slice_get t i) (sym (append_assoc clauses (s.clause ∷ []) (map clause_of steps))) ∙ at)))
+
+-- the clauses in order are those that have a name
+fresh-of : (clauses : Clauses) (clause : List Literal) → ContainsNone clauses clause → (i : ℕ) (c : List Literal) → slice_get (clauses.given ++ map clause_of clauses.learnt) i ≡ Some c → IsWithin c clause → ⊥
+fresh-of clauses clause none i c at within = elim (le-cases (length clauses.given) i) [
+  | inr below ↦ none (Given i) c (sym (slice_get-left clauses.given (map clause_of clauses.learnt) i below) ∙ at) within
+  | inl above ↦
+      let k = i - length clauses.given in
+      let e : i ≡ length clauses.given + k = omega arith in
+      none (Learnt k) c (sym (slice_get-map clause_of clauses.learnt k) ∙ sym (slice_get-right clauses.given (map clause_of clauses.learnt) i k e) ∙ at) within
+]
+
+pub learnt-push : (clauses : Clauses) (clause : List Literal) (ids : List ClauseId) (step : Step) (next : List Step) → AreLearnt clauses → length clauses.given + length clauses.assumed + length clauses.learnt + 1 < 4294967296 → step.clause ≡ clause → step.hints ≡ map (numbered (length clauses.given) 0) ids → follows (named 1 clauses) (negations clause) ids ≡ true → AreApart clause → Within (variables_of clauses.given) clause → ContainsNone clauses clause → next ≡ clauses.learnt ++ step ∷ [] → AreLearnt (record { given = clauses.given; assumed = clauses.assumed; learnt = next })
+learnt-push clauses clause ids step next l room c h f a w new n =
     let valid = follows-numbered (named 1 clauses) (clauses.given ++ map clause_of clauses.learnt) (numbered (length clauses.given) 0) (numbered-at clauses l.few) (negations clause) ids f in
     record {
+      fresh = rw n (fresh-push clauses.given clauses.learnt step l.fresh (λ i t at within. fresh-of clauses clause new i t at (let P : List Literal → Type 0 = λ k. IsWithin t k in subst P c within)));
       valid = rw n (valid-push clauses.given clauses.learnt step l.valid (rw (c, h) valid));
       tidy = rw n (All-append (λ s. IsTidy clauses.given s.clause) clauses.learnt (step ∷ []) l.tidy (All-one (λ s. IsTidy clauses.given s.clause) step (rw c (record { apart = a; occurs = w }))));
       few = rw n (omega (arith, room, length-append clauses.learnt (step ∷ [])));
@@ -132,4 +152,33 @@ refuted-tidy clauses r f =
     (All-one (λ s. IsTidy formula s.clause) f.final last))
 
 pub learnt-none : (given : List (List Literal)) (assumed : List Literal) (learnt : List Step) → learnt ≡ [] → length given + length assumed < 4294967296 → AreLearnt (record { given = given; assumed = assumed; learnt = learnt })
-learnt-none given assumed learnt e h = rw e (record { valid = tt; tidy = All-none (λ s. IsTidy given s.clause); few = omega arith })
+learnt-none given assumed learnt e h = rw e (record { fresh = tt; valid = tt; tidy = All-none (λ s. IsTidy given s.clause); few = omega arith })
+
+pub one-more : (clauses : Clauses) (step : Step) (clause : List Literal) (next : List Step) → step.clause ≡ clause → next ≡ clauses.learnt ++ step ∷ [] → OneMore clauses (record { given = clauses.given; assumed = clauses.assumed; learnt = next }) clause
+one-more clauses step clause next c n = rw n (record {
+  last = ap (λ o. option_map clause_of o) (slice-last clauses.learnt step) ∙ ap (λ t. Some t) c;
+  others = others;
+})
+  where
+    others : (id : ClauseId) (t : List Literal) → named 1 (record { given = clauses.given; assumed = clauses.assumed; learnt = clauses.learnt ++ step ∷ [] }) id ≡ Some t → (named 1 clauses id ≡ Some t) ⊎ ((id ≡ Learnt (length clauses.learnt)) × (t ≡ clause))
+    others (Given i) t is = inl is
+    others (Assumed i) t is = inl is
+    others (Learnt i) t is = found (slice_get (clauses.learnt ++ step ∷ []) i) refl
+      where
+        found : (o : Option Step) → slice_get (clauses.learnt ++ step ∷ []) i ≡ o → (named 1 clauses (Learnt i) ≡ Some t) ⊎ ((Learnt i ≡ Learnt (length clauses.learnt)) × (t ≡ clause))
+        found None none = let z : option_map clause_of (slice_get (clauses.learnt ++ step ∷ []) i) ≡ None = ap (λ o. option_map clause_of o) none in absurd (cc)
+        found (Some s) at =
+            let z : option_map clause_of (slice_get (clauses.learnt ++ step ∷ []) i) ≡ Some s.clause = ap (λ o. option_map clause_of o) at in
+            let one : s.clause ≡ t = cc in
+            elim (slice-cases clauses.learnt step s i at) [
+              | inl f ↦ inl (ap (λ o. option_map clause_of o) f ∙ ap (λ k. Some k) one)
+              | inr f ↦ inr (ap (λ k. Learnt k) f.0, sym one ∙ ap (λ k. k.clause) f.1 ∙ c)
+            ]
+
+pub one-fits : (room : ℕ) (old new : Clauses) (clause : List Literal) → OneMore old new clause → AllFit room (map clause_of old.learnt) → Fits room clause → AllFit room (map clause_of new.learnt)
+one-fits room old new clause more all now i c at =
+    let is : named 1 new (Learnt i) ≡ Some c = sym (slice_get-map clause_of new.learnt i) ∙ at in
+    elim (more.others (Learnt i) c is) [
+      | inl was ↦ all i c (slice_get-map clause_of old.learnt i ∙ was)
+      | inr last ↦ let P : List Literal → Type 0 = λ t. Fits room t in subst P (sym last.1) now
+    ]

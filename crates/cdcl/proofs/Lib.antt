@@ -4,7 +4,14 @@ pub mod Naming
 pub mod Derivations
 pub mod Readings
 pub mod Placements
+pub mod Entries
+pub mod Lists
 pub mod Searching
+pub mod Guarding
+pub mod Visiting
+pub mod Jumping
+pub mod Asserting
+pub mod Turning
 pub mod Numbering
 pub mod Lessons
 pub mod Assuming

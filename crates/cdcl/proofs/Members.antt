@@ -7,7 +7,7 @@ use Rattle.cnf_core.specs.Literal.{negated, same}
 use Rattle.proof_check.specs.declared.propagation.Reading.TheVariants.{Falsified, Implied}
 use Rattle.proof_check.specs.Propagation.{Known, isnt_false, reading_of, reading}
 use Rattle.cnf_core.specs.Equality.{same-self, same-true}
-use Rattle.std.specs.Prelude.{Contains, slice_get}
+use Rattle.std.specs.Prelude.{Contains}
 use Rattle.std.proofs.lemmas.Option.{get_or_from_slice_get, slice_get_within}
 use Rattle.proof_check.specs.Room.{Within}
 use Rattle.cdcl.specs.Known.{Member}

@@ -1,6 +1,5 @@
 -- The clause that a name stands for, as levels fall and learnt clauses come.
-use Rattle.std.proofs.Common.{◌≡◌, ◌≤◌, ◌<◌, ◌++◌, ◌∷◌, [], ℕ, zero, suc, List, Some, None, IsSome, get_or, length, ap, ◌∙◌, arith, refl}
-use Rattle.std.specs.List.{slice_get}
+use Rattle.std.proofs.Common.{◌≡◌, ◌≤◌, ◌<◌, [], ℕ, zero, suc, List, Some, IsSome, get_or, length, ap, arith, refl}
 use Rattle.std.specs.Option.{option_map}
 use Rattle.std.proofs.lemmas.Option.{slice_get-get_or}
 use Rattle.cnf_core.specs.Literal.{Literal}
@@ -8,7 +7,7 @@ use Rattle.proof_check.specs.Steps.{Step, clause_of}
 use Rattle.cdcl.specs.declared.clauses.ClauseId.{ClauseId}
 use Rattle.cdcl.specs.declared.clauses.ClauseId.TheVariants.{Given, Assumed, Learnt}
 use Rattle.cdcl.specs.declared.clauses.Clauses.{Clauses}
-use Rattle.cdcl.specs.Sources.{Lookup, assumed_at, named}
+use Rattle.cdcl.specs.Sources.{assumed_at, named}
 
 assumed-lower : (level from : ℕ) (assumed : List Literal) (i : ℕ) (c : List Literal) → from ≤ level → assumed_at level assumed i ≡ Some c → assumed_at from assumed i ≡ Some c
 assumed-lower zero zero assumed i c h e = e

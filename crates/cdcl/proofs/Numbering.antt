@@ -1,6 +1,6 @@
 -- Named clauses as numbered ones, and steps over more clauses.
-use Rattle.std.proofs.Common.{◌≡◌, ◌<◌, ◌≤◌, ◌⊎◌, ◌+◌, ◌++◌, ◌∷◌, [], ℕ, ◌-◌, zero, suc, List, Option, Some, None, Bool, true, false, cond, min, map, length, refl, sym, ap, ◌∙◌, arith, subst, inl, inr, length-append, append_assoc, append-nil, take, get_or}
-use Rattle.std.specs.List.{slice_get, All}
+use Rattle.std.proofs.Common.{◌≡◌, ◌<◌, ◌≤◌, ◌+◌, ◌++◌, ◌∷◌, [], ℕ, ◌-◌, zero, suc, List, Some, None, true, false, min, map, length, refl, sym, ap, ◌∙◌, arith, inl, inr, length-append, append_assoc, append-nil, take, get_or}
+use Rattle.std.specs.List.{slice_get}
 use Rattle.std.specs.Option.{option_map}
 use Rattle.std.specs.Prelude.{nat_le}
 use Rattle.std.proofs.lemmas.Bool.{false≢true, cases_lt, le-leb, leb-true, false_from_ne_true}
@@ -10,16 +10,14 @@ use Rattle.cnf_core.specs.Literal.{Literal}
 use Rattle.cnf_core.specs.Truth.{clause_at}
 use Rattle.proof_check.specs.Steps.{Step, clause_of}
 use Rattle.proof_check.specs.Propagation.{Known, taking, reading, negations, propagated, if_found, after as after_reading}
-use Rattle.proof_check.specs.declared.propagation.Reading.{Reading}
 use Rattle.proof_check.specs.declared.propagation.Reading.TheVariants.{Falsified, Implied, Neither}
-use Rattle.proof_check.specs.declared.propagation.Outcome.{Outcome}
-use Rattle.proof_check.specs.declared.propagation.Outcome.TheVariants.{Conflict, BadHint, NoConflict}
+use Rattle.proof_check.specs.declared.propagation.Outcome.TheVariants.{Conflict}
 use Rattle.proof_check.specs.Refutations.{IsValid, AreValid, is_empty, ends_empty}
 use Rattle.proof_check.proofs.ClauseLemmas.{slice_get-left, slice_get-right}
 use Rattle.cdcl.specs.declared.clauses.ClauseId.{ClauseId}
 use Rattle.cdcl.specs.declared.clauses.ClauseId.TheVariants.{Given, Assumed, Learnt}
 use Rattle.cdcl.specs.declared.clauses.Clauses.{Clauses}
-use Rattle.cdcl.specs.Sources.{Lookup, named, number_of, numbered, shifted, shifted_step}
+use Rattle.cdcl.specs.Sources.{Lookup, named, numbered, shifted, shifted_step}
 use Rattle.cdcl.specs.Tidy.{units}
 use Rattle.cdcl.specs.Trails.{follows, if_named, after}
 

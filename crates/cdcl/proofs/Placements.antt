@@ -1,21 +1,20 @@
 -- Trails that grow and shrink by one entry.
-use Rattle.std.proofs.Common.{◌≡◌, ◌<◌, ◌≤◌, ◌⊎◌, ◌+◌, ◌-◌, ◌*◌, ◌^◌, ◌++◌, ◌∷◌, [], ℕ, zero, suc, List, Option, Some, None, Bool, true, false, not, cond, ◌&&◌, ◌||◌, eqb, refl, sym, ap, ◌∙◌, inl, inr, subst, arith, length, vec_len, get_or}
+use Rattle.std.proofs.Common.{◌≡◌, ◌<◌, ◌≤◌, ◌⊎◌, ◌+◌, ◌-◌, ◌*◌, ◌++◌, ◌∷◌, [], ℕ, zero, suc, List, Option, Some, None, Bool, true, false, not, cond, ◌&&◌, refl, sym, ap, ◌∙◌, inl, inr, subst, arith, length, get_or}
 use Rattle.std.proofs.Math.ListN.{set}
 use Rattle.std.specs.List.{slice_get}
-use Rattle.std.specs.Option.{option_map}
 use Rattle.std.proofs.lemmas.Bool.{or_cases, or_left, or_right, and_parts, both_ways, cases_Bool, cases_eq, not-true, false_from_ne_true}
 use Rattle.std.proofs.lemmas.List.{length_push, get_or-set_same, get_or-set_other}
 use Rattle.std.proofs.lemmas.List.Sums.{sum_by-set}
 use Rattle.std.proofs.lemmas.Option.{slice_get_within, slice_get-get_or}
 use Rattle.cnf_core.specs.Literal.{Literal, negated, same, code_of}
 use Rattle.cnf_core.specs.Equality.{same-self, same-true}
-use Rattle.proof_check.specs.Propagation.{Known, taking}
+use Rattle.proof_check.specs.Propagation.{taking}
 use Rattle.cdcl.specs.declared.clauses.ClauseId.{ClauseId}
 use Rattle.cdcl.specs.declared.clauses.Clauses.{Clauses}
 use Rattle.cdcl.specs.declared.assigned.Entry.{Entry}
 use Rattle.cdcl.specs.Sources.{named}
 use Rattle.cdcl.specs.Known.{known, open_count, IsOpen}
-use Rattle.cdcl.specs.Trails.{literal_at, PlacedBelow, Implies, AreDistinct, HaveReasons, HasRoom, HaveLevels, ArePlaced, KeepsRoot, level_of, top_level}
+use Rattle.cdcl.specs.Trails.{literal_at, PlacedBelow, Implies, AreDistinct, HaveReasons, HasRoom, HaveLevels, ArePlaced, HasDecision, IsCut, level_of, top_level}
 use Rattle.cdcl.proofs.Readings.{slice-cases, slice-left, slice-last}
 
 -- literals and their numbers
@@ -34,7 +33,7 @@ sign false false v w e = (omega arith, refl)
 sign true false v w e = absurd (omega arith)
 sign false true v w e = absurd (omega arith)
 
-code-one : (l k : Literal) → code_of l ≡ code_of k → l ≡ k
+pub code-one : (l k : Literal) → code_of l ≡ code_of k → l ≡ k
 code-one l k e = let s = sign l.positive k.positive l.variable k.variable e in λ i. record { variable = s.0 i; positive = s.1 i }
 
 pub code-within : (l : Literal) (room size : ℕ) → l.variable < room → size ≡ 2 * room → code_of l < size
@@ -84,22 +83,22 @@ open-fewer taken l h f =
     let g = ap f' f in
     omega (arith, e, g)
 
-literal-cases : (entries : List Entry) (e : Entry) (i : ℕ) (l : Literal) → literal_at (entries ++ e ∷ []) i ≡ Some l → (literal_at entries i ≡ Some l) ⊎ ((i ≡ length entries) × (l ≡ e.literal))
+pub literal-cases : (entries : List Entry) (e : Entry) (i : ℕ) (l : Literal) → literal_at (entries ++ e ∷ []) i ≡ Some l → (literal_at entries i ≡ Some l) ⊎ ((i ≡ length entries) × (l ≡ e.literal))
 literal-cases [] e zero l is = let s : e.literal ≡ l = cc in inr (refl, sym s)
 literal-cases [] e (suc i) l is = absurd (cc)
 literal-cases (y ∷ ys) e zero l is = inl is
 literal-cases (y ∷ ys) e (suc i) l is = elim (literal-cases ys e i l is) [ inl h ↦ inl h | inr h ↦ inr (omega (arith, h.0), h.1) ]
 
-literal-left : (entries : List Entry) (e : Entry) (i : ℕ) (l : Literal) → literal_at entries i ≡ Some l → literal_at (entries ++ e ∷ []) i ≡ Some l
+pub literal-left : (entries : List Entry) (e : Entry) (i : ℕ) (l : Literal) → literal_at entries i ≡ Some l → literal_at (entries ++ e ∷ []) i ≡ Some l
 literal-left [] e i l is = absurd (cc)
 literal-left (x ∷ xs) e zero l is = is
 literal-left (x ∷ xs) e (suc i) l is = literal-left xs e i l is
 
-literal-last : (entries : List Entry) (e : Entry) → literal_at (entries ++ e ∷ []) (length entries) ≡ Some e.literal
+pub literal-last : (entries : List Entry) (e : Entry) → literal_at (entries ++ e ∷ []) (length entries) ≡ Some e.literal
 literal-last [] e = refl
 literal-last (x ∷ xs) e = literal-last xs e
 
-literal-inside : (xs : List Entry) (i : ℕ) (l : Literal) → literal_at xs i ≡ Some l → i < length xs
+pub literal-inside : (xs : List Entry) (i : ℕ) (l : Literal) → literal_at xs i ≡ Some l → i < length xs
 literal-inside [] i l at = absurd (cc)
 literal-inside (x ∷ xs) zero l at = omega arith
 literal-inside (x ∷ xs) (suc i) l at = let r = literal-inside xs i l at in omega arith
@@ -149,22 +148,51 @@ room-push room entries e r h i l at = elim (literal-cases entries e i l at) [
   | inr g ↦ let P : Literal → Type 0 = λ k. k.variable < room in subst P (sym g.1) h
 ]
 
-pub levels-push : (entries : List Entry) (e : Entry) (level : ℕ) → HaveLevels level entries → e.level ≡ level → (e.reason ≡ None → 1 ≤ level) → HaveLevels level (entries ++ e ∷ [])
-levels-push entries e level h s d = record {
+pub begun-left : (entries : List Entry) (e : Entry) (level : ℕ) → HasDecision level entries → HasDecision level (entries ++ e ∷ [])
+begun-left entries e level d = (d.0, d.1, slice-left entries e d.1 d.0 d.2, d.3, d.4)
+
+-- the level stays, or is one more where the entry is a decision
+pub levels-push : (entries : List Entry) (e : Entry) (level : ℕ) → HaveLevels level entries → level ≤ e.level → (e.reason ≡ None → level < e.level) → (1 ≤ e.level → (e.reason ≡ None) ⊎ HasDecision e.level entries) → HaveLevels e.level (entries ++ e ∷ [])
+levels-push entries e level h more d begun = record {
   rising = λ i j a b at_i at_j le. elim (slice-cases entries e a i at_i) [
     | inl f ↦ elim (slice-cases entries e b j at_j) [
       | inl g ↦ h.rising i j a b f g le
-      | inr g ↦ let w = h.within i a f in let t : b.level ≡ level = ap (λ y. y.level) g.1 ∙ s in omega arith
+      | inr g ↦ let w = h.within i a f in let t : b.level ≡ e.level = ap (λ y. y.level) g.1 in omega arith
     ]
     | inr f ↦ elim (slice-cases entries e b j at_j) [
       | inl g ↦ let inside : j < length entries = slice_get_within entries j b g in let k = f.0 in absurd (omega arith)
       | inr g ↦ let t : b.level ≡ e.level = ap (λ y. y.level) g.1 in let u : a.level ≡ e.level = ap (λ y. y.level) f.1 in omega arith
     ]
   ];
-  within = λ i x at. elim (slice-cases entries e x i at) [ inl f ↦ h.within i x f | inr f ↦ let t : x.level ≡ level = ap (λ y. y.level) f.1 ∙ s in omega arith ];
+  within = λ i x at. elim (slice-cases entries e x i at) [ inl f ↦ let w = h.within i x f in omega arith | inr f ↦ let t : x.level ≡ e.level = ap (λ y. y.level) f.1 in omega arith ];
   decided = λ i x at none. elim (slice-cases entries e x i at) [
     | inl f ↦ h.decided i x f none
-    | inr f ↦ let t : x.level ≡ level = ap (λ y. y.level) f.1 ∙ s in let r = d (sym (ap (λ y. y.reason) f.1) ∙ none) in omega arith
+    | inr f ↦ let t : x.level ≡ e.level = ap (λ y. y.level) f.1 in let r = d (sym (ap (λ y. y.reason) f.1) ∙ none) in omega arith
+  ];
+  first = λ i j a b at_i at_j none less. elim (slice-cases entries e b j at_j) [
+    | inl g ↦
+        let inside : j < length entries = slice_get_within entries j b g in
+        elim (slice-cases entries e a i at_i) [
+          | inl f ↦ h.first i j a b f g none less
+          | inr f ↦ let k = f.0 in absurd (omega arith)
+        ]
+    | inr g ↦
+        let r = d (sym (ap (λ y. y.reason) g.1) ∙ none) in
+        let t : b.level ≡ e.level = ap (λ y. y.level) g.1 in
+        elim (slice-cases entries e a i at_i) [
+          | inl f ↦ let w = h.within i a f in omega arith
+          | inr f ↦ let k = f.0 in let m = g.0 in absurd (omega arith)
+        ]
+  ];
+  begun = λ i x at one. elim (slice-cases entries e x i at) [
+    | inl f ↦ begun-left entries e x.level (h.begun i x f one)
+    | inr f ↦
+        let t : x.level ≡ e.level = ap (λ y. y.level) f.1 in
+        let P : ℕ → Type 0 = λ n. HasDecision n (entries ++ e ∷ []) in
+        subst P (sym t) (elim (begun (omega arith)) [
+          | inl none ↦ (length entries, e, slice-last entries e, none, refl)
+          | inr b ↦ begun-left entries e e.level b
+        ])
   ];
 }
 
@@ -207,6 +235,14 @@ levels-pop entries e level h = record {
   rising = λ i j a b at_i at_j le. h.rising i j a b (slice-left entries e a i at_i) (slice-left entries e b j at_j) le;
   within = λ i x at. h.within i x (slice-left entries e x i at);
   decided = λ i x at none. h.decided i x (slice-left entries e x i at) none;
+  first = λ i j a b at_i at_j none less. h.first i j a b (slice-left entries e a i at_i) (slice-left entries e b j at_j) none less;
+  begun = λ i x at one.
+      let d = h.begun i x (slice-left entries e x i at) one in
+      let inside : i < length entries = slice_get_within entries i x at in
+      elim (slice-cases entries e d.1 d.0 d.2) [
+        | inl f ↦ (d.0, d.1, f, d.3, d.4)
+        | inr f ↦ let k = f.0 in let less = h.first i d.0 x d.1 (slice-left entries e x i at) d.2 d.3 (omega arith) in let same = d.4 in absurd (omega arith)
+      ];
 }
 
 pub placed-pop : (entries : List Entry) (taken next : List Bool) (e : Entry) → AreDistinct (entries ++ e ∷ []) → ArePlaced (entries ++ e ∷ []) taken → ((k : Literal) → known next k ≡ (known taken k && not (same e.literal k))) → ArePlaced entries next
@@ -230,21 +266,17 @@ placed-pop entries taken next e d p is = record {
       ];
 }
 
--- level 0
-pub root-push : (entries : List Entry) (e : Entry) → KeepsRoot entries (entries ++ e ∷ [])
-root-push entries e i x at zero_level = slice-left entries e x i at
-
-pub root-pop : (entries : List Entry) (e : Entry) (level : ℕ) → level < e.level → KeepsRoot (entries ++ e ∷ []) entries
-root-pop entries e level h i x at zero_level = elim (slice-cases entries e x i at) [
-  | inl f ↦ f
-  | inr f ↦ let t : x.level ≡ e.level = ap (λ y. y.level) f.1 in absurd (omega arith)
-]
+-- the first entries
+pub cut-whole : (entries : List Entry) (level : ℕ) → ((i : ℕ) (x : Entry) → slice_get entries i ≡ Some x → x.level ≤ level) → IsCut level entries entries
+cut-whole entries level below = record { keeps = λ i e at h. at; first = λ i e at. at; below = below }
 
 pub levels-below : (entries : List Entry) (level top last : ℕ) → HaveLevels top entries → ((i : ℕ) (x : Entry) → slice_get entries i ≡ Some x → x.level ≤ last) → last ≤ level → HaveLevels level entries
 levels-below entries level top last h below le = record {
   rising = h.rising;
   within = λ i x at. let b = below i x at in omega arith;
   decided = h.decided;
+  first = h.first;
+  begun = h.begun;
 }
 
 pub below-top : (entries : List Entry) (level : ℕ) → HaveLevels level entries → (i : ℕ) (x : Entry) → slice_get entries i ≡ Some x → x.level ≤ top_level entries
@@ -263,14 +295,33 @@ top-push entries e =
     let n : length (entries ++ e ∷ []) - 1 ≡ length entries = omega (arith, length_push entries e) in
     ap (λ k. level_of (slice_get (entries ++ e ∷ []) k)) n ∙ ap (λ o. level_of o) (slice-last entries e)
 
-pub root-then : (a b c : List Entry) → KeepsRoot a b → KeepsRoot b c → KeepsRoot a c
-root-then a b c f g i e at zero_level = g i e (f i e at zero_level) zero_level
+-- entries of which some above a level may have gone from the end
+pub record IsCutting (level : ℕ) (old new : List Entry) : Type 0 where
+  pub keeps : (i : ℕ) (e : Entry) → slice_get old i ≡ Some e → e.level ≤ level → slice_get new i ≡ Some e
+  pub first : (i : ℕ) (e : Entry) → slice_get new i ≡ Some e → slice_get old i ≡ Some e
 
-pub root-shorter : (old new : List Entry) (level last : ℕ) → ((old ≡ []) ⊎ ((e : Entry) × (old ≡ new ++ e ∷ []))) → last ≡ top_level old → level < last → KeepsRoot old new
-root-shorter old new level last cut is h = elim cut [
+pub cutting-none : (entries : List Entry) (level : ℕ) → IsCutting level entries entries
+cutting-none entries level = record { keeps = λ i e at h. at; first = λ i e at. at }
+
+pub cutting-shorter : (old now new : List Entry) (level last : ℕ) → IsCutting level old now → ((now ≡ []) ⊎ ((e : Entry) × (now ≡ new ++ e ∷ []))) → last ≡ top_level now → level < last → IsCutting level old new
+cutting-shorter old now new level last c cut is h = elim cut [
   | inl none ↦ let t : last ≡ 0 = rw none at is in absurd (omega arith)
   | inr some ↦
-      let t : last ≡ some.0.level = is ∙ ap top_level some.1 ∙ top-push new some.0 in
-      let P : List Entry → Type 0 = λ o. KeepsRoot o new in
-      subst P (sym some.1) (root-pop new some.0 level (omega arith))
+      let top : last ≡ some.0.level = is ∙ ap top_level some.1 ∙ top-push new some.0 in
+      record {
+        keeps = λ i x at le.
+            let was : slice_get (new ++ some.0 ∷ []) i ≡ Some x = ap (λ t. slice_get t i) (sym some.1) ∙ c.keeps i x at le in
+            elim (slice-cases new some.0 x i was) [
+              | inl f ↦ f
+              | inr f ↦ let t : x.level ≡ some.0.level = ap (λ y. y.level) f.1 in absurd (omega arith)
+            ];
+        first = λ i x at. c.first i x (ap (λ t. slice_get t i) some.1 ∙ slice-left new some.0 x i at);
+      }
 ]
+
+pub cut-jump : (old new : List Entry) (level top last : ℕ) → HaveLevels top new → IsCutting level old new → last ≡ top_level new → last ≤ level → IsCut level old new
+cut-jump old new level top last h c is le = record {
+  keeps = c.keeps;
+  first = c.first;
+  below = λ i x at. let b = below-top new top h i x at in omega (arith, is);
+}

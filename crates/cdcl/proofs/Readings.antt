@@ -1,11 +1,13 @@
 -- What was read of a clause, literal by literal.
-use Rattle.std.proofs.Common.{◌≡◌, ◌<◌, ◌≤◌, ◌⊎◌, ◌+◌, ◌++◌, ◌∷◌, [], ℕ, zero, suc, List, Option, Some, None, Bool, true, false, take, take_all, length, get_or, refl, sym, ap, ◌∙◌, inl, inr, subst, arith}
+use Rattle.std.proofs.Common.{◌≡◌, ◌<◌, ◌≤◌, ◌⊎◌, ◌+◌, ◌++◌, ◌∷◌, [], ℕ, zero, suc, List, Option, Some, None, Bool, true, false, not, take, take_all, length, get_or, refl, sym, ap, ◌∙◌, inl, inr, arith}
 use Rattle.std.specs.List.{slice_get}
-use Rattle.std.proofs.lemmas.Option.{slice_get-get_or, slice_get_within}
+use Rattle.std.proofs.lemmas.Option.{slice_get-get_or}
 use Rattle.std.proofs.lemmas.List.{take_more}
-use Rattle.cnf_core.specs.Literal.{Literal, negated}
+use Rattle.cnf_core.specs.Literal.{Literal, negated, same}
+use Rattle.cnf_core.specs.Equality.{same-self}
+use Rattle.std.proofs.lemmas.Bool.{both_ways, not-true}
 use Rattle.proof_check.specs.Propagation.{Known}
-use Rattle.cdcl.specs.Known.{Member, IsOpen, IsUnit, AllFalse, HasTrue, Reads}
+use Rattle.cdcl.specs.Known.{Member, IsOpen, IsUnit, AllFalse, HasTrue}
 
 -- all literals read so far are false, or all but this one, which has no value
 abbrev pub SoFar : Known → List Literal → Option Literal → Type 0
@@ -92,5 +94,13 @@ member-taken xs i l m = (m.0, go xs i m.0 m.1)
     go (y ∷ ys) (suc n) zero e = e
     go (y ∷ ys) (suc n) (suc k) e = go ys n k e
 
-pub read-undecided : (known : Known) (clause : List Literal) (i : ℕ) (candidate : Option Literal) (p : Literal) → candidate ≡ Some p → SoFar known (take i clause) candidate → Member p clause × IsOpen known p
-read-undecided known clause i candidate p is s = let u : IsUnit known p (take i clause) = rw is at s in (member-taken clause i p u.has, u.is_open)
+pub read-undecided : (known : Known) (clause : List Literal) (i : ℕ) (candidate : Option Literal) (p l n : Literal) (q r u : Bool) → candidate ≡ Some p → SoFar known (take i clause) candidate → i < length clause → l ≡ get_or clause i l → q ≡ false → q ≡ known l → r ≡ false → r ≡ known n → n ≡ negated l → u ≡ not (same p l) → u ≡ true → Member p clause × IsOpen known p × Member l clause × IsOpen known l × (p ≡ l → ⊥)
+read-undecided known clause i candidate p l n q r u is s h at q_f q_is r_f r_is back ne ne_t =
+    let w : IsUnit known p (take i clause) = rw is at s in
+    let o : known (negated l) ≡ false = rw (← back, ← r_is) r_f in (
+      member-taken clause i p w.has,
+      w.is_open,
+      (i, slice_get-get_or clause i l h ∙ ap (λ t. Some t) (sym at)),
+      record { fresh = sym q_is ∙ q_f; opposite = o },
+      λ e. let one : same p l ≡ true = ap (λ t. same p t) (sym e) ∙ same-self p in let off : not (same p l) ≡ true = sym ne ∙ ne_t in both_ways (same p l) (not-true (same p l) off) one,
+    )

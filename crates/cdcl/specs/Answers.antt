@@ -1,12 +1,8 @@
 -- What the answers of a solver mean.
-use Rattle.std.specs.Prelude.{◌≡◌, ◌++◌, ◌≤◌, ℕ, true, Bool, List, [], ◌∷◌, map, length}
-use Rattle.cnf_core.specs.Literal.{Literal}
-use Rattle.cnf_core.specs.Truth.{value_of, formula_holds}
+use Rattle.std.specs.Prelude.{Bool, List}
 use Rattle.proof_check.specs.Steps.{Step}
-use Rattle.proof_check.specs.Refutations.{IsRefutation, IsTrail}
 use Rattle.cdcl.specs.declared.answer.Answer.{Answer}
 use Rattle.cdcl.specs.declared.answer.Answer.TheVariants.{Sat, Unsat, Spent}
-use Rattle.cdcl.specs.Tidy.{AreTidy}
 
 -- an assignment satisfies the clauses and makes the assumptions true
 abbrev pub IfSat : Answer → (List Bool → Type 0) → Type 0

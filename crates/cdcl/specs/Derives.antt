@@ -1,5 +1,5 @@
 -- What conflict analysis keeps.
-use Rattle.std.specs.Prelude.{◌≡◌, ◌<◌, ◌≤◌, ◌⊎◌, ℕ, true, Bool, List, Some, Contains}
+use Rattle.std.specs.Prelude.{◌≡◌, ◌≤◌, ◌⊎◌, ℕ, true, Bool, List, Some, Contains}
 use Rattle.proof_check.specs.Room.{Within}
 use Rattle.cnf_core.specs.Literal.{Literal, negated}
 use Rattle.proof_check.specs.Propagation.{Known}

@@ -36,7 +36,7 @@ abbrev pub HasTrue : Known → List Literal → Type 0
 HasTrue known clause = (l : Literal) × Member l clause × (known l ≡ true)
 
 abbrev pub Reads : Known → List Literal → Reading → Type 0
-Reads known clause (Satisfied p) = HasTrue known clause
+Reads known clause (Satisfied p) = Member p clause × (known p ≡ true)
 Reads known clause Falsified = AllFalse known clause
 Reads known clause (Implied p) = IsUnit known p clause
-Reads known clause (Undecided p q) = Member p clause × IsOpen known p
+Reads known clause (Undecided p q) = Member p clause × IsOpen known p × Member q clause × IsOpen known q × (p ≡ q → ⊥)

@@ -5,4 +5,7 @@ pub mod Tidy
 pub mod Derives
 pub mod Fits
 pub mod Searches
+pub mod Jumps
+pub mod Watches
+pub mod Guards
 pub mod Answers

@@ -1,10 +1,10 @@
 -- Steps without repeated or opposite literals, of a formula's variables alone.
-use Rattle.std.specs.Prelude.{◌≡◌, ℕ, true, false, List, [], ◌∷◌, Contains, map}
+use Rattle.std.specs.Prelude.{◌≡◌, false, List, [], ◌∷◌, map}
 use Rattle.std.specs.List.{All}
 use Rattle.cnf_core.specs.Literal.{Literal}
 use Rattle.proof_check.specs.Steps.{Step}
 use Rattle.proof_check.specs.Room.{Within, variables_of}
-use Rattle.cdcl.specs.Trails.{names, seen_at}
+use Rattle.cdcl.specs.Trails.{names}
 
 -- no two literals have one variable
 abbrev pub AreApart : List Literal → Type 0

@@ -1,5 +1,5 @@
 -- Trails, and clauses that follow by unit propagation along named clauses.
-use Rattle.std.specs.Prelude.{◌≡◌, ◌<◌, ◌≤◌, ◌⊎◌, ◌*◌, ◌-◌, ◌^◌, ℕ, Bool, true, false, eqb, List, [], ◌∷◌, length, Option, Some, None, slice_get, slice_index_or, vec_len}
+use Rattle.std.specs.Prelude.{◌≡◌, ◌<◌, ◌≤◌, ◌⊎◌, ◌*◌, ◌-◌, ◌+◌, ◌^◌, ℕ, Bool, true, false, eqb, List, [], ◌∷◌, length, Option, Some, None, slice_get, slice_index_or, vec_len}
 use Rattle.std.specs.List.{list_any}
 use Rattle.std.specs.Option.{option_map}
 use Rattle.cnf_core.specs.Literal.{Literal, negated}
@@ -71,11 +71,17 @@ level_of (Some e) = e.level
 abbrev pub top_level : List Entry → ℕ
 top_level entries = level_of (slice_get entries (length entries - 1))
 
--- levels never fall, and none is above this one; an entry without a reason stands above level 0
+-- an entry without a reason is of this level
+abbrev pub HasDecision : ℕ → List Entry → Type 0
+HasDecision level entries = (j : ℕ) × (d : Entry) × (slice_get entries j ≡ Some d) × (d.reason ≡ None) × (d.level ≡ level)
+
+-- levels never fall, and none is above this one; an entry without a reason stands above level 0, and is the first of its level, as each level above 0 has one
 pub record HaveLevels (level : ℕ) (entries : List Entry) : Type 0 where
   pub rising : (i j : ℕ) (a b : Entry) → slice_get entries i ≡ Some a → slice_get entries j ≡ Some b → i ≤ j → a.level ≤ b.level
   pub within : (i : ℕ) (e : Entry) → slice_get entries i ≡ Some e → e.level ≤ level
   pub decided : (i : ℕ) (e : Entry) → slice_get entries i ≡ Some e → e.reason ≡ None → 1 ≤ e.level
+  pub first : (i j : ℕ) (a d : Entry) → slice_get entries i ≡ Some a → slice_get entries j ≡ Some d → d.reason ≡ None → i < j → a.level < d.level
+  pub begun : (i : ℕ) (e : Entry) → slice_get entries i ≡ Some e → 1 ≤ e.level → HasDecision e.level entries
 
 -- the literals taken as true are those of the entries
 pub record ArePlaced (entries : List Entry) (taken : List Bool) : Type 0 where
@@ -100,6 +106,31 @@ AllReasoned entries = (i : ℕ) (e : Entry) → slice_get entries i ≡ Some e �
 abbrev pub IsConflict : ℕ → Clauses → List Entry → ClauseId → Type 0
 IsConflict level clauses entries id = (c : List Literal) × (named level clauses id ≡ Some c) × Falsifies entries (length entries) c
 
--- entries at level 0 stay where they are
-abbrev pub KeepsRoot : List Entry → List Entry → Type 0
-KeepsRoot old new = (i : ℕ) (e : Entry) → slice_get old i ≡ Some e → e.level ≡ 0 → slice_get new i ≡ Some e
+-- the first entries, with all of this level or below it, and none above it
+pub record IsCut (level : ℕ) (old new : List Entry) : Type 0 where
+  pub keeps : (i : ℕ) (e : Entry) → slice_get old i ≡ Some e → e.level ≤ level → slice_get new i ≡ Some e
+  pub first : (i : ℕ) (e : Entry) → slice_get new i ≡ Some e → slice_get old i ≡ Some e
+  pub below : (i : ℕ) (e : Entry) → slice_get new i ≡ Some e → e.level ≤ level
+
+-- level 0, or that of an entry
+abbrev pub IsLevel : ℕ → List Entry → Type 0
+IsLevel level entries = (level ≡ 0) ⊎ ((i : ℕ) × (e : Entry) × (slice_get entries i ≡ Some e) × (e.level ≡ level))
+
+-- a literal that is decided, one level up
+pub record IsDecided (t : Assigned) (e : Entry) : Type 0 where
+  pub reason : e.reason ≡ None
+  pub level : e.level ≡ t.level + 1
+
+-- a literal that a clause implies, which a step at this level may cite
+pub record IsImplied (clauses : Clauses) (t : Assigned) (e : Entry) : Type 0 where
+  pub id : ClauseId
+  pub clause : List Literal
+  pub reason : e.reason ≡ Some id
+  pub level : e.level ≡ t.level
+  pub begun : 1 ≤ t.level → HasDecision t.level t.entries.items
+  pub is_named : named e.level clauses id ≡ Some clause
+  pub implies : Implies t.entries.items (length t.entries.items) e.literal clause
+
+-- why a literal may be taken as true
+abbrev pub IsNext : Clauses → Assigned → Entry → Type 0
+IsNext clauses t e = IsDecided t e ⊎ IsImplied clauses t e

@@ -1,4 +1,4 @@
-ghost use Rattle.std.specs.Prelude.{◌≡◌, ◌<◌, ◌≤◌, ◌+◌, ◌||◌, cond, ◌++◌, ◌∷◌, [], ℕ, Some, None, false, true, reverse, length, List, vec_len, IfOk, OnOk, IfSome, Contains};
+ghost use Rattle.std.specs.Prelude.{◌≡◌, ◌<◌, ◌≤◌, ◌+◌, ◌||◌, cond, ◌++◌, ◌∷◌, [], ℕ, Some, None, false, true, reverse, length, eqb, slice_get, List, vec_len, IfOk, OnOk, IfSome, Contains};
 ghost use Rattle.cnf_core.specs.Literal.{Literal, negated};
 ghost use Rattle.proof_check.specs.Propagation.{negations};
 ghost use Rattle.proof_check.specs.Room.{Within};
@@ -6,7 +6,8 @@ ghost use Rattle.cdcl.specs.Sources.{named};
 ghost use Rattle.cdcl.specs.Fits.{Fits};
 ghost use Rattle.cdcl.specs.Derives.{Derives, NamesWithin, WorkWithin};
 ghost use Rattle.cdcl.specs.Tidy.{AreApart};
-ghost use Rattle.cdcl.specs.Trails.{seen_at, names, follows, IsTrailOf, IsConflict, HasRoom, AllReasoned};
+ghost use Rattle.cdcl.specs.Trails.{seen_at, names, follows, IsTrailOf, IsConflict, HasRoom, HaveLevels, AllReasoned};
+ghost use Rattle.cdcl.specs.Jumps.{Weighs, Marked, NoneMarked, IsStage, HasTop, IsJump};
 ghost use Rattle.cdcl.specs.Sources.{IsCiteable};
 
 use crate::assigned::{Assigned, Entry};
@@ -19,33 +20,29 @@ use std::alloc::{AllocError, Global};
 pub struct Lesson {
     pub clause: Vec<Lit>,
     pub hints: Vec<ClauseId>,
+    /// The level of the second literal, or 0.
+    pub level: u32,
 }
 
-/// Marks the clause's variables, and answers how many of this level are newly marked.
-fn mark(seen: &mut Vec<bool>, clause: &[Lit], trail: &Assigned) -> usize
+/// Marks the clause's variables.
+fn mark(seen: &mut Vec<bool>, clause: &[Lit])
     requires { Fits (vec_len seen.old) clause.now }
     ensures room { vec_len seen.new ≡ vec_len seen.old }
     ensures marks { (v : ℕ) → seen_at seen.new.items v ≡ (seen_at seen.old.items v || names v clause.now) }
 {
-    let mut fresh: usize = 0;
     for literal in clause {
-        let variable = literal.variable() as usize;
-        if !seen[variable] && trail.levels.get(variable) == Some(&trail.level) {
-            fresh = fresh.saturating_add(1);
-        }
-        seen[variable] = true;
+        seen[literal.variable() as usize] = true;
     }
-    fresh
 }
 
-/// The marked variables, the lesson's literals and the clauses read so far, the last one first, and how many marked
-/// variables are of the level.
+/// The marked variables, the lesson's literals and the clauses read so far, the last one first, and the level of the
+/// lesson's second literal, or 0.
 #[derive(Drop)]
 struct Work {
     seen: Vec<bool>,
     kept: Vec<Lit>,
     hints: Vec<ClauseId>,
-    open: usize,
+    level: u32,
 }
 
 fn is_marked(seen: &[bool], literal: Lit) -> bool
@@ -58,7 +55,9 @@ fn is_marked(seen: &[bool], literal: Lit) -> bool
 /// The entry's reason, where it is wanted and a step may cite it.
 fn resolvable(clauses: &Clauses, entry: &Entry, from: u32, wanted: bool) -> Option<ClauseId>
     ensures reason { IfSome result (λ id. (entry.now.reason ≡ Some id) × IsCiteable from clauses.now id) }
+    ensures wanted { IfSome result (λ id. wanted ≡ true) }
     ensures nothing { result ≡ None → wanted ≡ true → from ≡ 0 → entry.now.reason ≡ None }
+    ensures uncited { result ≡ None → wanted ≡ true → (id : _) → entry.now.reason ≡ Some id → named 1 clauses.now id ≡ None }
 {
     let reason = entry.reason?;
     if wanted && (from == 0 || clauses.has(reason)) {
@@ -91,16 +90,17 @@ impl Work {
         ensures kept { IfOk result (λ w. w.kept.items ≡ []) }
         ensures occurs { IfOk result (λ w. (vars : List ℕ) → NamesWithin vars (named from clauses.now) → WorkWithin vars w.seen.items w.kept.items) }
         ensures derives { IfOk result (λ w. Derives (named from clauses.now) trail.now.entries.items (length trail.now.entries.items) w.seen.items w.kept.items (reverse w.hints.items)) }
+        ensures stage { IfOk result (λ w. HasTop clauses.now trail.now conflict → IsStage trail.now.entries.items trail.now.level (length trail.now.entries.items) w.seen.items w.kept.items w.level) }
     {
         let mut hints = Vec::new(alloc);
         hints.push(conflict)?;
         let mut seen = unmarked(alloc, trail.levels.len())?;
-        let open = mark(&mut seen, clauses.clause(conflict), trail);
+        mark(&mut seen, clauses.clause(conflict));
         Ok(Work {
             seen,
             kept: Vec::new(alloc),
             hints,
-            open,
+            level: 0,
         })
     }
 
@@ -123,10 +123,42 @@ impl Work {
         true
     }
 
-    /// Whether an entry's mark is to go to the literals of its reason.
-    fn is_wanted(&self, clauses: &Clauses, trail: &Assigned, entry: &Entry) -> bool {
+    /// Whether one of the first so many entries that are of the trail's level is marked.
+    fn is_another(&self, trail: &Assigned, end: usize) -> bool
+        requires room { HasRoom (vec_len self.now.seen) trail.now.entries.items }
+        requires levels { HaveLevels trail.now.level trail.now.entries.items }
+        requires end { end ≤ length trail.now.entries.items }
+        ensures { Weighs trail.now.entries.items trail.now.level end self.now.seen.items result }
+    {
+        let mut next = end;
+        'entries: while next > 0 {
+            let entry = &trail.entries[next - 1];
+            if entry.level != trail.level {
+                return false;
+            }
+            if is_marked(&self.seen, entry.literal) {
+                return true;
+            }
+            next -= 1;
+        }
+        false
+    }
+
+    /// Whether an entry's mark is to go to the literals of its reason: always where the clause is to be empty, and at the
+    /// trail's level where another entry below it is marked.
+    fn is_wanted(&self, clauses: &Clauses, trail: &Assigned, index: usize, from: u32) -> bool
+        requires room { HasRoom (vec_len self.now.seen) trail.now.entries.items }
+        requires levels { HaveLevels trail.now.level trail.now.entries.items }
+        requires index { index < length trail.now.entries.items }
+        ensures all { from ≡ 0 → result ≡ true }
+        ensures top { from ≡ 1 → (e : _) → slice_get trail.now.entries.items index ≡ Some e → e.level ≡ trail.now.level → Weighs trail.now.entries.items trail.now.level index self.now.seen.items result }
+    {
+        if from == 0 {
+            return true;
+        }
+        let entry = &trail.entries[index];
         if entry.level == trail.level {
-            return self.open > 1;
+            return self.is_another(trail, index);
         }
         if entry.level == 0 {
             return clauses.assumed.is_empty();
@@ -135,13 +167,7 @@ impl Work {
     }
 
     /// Replaces the entry's mark by those of its reason's other literals.
-    fn resolve(
-        &mut self,
-        literal: Lit,
-        reason: ClauseId,
-        clause: &[Lit],
-        trail: &Assigned,
-    ) -> Result<(), AllocError>
+    fn resolve(&mut self, literal: Lit, reason: ClauseId, clause: &[Lit]) -> Result<(), AllocError>
         requires fits { Fits (vec_len self.old.seen) clause.now }
         requires literal { literal.variable < vec_len self.old.seen }
         ensures room { vec_len self.new.seen ≡ vec_len self.old.seen }
@@ -149,23 +175,27 @@ impl Work {
         ensures marks { OnOk result ((v : ℕ) → (v ≡ literal.variable → ⊥) → seen_at self.new.seen.items v ≡ (seen_at self.old.seen.items v || names v clause.now)) }
         ensures hints { OnOk result (self.new.hints.items ≡ self.old.hints.items ++ reason ∷ []) }
         ensures kept { self.new.kept ≡ self.old.kept }
+        ensures level { self.new.level ≡ self.old.level }
     {
         self.hints.push(reason)?;
-        let fresh = mark(&mut self.seen, clause, trail);
+        mark(&mut self.seen, clause);
         self.seen[literal.variable() as usize] = false;
-        self.open = self.open.saturating_add(fresh).saturating_sub(1);
         Ok(())
     }
 
     /// Takes the entry's mark off, and puts the negation of its literal into the lesson.
-    fn keep(&mut self, literal: Lit) -> Result<(), AllocError>
+    fn keep(&mut self, literal: Lit, level: u32) -> Result<(), AllocError>
         requires { literal.variable < vec_len self.old.seen }
         ensures room { vec_len self.new.seen ≡ vec_len self.old.seen }
         ensures off { OnOk result (seen_at self.new.seen.items literal.variable ≡ false) }
         ensures marks { OnOk result ((v : ℕ) → (v ≡ literal.variable → ⊥) → seen_at self.new.seen.items v ≡ seen_at self.old.seen.items v) }
         ensures kept { OnOk result (self.new.kept.items ≡ self.old.kept.items ++ negated literal ∷ []) }
+        ensures level { self.new.level ≡ cond (eqb (vec_len self.old.kept) 1) level self.old.level }
         ensures hints { self.new.hints ≡ self.old.hints }
     {
+        if self.kept.len() == 1 {
+            self.level = level;
+        }
         self.kept.push(literal.negated())?;
         self.seen[literal.variable() as usize] = false;
         Ok(())
@@ -187,19 +217,20 @@ impl Work {
         ensures kept { OnOk result (from ≡ 0 → AllReasoned trail.now.entries.items → self.new.kept.items ≡ self.old.kept.items) }
         ensures occurs { OnOk result ((vars : List ℕ) → NamesWithin vars (named from clauses.now) → WorkWithin vars self.old.seen.items self.old.kept.items → WorkWithin vars self.new.seen.items self.new.kept.items) }
         ensures derives { OnOk result (Derives (named from clauses.now) trail.now.entries.items index self.new.seen.items self.new.kept.items (reverse self.new.hints.items)) }
+        ensures stage { OnOk result (from ≡ 1 → 1 ≤ trail.now.level → IsStage trail.now.entries.items trail.now.level (index + 1) self.old.seen.items self.old.kept.items self.old.level → IsStage trail.now.entries.items trail.now.level index self.new.seen.items self.new.kept.items self.new.level) }
     {
         let entry = &trail.entries[index];
         if !is_marked(&self.seen, entry.literal) {
             return Ok(());
         }
-        let wanted = (from == 0) | self.is_wanted(clauses, trail, entry);
+        let wanted = self.is_wanted(clauses, trail, index, from);
         match resolvable(clauses, entry, from, wanted) {
             Some(reason) => {
-                self.resolve(entry.literal, reason, clauses.clause(reason), trail)?;
+                self.resolve(entry.literal, reason, clauses.clause(reason))?;
                 Ok(())
             }
             None => {
-                self.keep(entry.literal)?;
+                self.keep(entry.literal, entry.level)?;
                 Ok(())
             }
         }
@@ -213,6 +244,7 @@ impl Work {
         ensures kept { OnOk result (from ≡ 0 → AllReasoned trail.now.entries.items → self.new.kept.items ≡ self.old.kept.items) }
         ensures occurs { OnOk result ((vars : List ℕ) → NamesWithin vars (named from clauses.now) → WorkWithin vars self.old.seen.items self.old.kept.items → WorkWithin vars self.new.seen.items self.new.kept.items) }
         ensures derives { OnOk result (Derives (named from clauses.now) trail.now.entries.items 0 self.new.seen.items self.new.kept.items (reverse self.new.hints.items)) }
+        ensures stage { OnOk result (from ≡ 1 → 1 ≤ trail.now.level → IsStage trail.now.entries.items trail.now.level (length trail.now.entries.items) self.old.seen.items self.old.kept.items self.old.level → IsStage trail.now.entries.items trail.now.level 0 self.new.seen.items self.new.kept.items self.new.level) }
     {
         let mut index = trail.entries.len();
         'entries: while index > 0 {
@@ -237,6 +269,7 @@ pub fn analyze(
     ensures empty { IfOk result (λ lesson. from ≡ 0 → AllReasoned trail.now.entries.items → lesson.clause.items ≡ []) }
     ensures apart { IfOk result (λ lesson. AreApart lesson.clause.items) }
     ensures occurs { IfOk result (λ lesson. (vars : List ℕ) → NamesWithin vars (named from clauses.now) → Within vars lesson.clause.items) }
+    ensures jump { IfOk result (λ lesson. from ≡ 1 → 1 ≤ trail.now.level → HasTop clauses.now trail.now conflict → IsJump trail.now.entries.items trail.now.level lesson.clause.items lesson.level) }
     ensures valid { IfOk result (λ lesson. follows (named from clauses.now) (negations lesson.clause.items) lesson.hints.items ≡ true) }
 {
     let mut work = Work::begin(alloc, clauses, trail, conflict, from)?;
@@ -245,5 +278,6 @@ pub fn analyze(
     Ok(Lesson {
         clause: work.kept,
         hints: work.hints,
+        level: work.level,
     })
 }

@@ -1,17 +1,19 @@
-ghost use Rattle.std.specs.Prelude.{◌≡◌, ◌<◌, ◌≤◌, ◌+◌, ◌++◌, ◌^◌, [], ℕ, Some, None, true, false, length, slice_index_or, vec_len, IfOk, OnOk, MatchOption, IfSome};
+ghost use Rattle.std.specs.Prelude.{◌≡◌, ◌<◌, ◌≤◌, ◌+◌, ◌++◌, ◌^◌, [], ℕ, Some, None, true, false, length, map, slice_index_or, vec_len, IfOk, OnOk, MatchOption, IfSome};
 ghost use Rattle.cnf_core.specs.Literal.{Literal};
 ghost use Rattle.cnf_core.specs.Truth.{value_of, formula_holds};
 ghost use Rattle.proof_check.specs.Refutations.{IsRefutation, IsTrail};
 ghost use Rattle.cdcl.specs.Known.{known};
 ghost use Rattle.cdcl.specs.declared.clauses.ClauseId.TheVariants.{Assumed};
 ghost use Rattle.cdcl.specs.Fits.{Fits, AllFit};
-ghost use Rattle.cdcl.specs.Trails.{IsTrailOf, IsConflict};
+ghost use Rattle.cdcl.specs.Trails.{IsTrailOf, IsConflict, IsLevel};
 ghost use Rattle.cdcl.specs.Tidy.{AreTidy, units};
-ghost use Rattle.cdcl.specs.Searches.{AreLearnt, IsSearch, IsReady, AllTrue, CanRefute};
+ghost use Rattle.proof_check.specs.Steps.{clause_of};
+ghost use Rattle.cdcl.specs.Guards.{Guards};
+ghost use Rattle.cdcl.specs.Searches.{AreLearnt, AreFresh, IsSearch, IsReady, AllTrue, CanRefute};
 ghost use Rattle.cdcl.specs.Answers.{IfSat, IfUnsat, IfSpent, IsSpent};
 
 use crate::answer::Answer;
-use crate::assigned::Assigned;
+use crate::assigned::{Assigned, Entry};
 use crate::choosing::Choice;
 use crate::clauses::{ClauseId, Clauses};
 use crate::restarts::Restarts;
@@ -51,7 +53,6 @@ impl Search {
             trail: Assigned::new(alloc),
             choice: Choice::new(alloc),
             watches: Watches::new(alloc),
-            entered: 0,
             followed: 0,
         }
     }
@@ -59,6 +60,7 @@ impl Search {
     /// Begins a question: nothing is learnt, and no literal is taken as true.
     fn reset(&mut self, alloc: Global, assume: &[Lit]) -> Result<(), AllocError>
         ensures search { OnOk result (IsSearch 0 self.new) }
+        ensures guards { OnOk result (Guards 0 0 self.new) }
         ensures learnt { OnOk result (self.new.clauses.learnt ≡ []) }
         ensures assumed { OnOk result (self.new.clauses.assumed ≡ assume.now) }
         ensures level { OnOk result (self.new.trail.level ≡ 0) }
@@ -73,7 +75,6 @@ impl Search {
         self.trail = Assigned::with_room(alloc, room)?;
         self.choice = Choice::with_room(alloc, room)?;
         self.watches = Watches::with_room(alloc, room, self.clauses.given.len())?;
-        self.entered = 0;
         self.followed = 0;
         Ok(())
     }
@@ -83,9 +84,11 @@ impl Search {
         requires index { index < length self.old.clauses.assumed }
         requires search { IsSearch index self.old }
         requires level { self.old.trail.level ≡ 0 }
+        requires guards { Guards 0 0 self.old }
         ensures search { IfOk result (λ b. b ≡ false → IsSearch (index + 1) self.new) }
+        ensures guards { OnOk result (Guards 0 0 self.new) }
         ensures conflict { IfOk result (λ b. b ≡ true → CanRefute self.new (Assumed index)) }
-        ensures level { self.new.trail.level ≡ 0 }
+        ensures level { OnOk result (self.new.trail.level ≡ 0) }
         ensures clauses { self.new.clauses ≡ self.old.clauses }
     {
         let literal = self.clauses.assumed.as_slice()[index as usize];
@@ -95,7 +98,11 @@ impl Search {
         if self.trail.holds(literal.negated()) {
             return Ok(true);
         }
-        self.take(literal, Some(ClauseId::Assumed(index)))?;
+        self.take(Entry {
+            literal,
+            reason: Some(ClauseId::Assumed(index)),
+            level: self.trail.level,
+        })?;
         Ok(false)
     }
 
@@ -103,7 +110,10 @@ impl Search {
     fn assume_all(&mut self) -> Result<Option<ClauseId>, AllocError>
         requires search { IsSearch 0 self.old }
         requires level { self.old.trail.level ≡ 0 }
+        requires guards { Guards 0 0 self.old }
         ensures ready { IfOk result (λ o. o ≡ None → IsReady self.new) }
+        ensures guards { OnOk result (Guards 0 0 self.new) }
+        ensures level { OnOk result (self.new.trail.level ≡ 0) }
         ensures conflict { IfOk result (λ o. IfSome o (CanRefute self.new)) }
         ensures clauses { self.new.clauses ≡ self.old.clauses }
     {
@@ -128,14 +138,40 @@ impl Search {
         Ok(Assignment::from_vec(values))
     }
 
+    /// Learns from a conflict above level 0, and goes back further now and then.
+    fn learn_on(
+        &mut self,
+        alloc: Global,
+        conflict: ClauseId,
+        restarts: &mut Restarts,
+    ) -> Result<(), AllocError>
+        requires ready { IsReady self.old }
+        requires guards { Guards (length self.old.clauses.given) self.old.followed self.old }
+        requires level { 1 ≤ self.old.trail.level }
+        requires conflict { IsConflict 1 self.old.clauses self.old.trail.entries.items conflict }
+        ensures ready { OnOk result (IsReady self.new) }
+        ensures guards { OnOk result (Guards (length self.new.clauses.given) self.new.followed self.new) }
+        ensures more { OnOk result (length self.new.clauses.learnt ≡ length self.old.clauses.learnt + 1) }
+        ensures given { self.new.clauses.given ≡ self.old.clauses.given }
+        ensures assumed { self.new.clauses.assumed ≡ self.old.clauses.assumed }
+    {
+        self.learn(alloc, conflict)?;
+        if restarts.note() {
+            self.go_back(0);
+        }
+        Ok(())
+    }
+
     /// Searches on, learning from at most so many conflicts.
     fn run(&mut self, alloc: Global, conflicts: u32) -> Result<Answer, AllocError>
         requires ready { IsReady self.old }
+        requires guards { Guards (length self.old.clauses.given) self.old.followed self.old }
         requires nothing { self.old.clauses.learnt ≡ [] }
         requires some { 1 ≤ conflicts }
         ensures sat { IfOk result (λ a. IfSat a (λ values. formula_holds (value_of values) (self.old.clauses.given ++ units self.old.clauses.assumed) ≡ true)) }
         ensures unsat { IfOk result (λ a. IfUnsat a (λ r. IsRefutation (self.old.clauses.given ++ units self.old.clauses.assumed) r × AreTidy (self.old.clauses.given ++ units self.old.clauses.assumed) r × (length r ≤ conflicts))) }
         ensures spent { IfOk result (λ a. IfSpent a (λ kept steps. IsTrail self.old.clauses.given kept steps × AreTidy self.old.clauses.given kept × AreTidy self.old.clauses.given steps × (length steps ≡ conflicts))) }
+        ensures fresh { IfOk result (λ a. IfSpent a (λ kept steps. AreFresh (self.old.clauses.given ++ map clause_of kept) steps)) }
         ensures given { self.new.clauses.given ≡ self.old.clauses.given }
     {
         let mut restarts = Restarts::new();
@@ -146,10 +182,7 @@ impl Search {
                     if self.trail.level == 0 {
                         return Ok(Answer::Unsat(self.refute(alloc, id)?));
                     }
-                    self.learn(alloc, id)?;
-                    if restarts.note() {
-                        self.go_back(0);
-                    }
+                    self.learn_on(alloc, id, &mut restarts)?;
                 }
             }
         }
@@ -170,6 +203,7 @@ impl Search {
         ensures sat { IfOk result (λ a. IfSat a (λ values. formula_holds (value_of values) (self.old.clauses.given ++ units assume.now) ≡ true)) }
         ensures unsat { IfOk result (λ a. IfUnsat a (λ r. IsRefutation (self.old.clauses.given ++ units assume.now) r × AreTidy (self.old.clauses.given ++ units assume.now) r × (length r ≤ conflicts))) }
         ensures spent { IfOk result (λ a. IfSpent a (λ kept steps. IsTrail self.old.clauses.given kept steps × AreTidy self.old.clauses.given kept × AreTidy self.old.clauses.given steps × (length steps ≡ conflicts))) }
+        ensures fresh { IfOk result (λ a. IfSpent a (λ kept steps. AreFresh (self.old.clauses.given ++ map clause_of kept) steps)) }
         ensures at_once { conflicts ≡ 0 → IfOk result IsSpent }
         ensures given { self.new.clauses.given ≡ self.old.clauses.given }
     {
@@ -180,9 +214,12 @@ impl Search {
             }));
         }
         self.reset(alloc, assume)?;
-        match self.assume_all()? {
-            Some(id) => Ok(Answer::Unsat(self.refute(alloc, id)?)),
-            None => self.run(alloc, conflicts),
+        if let Some(id) = self.assume_all()? {
+            return Ok(Answer::Unsat(self.refute(alloc, id)?));
         }
+        if let Some(id) = self.enter_given()? {
+            return Ok(Answer::Unsat(self.refute(alloc, id)?));
+        }
+        self.run(alloc, conflicts)
     }
 }

@@ -4,7 +4,7 @@ ghost use Rattle.proof_check.specs.Propagation.{taking};
 ghost use Rattle.cdcl.specs.declared.clauses.Clauses.{Clauses as ClausesValue};
 ghost use Rattle.cdcl.specs.Sources.{named};
 ghost use Rattle.cdcl.specs.Known.{known, Reads, IsOpen, open_count};
-ghost use Rattle.cdcl.specs.Trails.{IsTrailOf, Implies, KeepsRoot, top_level};
+ghost use Rattle.cdcl.specs.Trails.{IsTrailOf, IsNext, IsCut, top_level};
 
 use crate::clauses::ClauseId;
 use crate::order::Order;
@@ -58,6 +58,7 @@ impl Assigned {
         requires { room ≤ 2 ^ 31 }
         ensures room { IfOk result (λ t. vec_len t.levels ≡ room) }
         ensures level { IfOk result (λ t. t.level ≡ 0) }
+        ensures entries { IfOk result (λ t. t.entries.items ≡ []) }
         ensures trail { IfOk result (λ t. (clauses : ClausesValue) → IsTrailOf clauses t) }
     {
         let taken = vec![in alloc; false; 2 * room]?;
@@ -118,35 +119,23 @@ impl Assigned {
         }
     }
 
-    /// Takes one more literal as true, at this level.
-    pub fn push(&mut self, literal: Lit, reason: Option<ClauseId>) -> Result<(), AllocError>
-        requires room { literal.variable < vec_len self.old.levels }
+    /// Takes one more literal as true. Its level is the trail's from now on.
+    pub fn push(&mut self, entry: Entry) -> Result<(), AllocError>
+        requires room { entry.literal.variable < vec_len self.old.levels }
         requires paired { vec_len self.old.taken ≡ 2 * vec_len self.old.levels }
-        requires open { IsOpen (known self.old.taken.items) literal }
-        ensures trail { OnOk result ((clauses : ClausesValue) → IsTrailOf clauses self.old → ((id : _) → reason ≡ Some id → (c : List Literal) × (named self.old.level clauses id ≡ Some c) × Implies self.old.entries.items (length self.old.entries.items) literal c) → (reason ≡ None → 1 ≤ self.old.level) → IsTrailOf clauses self.new) }
-        ensures entries { OnOk result (self.new.entries.items ≡ self.old.entries.items ++ record { literal = literal; reason = reason; level = self.old.level } ∷ []) }
+        requires open { IsOpen (known self.old.taken.items) entry.literal }
+        ensures trail { OnOk result ((clauses : ClausesValue) → IsTrailOf clauses self.old → IsNext clauses self.old entry → IsTrailOf clauses self.new) }
+        ensures entries { OnOk result (self.new.entries.items ≡ self.old.entries.items ++ entry ∷ []) }
         ensures fewer { OnOk result (open_count self.new.taken.items + 1 ≡ open_count self.old.taken.items) }
         ensures room { vec_len self.new.levels ≡ vec_len self.old.levels }
-        ensures level { self.new.level ≡ self.old.level }
+        ensures level { OnOk result (self.new.level ≡ entry.level) }
     {
-        let level = self.level;
-        self.entries.push(Entry {
-            literal,
-            reason,
-            level,
-        })?;
+        let literal = entry.literal;
+        let level = entry.level;
+        self.entries.push(entry)?;
+        self.level = level;
         self.taken[literal.code() as usize] = true;
         self.levels[literal.variable() as usize] = level;
-        Ok(())
-    }
-
-    /// Begins a level above this one. It fails where the level would have no number below 2^32.
-    pub fn raise_level(&mut self) -> Result<(), AllocError>
-        ensures trail { OnOk result ((clauses : ClausesValue) → IsTrailOf clauses self.old → IsTrailOf clauses self.new) }
-        ensures level { OnOk result (self.new.level ≡ self.old.level + 1) }
-        ensures rest { OnOk result (self.new ≡ record self.old { level = self.old.level + 1 }) }
-    {
-        self.level = self.level.checked_add(1).ok_or(AllocError)?;
         Ok(())
     }
 
@@ -179,7 +168,8 @@ impl Assigned {
     pub fn backjump(&mut self, level: u32, order: &mut Order)
         requires { (clauses : ClausesValue) × IsTrailOf clauses self.old }
         ensures trail { (clauses : ClausesValue) → IsTrailOf clauses self.old → IsTrailOf clauses self.new }
-        ensures root { KeepsRoot self.old.entries.items self.new.entries.items }
+        ensures cut { IsCut level self.old.entries.items self.new.entries.items }
+        ensures level { self.new.level ≡ level }
         ensures room { vec_len self.new.levels ≡ vec_len self.old.levels }
     {
         while self.last_level() > level {

@@ -1,4 +1,4 @@
-ghost use Rattle.std.specs.Prelude.{◌≡◌, ◌<◌, ◌+◌, ◌^◌, ◌∷◌, [], length, slice_get, List, Some, IsSome, true};
+ghost use Rattle.std.specs.Prelude.{◌≡◌, ◌<◌, ◌+◌, ◌^◌, ◌∷◌, [], length, slice_get, List, Some, None, IsSome, true, false};
 ghost use Rattle.cnf_core.specs.Literal.{Literal};
 ghost use Rattle.cdcl.specs.Sources.{named};
 
@@ -45,7 +45,8 @@ impl Clauses {
 
     /// Whether there is a clause of this name that a step may cite.
     pub fn has(&self, id: ClauseId) -> bool
-        ensures { result ≡ true → (c : List Literal) × (named 1 self.now id ≡ Some c) }
+        ensures there { result ≡ true → (c : List Literal) × (named 1 self.now id ≡ Some c) }
+        ensures missing { result ≡ false → named 1 self.now id ≡ None }
     {
         match id {
             ClauseId::Given(index) => (index as usize) < self.given.len(),

@@ -1,14 +1,15 @@
-ghost use Rattle.std.specs.Prelude.{◌≡◌, ◌<◌, ◌+◌, ◌^◌, ◌++◌, ℕ, Some, true, map, length, IfOk, OnOk};
+ghost use Rattle.std.specs.Prelude.{◌≡◌, ◌<◌, ◌+◌, ◌^◌, ◌++◌, ◌≤◌, ℕ, Some, true, map, length, vec_len, IfOk, OnOk};
 ghost use Rattle.proof_check.specs.Propagation.{negations};
 ghost use Rattle.proof_check.specs.Room.{Within, variables_of};
 ghost use Rattle.proof_check.specs.Refutations.{IsRefutation};
 ghost use Rattle.cdcl.specs.Sources.{named, numbered, shifted, shifted_step};
 ghost use Rattle.cdcl.specs.Trails.{follows, IsTrailOf, IsConflict};
 ghost use Rattle.cdcl.specs.Tidy.{AreApart, AreTidy, units};
-ghost use Rattle.cdcl.specs.Searches.{AreLearnt, IsReady};
+ghost use Rattle.cdcl.specs.Searches.{AreLearnt, IsReady, ContainsNone, OneMore};
+ghost use Rattle.cdcl.specs.Guards.{Guards, GuardsBut};
+ghost use Rattle.cdcl.specs.Fits.{Fits};
 
 use crate::analysis::{Lesson, analyze};
-use crate::assigned::Assigned;
 use crate::clauses::{ClauseId, Clauses};
 use crate::search::Search;
 use cnf_core::Lit;
@@ -91,31 +92,6 @@ fn shifted_steps(
     Ok(moved)
 }
 
-/// Where a lesson leads: its literals of the two highest levels, and the lower one of these.
-#[derive(Clone, Copy, Debug)]
-struct Jump {
-    first: Lit,
-    second: Lit,
-    level: u32,
-}
-
-/// Where a lesson leads that has its literals from the trail's end down: to level 0 where it has fewer than two.
-fn jump_of(clause: &[Lit], trail: &Assigned) -> Jump {
-    let first = clause.first().copied().unwrap_or(Lit::new(1, true));
-    match clause.get(1) {
-        None => Jump {
-            first,
-            second: first,
-            level: 0,
-        },
-        Some(second) => Jump {
-            first,
-            second: *second,
-            level: trail.level_of(*second),
-        },
-    }
-}
-
 impl Clauses {
     /// Puts a lesson at the end of the clauses learnt.
     fn learn(&mut self, alloc: Global, lesson: &Lesson) -> Result<(), AllocError>
@@ -124,9 +100,11 @@ impl Clauses {
         requires valid { follows (named 1 self.old) (negations lesson.now.clause.items) lesson.now.hints.items ≡ true }
         requires apart { AreApart lesson.now.clause.items }
         requires occurs { Within (variables_of self.old.given) lesson.now.clause.items }
+        requires fresh { ContainsNone self.old lesson.now.clause.items }
         ensures learnt { OnOk result (AreLearnt self.new) }
         ensures more { OnOk result (length self.new.learnt ≡ length self.old.learnt + 1) }
         ensures names { (level : ℕ) (id : _) (c : _) → named level self.old id ≡ Some c → named level self.new id ≡ Some c }
+        ensures last { OnOk result (OneMore self.old self.new lesson.now.clause.items) }
         ensures given { self.new.given ≡ self.old.given }
         ensures assumed { self.new.assumed ≡ self.old.assumed }
     {
@@ -147,8 +125,13 @@ impl Search {
         requires valid { follows (named 1 self.old.clauses) (negations lesson.now.clause.items) lesson.now.hints.items ≡ true }
         requires apart { AreApart lesson.now.clause.items }
         requires occurs { Within (variables_of self.old.clauses.given) lesson.now.clause.items }
+        requires fresh { ContainsNone self.old.clauses lesson.now.clause.items }
+        requires fits { Fits (vec_len self.old.trail.levels) lesson.now.clause.items }
         ensures ready { OnOk result (IsReady self.new) }
         ensures more { OnOk result (length self.new.clauses.learnt ≡ length self.old.clauses.learnt + 1) }
+        ensures names { OnOk result ((level : ℕ) (id : _) (c : _) → named level self.old.clauses id ≡ Some c → named level self.new.clauses id ≡ Some c) }
+        ensures last { OnOk result (OneMore self.old.clauses self.new.clauses lesson.now.clause.items) }
+        ensures rest { OnOk result (self.new ≡ record self.old { clauses = self.new.clauses }) }
         ensures given { self.new.clauses.given ≡ self.old.clauses.given }
         ensures assumed { self.new.clauses.assumed ≡ self.old.clauses.assumed }
     {
@@ -156,11 +139,28 @@ impl Search {
         Ok(())
     }
 
+    /// Lets the clause learnt last wait at its first two literals, and takes the first, the only one that isn't false.
+    fn assert_last(&mut self, clause: &[Lit]) -> Result<(), AllocError>
+        requires ready { IsReady self.old }
+        requires guards { GuardsBut self.old clause.now }
+        ensures ready { OnOk result (IsReady self.new) }
+        ensures guards { OnOk result (Guards (length self.new.clauses.given) self.new.followed self.new) }
+        ensures clauses { self.new.clauses ≡ self.old.clauses }
+    {
+        let id = ClauseId::Learnt(self.watches.learnt.len() as u32);
+        self.watches.wait_last(clause)?;
+        self.heed(id)?;
+        Ok(())
+    }
+
     /// Learns from a conflict above level 0, and goes back to where the learnt clause is unit.
     pub fn learn(&mut self, alloc: Global, conflict: ClauseId) -> Result<(), AllocError>
         requires ready { IsReady self.old }
+        requires guards { Guards (length self.old.clauses.given) self.old.followed self.old }
+        requires level { 1 ≤ self.old.trail.level }
         requires conflict { IsConflict 1 self.old.clauses self.old.trail.entries.items conflict }
         ensures ready { OnOk result (IsReady self.new) }
+        ensures guards { OnOk result (Guards (length self.new.clauses.given) self.new.followed self.new) }
         ensures more { OnOk result (length self.new.clauses.learnt ≡ length self.old.clauses.learnt + 1) }
         ensures given { self.new.clauses.given ≡ self.old.clauses.given }
         ensures assumed { self.new.clauses.assumed ≡ self.old.clauses.assumed }
@@ -168,15 +168,11 @@ impl Search {
         if self.clauses.count() >= 4294967295 {
             return Err(AllocError);
         }
-        let index = self.clauses.learnt.len() as u32;
         let lesson = analyze(alloc, &self.clauses, &self.trail, conflict, 1)?;
-        let jump = jump_of(&lesson.clause, &self.trail);
         self.choice.mark_all(&self.clauses, &lesson.hints);
-        self.go_back(jump.level);
+        self.go_back(lesson.level);
         self.keep(alloc, &lesson)?;
-        self.watches.wait_learnt(index, jump.first, jump.second)?;
-        self.heed(ClauseId::Learnt(index))?;
-        Ok(())
+        self.assert_last(&lesson.clause)
     }
 
     /// The refutation that a conflict at level 0 ends: the clauses learnt, and the empty one.

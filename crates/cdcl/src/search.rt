@@ -1,14 +1,17 @@
-ghost use Rattle.std.specs.Prelude.{◌≡◌, ◌<◌, ◌≤◌, ◌+◌, ◌*◌, ◌^◌, ◌++◌, ◌∷◌, [], ℕ, List, Some, None, true, length, vec_len, IfOk, OnOk, IfSome};
-ghost use Rattle.cnf_core.specs.Literal.{Literal};
+ghost use Rattle.std.specs.Prelude.{◌≡◌, ◌<◌, ◌≤◌, ◌+◌, ◌*◌, ◌^◌, ◌++◌, ◌∷◌, [], ℕ, List, Some, None, true, false, length, slice_get, vec_len, IfOk, OnOk, IfSome, MatchOption};
+ghost use Rattle.cnf_core.specs.Literal.{Literal, code_of};
 ghost use Rattle.cdcl.specs.Sources.{named};
 ghost use Rattle.cdcl.specs.Known.{known, IsOpen, open_count};
-ghost use Rattle.cdcl.specs.Trails.{IsTrailOf, Implies, IsConflict};
-ghost use Rattle.cdcl.specs.Searches.{IsSearch, IsReady, Goes, IsNext, IsEvent, IfFalsified, IfConflict};
+ghost use Rattle.cdcl.specs.Trails.{IsNext as IsNextEntry, IsConflict, IsLevel, IsCut};
+ghost use Rattle.cdcl.specs.Searches.{IsSearch, IsReady, Goes, Says, IsNext, IsEvent, IfFalsified, IfConflict};
+ghost use Rattle.cdcl.specs.Guards.{Guards, AreSound, left_of, IsWatch, InTurn, Moved, Visited, IsAtRest};
+ghost use Rattle.cdcl.specs.declared.clauses.ClauseId.TheVariants.{Given};
+ghost use Rattle.cdcl.specs.declared.watching.Visit.TheVariants.{Stays};
 
-use crate::assigned::{Assigned, Reading};
+use crate::assigned::{Assigned, Entry, Reading};
 use crate::choosing::Choice;
 use crate::clauses::{ClauseId, Clauses};
-use crate::watching::{Visit, Watch, Watches, close_gap};
+use crate::watching::{Pair, Visit, Watch, Watches};
 use cnf_core::Lit;
 use std::alloc::{AllocError, Global};
 
@@ -19,8 +22,6 @@ pub struct Search {
     pub trail: Assigned,
     pub choice: Choice,
     pub watches: Watches,
-    /// How many clauses given were read to begin with.
-    pub entered: u32,
     /// How many entries of the trail have been followed.
     pub followed: usize,
 }
@@ -42,19 +43,45 @@ pub enum Event {
     Satisfied,
 }
 
+/// The level above this one. It fails where that would have no number below 2^32.
+fn next_level(level: u32) -> Result<u32, AllocError>
+    ensures { IfOk result (λ n. n ≡ level + 1) }
+{
+    level.checked_add(1).ok_or(AllocError)
+}
+
+/// Two literals of a clause that aren't false, or one of them twice where it is true.
+fn left_in(reading: Reading) -> Option<Pair>
+    ensures { result ≡ left_of reading }
+{
+    match reading {
+        Reading::Falsified => None,
+        Reading::Satisfied(literal) | Reading::Implied(literal) => Some(Pair {
+            first: literal,
+            second: literal,
+        }),
+        Reading::Undecided(first, second) => Some(Pair { first, second }),
+    }
+}
+
 impl Search {
-    /// Takes one more literal as true, at this level.
-    pub fn take(&mut self, literal: Lit, reason: Option<ClauseId>) -> Result<(), AllocError>
-        requires room { literal.variable < vec_len self.old.trail.levels }
+    /// Takes one more literal as true.
+    pub fn take(&mut self, entry: Entry) -> Result<(), AllocError>
+        requires room { entry.literal.variable < vec_len self.old.trail.levels }
         requires paired { vec_len self.old.trail.taken ≡ 2 * vec_len self.old.trail.levels }
-        requires open { IsOpen (known self.old.trail.taken.items) literal }
-        ensures search { OnOk result ((held : ℕ) → IsSearch held self.old → ((id : _) → reason ≡ Some id → (c : List Literal) × (named self.old.trail.level self.old.clauses id ≡ Some c) × Implies self.old.trail.entries.items (length self.old.trail.entries.items) literal c) → (reason ≡ None → 1 ≤ self.old.trail.level) → IsSearch held self.new) }
-        ensures goes { OnOk result (Goes self.old self.new) }
-        ensures entries { OnOk result (self.new.trail.entries.items ≡ self.old.trail.entries.items ++ record { literal = literal; reason = reason; level = self.old.trail.level } ∷ []) }
-        ensures level { self.new.trail.level ≡ self.old.trail.level }
+        requires open { IsOpen (known self.old.trail.taken.items) entry.literal }
+        ensures search { OnOk result ((held : ℕ) → IsSearch held self.old → IsNextEntry self.old.clauses self.old.trail entry → IsSearch held self.new) }
+        ensures goes { OnOk result (entry.level ≡ self.old.trail.level → (entry.reason ≡ None → ⊥) → Goes self.old self.new) }
+        ensures entries { OnOk result (self.new.trail.entries.items ≡ self.old.trail.entries.items ++ entry ∷ []) }
+        ensures level { OnOk result (self.new.trail.level ≡ entry.level) }
+        ensures fewer { OnOk result (open_count self.new.trail.taken.items + 1 ≡ open_count self.old.trail.taken.items) }
+        ensures room { OnOk result (vec_len self.new.trail.levels ≡ vec_len self.old.trail.levels) }
         ensures clauses { self.new.clauses ≡ self.old.clauses }
+        ensures watches { self.new.watches ≡ self.old.watches }
+        ensures followed { self.new.followed ≡ self.old.followed }
     {
-        self.trail.push(literal, reason)?;
+        let literal = entry.literal;
+        self.trail.push(entry)?;
         self.choice.note(literal);
         Ok(())
     }
@@ -65,15 +92,18 @@ impl Search {
         requires named { (c : List Literal) × (named 1 self.old.clauses id ≡ Some c) }
         ensures ready { OnOk result (IsReady self.new) }
         ensures goes { OnOk result (Goes self.old self.new) }
-        ensures conflict { IfOk result (IfFalsified (IsConflict 1 self.new.clauses self.new.trail.entries.items id)) }
         ensures clauses { self.new.clauses ≡ self.old.clauses }
+        ensures watches { self.new.watches ≡ self.old.watches }
+        ensures says { IfOk result (λ r. (c : List Literal) → named 1 self.old.clauses id ≡ Some c → Says self.old.trail self.new.trail c r) }
+        ensures conflict { IfOk result (IfFalsified (IsConflict 1 self.new.clauses self.new.trail.entries.items id)) }
     {
         match self.trail.read(self.clauses.clause(id)) {
             Reading::Implied(literal) => {
-                if literal.variable() as usize >= self.trail.levels.len() {
-                    return Ok(Reading::Implied(literal));
-                }
-                self.take(literal, Some(id))?;
+                self.take(Entry {
+                    literal,
+                    reason: Some(id),
+                    level: self.trail.level,
+                })?;
                 Ok(Reading::Implied(literal))
             }
             Reading::Satisfied(literal) => Ok(Reading::Satisfied(literal)),
@@ -83,127 +113,186 @@ impl Search {
     }
 
     /// Reads a clause given for the first time, and answers whether it is false.
-    fn enter(&mut self, id: ClauseId) -> Result<bool, AllocError>
+    fn enter(&mut self, index: u32) -> Result<bool, AllocError>
         requires ready { IsReady self.old }
-        requires named { (c : List Literal) × (named 1 self.old.clauses id ≡ Some c) }
+        requires guards { Guards index 0 self.old }
+        requires root { self.old.trail.level ≡ 0 }
+        requires within { index < length self.old.clauses.given }
         ensures ready { OnOk result (IsReady self.new) }
         ensures goes { OnOk result (Goes self.old self.new) }
-        ensures conflict { IfOk result (λ b. b ≡ true → IsConflict 1 self.new.clauses self.new.trail.entries.items id) }
         ensures clauses { self.new.clauses ≡ self.old.clauses }
+        ensures guards { IfOk result (λ b. b ≡ false → Guards (index + 1) 0 self.new) }
+        ensures conflict { IfOk result (λ b. b ≡ true → IsConflict 1 self.new.clauses self.new.trail.entries.items (Given index)) }
     {
+        let id = ClauseId::Given(index);
         match self.heed(id)? {
             Reading::Falsified => Ok(true),
             Reading::Undecided(first, second) => {
                 self.watches.wait(id, first, second)?;
                 Ok(false)
             }
-            Reading::Satisfied(_) | Reading::Implied(_) => Ok(false),
+            Reading::Satisfied(_) => Ok(false),
+            Reading::Implied(_) => Ok(false),
         }
     }
 
-    /// Reads the clauses given that weren't read yet, up to a false one.
-    fn enter_given(&mut self) -> Result<Option<ClauseId>, AllocError>
-        requires { IsReady self.old }
+    /// Reads the clauses given, up to a false one.
+    pub fn enter_given(&mut self) -> Result<Option<ClauseId>, AllocError>
+        requires ready { IsReady self.old }
+        requires guards { Guards 0 0 self.old }
+        requires root { self.old.trail.level ≡ 0 }
         ensures ready { OnOk result (IsReady self.new) }
         ensures goes { OnOk result (Goes self.old self.new) }
-        ensures conflict { IfOk result (λ o. IfSome o (λ id. IsConflict 1 self.new.clauses self.new.trail.entries.items id)) }
         ensures clauses { self.new.clauses ≡ self.old.clauses }
+        ensures guards { IfOk result (λ o. o ≡ None → Guards (length self.new.clauses.given) self.new.followed self.new) }
+        ensures conflict { IfOk result (λ o. IfSome o (λ id. IsConflict 1 self.new.clauses self.new.trail.entries.items id)) }
     {
-        for index in self.entered..self.clauses.given.len() as u32 {
-            if self.enter(ClauseId::Given(index))? {
+        for index in 0..self.clauses.given.len() as u32 {
+            if self.enter(index)? {
                 return Ok(Some(ClauseId::Given(index)));
             }
         }
-        self.entered = self.clauses.given.len() as u32;
         Ok(None)
     }
 
-    /// Reads a clause that waits at a literal that is false now. A watch whose clause isn't there is let go.
-    fn visit(&mut self, falsified: Lit, watch: Watch) -> Result<Visit, AllocError>
-        requires ready { IsReady self.old }
-        ensures ready { OnOk result (IsReady self.new) }
-        ensures goes { OnOk result (Goes self.old self.new) }
-        ensures conflict { IfOk result (IfConflict (λ id. IsConflict 1 self.new.clauses self.new.trail.entries.items id)) }
-        ensures clauses { self.new.clauses ≡ self.old.clauses }
+    /// Lets a clause wait at one of these two literals, which aren't false, in place of one that is.
+    fn move_watch(
+        &mut self,
+        id: ClauseId,
+        falsified: Lit,
+        one: Lit,
+        another: Lit,
+    ) -> Result<Visit, AllocError>
+        requires one { code_of one < vec_len self.old.watches.lists }
+        requires another { code_of another < vec_len self.old.watches.lists }
+        ensures moved { IfOk result (Moved id falsified one another self.old.watches self.new.watches) }
+        ensures rest { self.new ≡ record self.old { watches = self.new.watches } }
     {
-        let id = watch.id;
-        if self.trail.holds(watch.blocking) {
-            return Ok(Visit::Stays(watch));
-        }
-        if !self.clauses.has(id) {
-            return Ok(Visit::Moves);
-        }
-        let (one, another) = match self.heed(id)? {
-            Reading::Falsified => return Ok(Visit::Conflict(id)),
-            Reading::Satisfied(literal) | Reading::Implied(literal) => (literal, literal),
-            Reading::Undecided(first, second) => (first, second),
-        };
         match self.watches.wait_instead(id, falsified, one, another)? {
             Some(watch) => Ok(Visit::Stays(watch)),
             None => Ok(Visit::Moves),
         }
     }
 
-    /// Reads the clauses of a list that wait at a literal that is false now, up to a false one.
+    /// Reads a clause that waits at a literal that is false now.
+    fn visit(&mut self, falsified: Lit, watch: Watch) -> Result<Visit, AllocError>
+        requires ready { IsReady self.old }
+        requires sound { AreSound self.old }
+        requires watch { IsWatch self.old.clauses watch }
+        ensures ready { OnOk result (IsReady self.new) }
+        ensures goes { OnOk result (Goes self.old self.new) }
+        ensures clauses { self.new.clauses ≡ self.old.clauses }
+        ensures visited { IfOk result (Visited falsified watch self.old self.new) }
+        ensures conflict { IfOk result (IfConflict (λ id. IsConflict 1 self.new.clauses self.new.trail.entries.items id)) }
+    {
+        if self.trail.holds(watch.blocking) {
+            return Ok(Visit::Stays(watch));
+        }
+        let reading = self.heed(watch.id)?;
+        match left_in(reading) {
+            None => Ok(Visit::Conflict(watch.id)),
+            Some(pair) => {
+                let visit = self.move_watch(watch.id, falsified, pair.first, pair.second)?;
+                Ok(visit)
+            }
+        }
+    }
+
+    /// Reads a clause that waits at a literal that is false now, unless a false clause was found.
+    fn attend(
+        &mut self,
+        falsified: Lit,
+        watch: Watch,
+        found: Option<ClauseId>,
+    ) -> Result<Visit, AllocError>
+        requires ready { IsReady self.old }
+        requires sound { AreSound self.old }
+        requires watch { IsWatch self.old.clauses watch }
+        ensures ready { OnOk result (IsReady self.new) }
+        ensures goes { OnOk result (Goes self.old self.new) }
+        ensures clauses { self.new.clauses ≡ self.old.clauses }
+        ensures attended { IfOk result (λ v. MatchOption found (Visited falsified watch self.old self.new v) (λ id. (self.new ≡ self.old) × (v ≡ Stays watch))) }
+        ensures conflict { IfOk result (IfConflict (λ id. IsConflict 1 self.new.clauses self.new.trail.entries.items id)) }
+    {
+        if found.is_some() {
+            return Ok(Visit::Stays(watch));
+        }
+        self.visit(falsified, watch)
+    }
+
+    /// Reads the clauses of a list that wait at a literal that is false now, up to a false one. Those that wait there
+    /// still are kept in the list.
     fn follow_list(
         &mut self,
         falsified: Lit,
         list: &mut Vec<Watch>,
+        index: usize,
     ) -> Result<Option<ClauseId>, AllocError>
-        requires { IsReady self.old }
+        requires ready { IsReady self.old }
+        requires turn { InTurn falsified index 0 0 list.old.items None self.old }
         ensures ready { OnOk result (IsReady self.new) }
         ensures goes { OnOk result (Goes self.old self.new) }
-        ensures conflict { IfOk result (λ o. IfSome o (λ id. IsConflict 1 self.new.clauses self.new.trail.entries.items id)) }
         ensures clauses { self.new.clauses ≡ self.old.clauses }
+        ensures turn { IfOk result (λ o. InTurn falsified index (vec_len list.new) (vec_len list.new) list.new.items o self.new) }
+        ensures conflict { IfOk result (λ o. IfSome o (λ id. IsConflict 1 self.new.clauses self.new.trail.entries.items id)) }
     {
         let mut kept: usize = 0;
-        for index in 0..list.len() {
-            let watch = list[index];
-            match self.visit(falsified, watch)? {
+        let mut found = None;
+        for next in 0..list.len() {
+            let watch = list[next];
+            match self.attend(falsified, watch, found)? {
                 Visit::Stays(watch) => {
                     list[kept] = watch;
                     kept += 1;
                 }
                 Visit::Moves => {}
                 Visit::Conflict(id) => {
-                    close_gap(list, kept, index);
-                    return Ok(Some(id));
+                    let watch = list[next];
+                    list[kept] = watch;
+                    kept += 1;
+                    found = Some(id);
                 }
             }
         }
         list.truncate(kept);
-        Ok(None)
+        Ok(found)
     }
 
-    /// Reads the clauses that wait at a literal that is false now, up to a false one.
-    fn follow(&mut self, alloc: Global, falsified: Lit) -> Result<Option<ClauseId>, AllocError>
-        requires { IsReady self.old }
+    /// Reads the clauses that wait at the negation of an entry's literal, up to a false one.
+    fn follow(&mut self, alloc: Global, index: usize) -> Result<Option<ClauseId>, AllocError>
+        requires ready { IsReady self.old }
+        requires guards { Guards (length self.old.clauses.given) index self.old }
+        requires within { index < length self.old.trail.entries.items }
         ensures ready { OnOk result (IsReady self.new) }
         ensures goes { OnOk result (Goes self.old self.new) }
-        ensures conflict { IfOk result (λ o. IfSome o (λ id. IsConflict 1 self.new.clauses self.new.trail.entries.items id)) }
         ensures clauses { self.new.clauses ≡ self.old.clauses }
+        ensures rest { IfOk result (λ o. IsAtRest index o self.new) }
+        ensures conflict { IfOk result (λ o. IfSome o (λ id. IsConflict 1 self.new.clauses self.new.trail.entries.items id)) }
     {
+        let falsified = self.trail.entries[index].literal.negated();
         let mut list = self.watches.take_list(alloc, falsified);
-        let found = self.follow_list(falsified, &mut list)?;
+        let found = self.follow_list(falsified, &mut list, index)?;
         self.watches.put_list(falsified, list);
         Ok(found)
     }
 
     /// Takes the literals that clauses imply, up to a false clause.
     fn propagate(&mut self, alloc: Global) -> Result<Option<ClauseId>, AllocError>
-        requires { IsReady self.old }
+        requires ready { IsReady self.old }
+        requires guards { Guards (length self.old.clauses.given) self.old.followed self.old }
         ensures ready { OnOk result (IsReady self.new) }
-        ensures goes { OnOk result (Goes self.old self.new) }
-        ensures conflict { IfOk result (λ o. IfSome o (λ id. IsConflict 1 self.new.clauses self.new.trail.entries.items id)) }
+        ensures guards { OnOk result (Guards (length self.new.clauses.given) self.new.followed self.new) }
         ensures clauses { self.new.clauses ≡ self.old.clauses }
+        ensures whole { IfOk result (λ o. o ≡ None → self.new.followed ≡ length self.new.trail.entries.items) }
+        ensures fewer { OnOk result (open_count self.new.trail.taken.items ≤ open_count self.old.trail.taken.items) }
+        ensures conflict { IfOk result (λ o. IfSome o (λ id. IsConflict 1 self.new.clauses self.new.trail.entries.items id)) }
     {
         let mut next = self.followed;
         'entries: while next < self.trail.entries.len() {
-            let falsified = self.trail.entries[next].literal.negated();
-            next += 1;
-            if let Some(id) = self.follow(alloc, falsified)? {
+            if let Some(id) = self.follow(alloc, next)? {
                 return Ok(Some(id));
             }
+            next += 1;
         }
         self.followed = next;
         Ok(None)
@@ -230,8 +319,11 @@ impl Search {
         requires { IsReady self.old }
         ensures ready { IsReady self.new }
         ensures next { IsNext self.new result }
+        ensures guards { (n : ℕ) → Guards (length self.old.clauses.given) n self.old → Guards (length self.new.clauses.given) n self.new }
         ensures trail { self.new.trail ≡ self.old.trail }
         ensures clauses { self.new.clauses ≡ self.old.clauses }
+        ensures watches { self.new.watches ≡ self.old.watches }
+        ensures followed { self.new.followed ≡ self.old.followed }
     {
         match self.choice.pick(&self.trail) {
             Some(literal) => Next::Decide(literal),
@@ -239,30 +331,36 @@ impl Search {
         }
     }
 
-    /// Takes an open literal as true at a level of its own.
+    /// Takes an open literal as true at a level of its own. It fails where the level would have no number below 2^32.
     fn decide(&mut self, literal: Lit) -> Result<(), AllocError>
         requires ready { IsReady self.old }
+        requires guards { Guards (length self.old.clauses.given) self.old.followed self.old }
+        requires whole { self.old.followed ≡ length self.old.trail.entries.items }
         requires room { literal.variable < vec_len self.old.trail.levels }
         requires open { IsOpen (known self.old.trail.taken.items) literal }
         ensures ready { OnOk result (IsReady self.new) }
+        ensures guards { OnOk result (Guards (length self.new.clauses.given) self.new.followed self.new) }
         ensures fewer { OnOk result (open_count self.new.trail.taken.items < open_count self.old.trail.taken.items) }
         ensures clauses { self.new.clauses ≡ self.old.clauses }
     {
-        self.trail.raise_level()?;
-        self.take(literal, None)?;
+        let level = next_level(self.trail.level)?;
+        self.take(Entry {
+            literal,
+            reason: None,
+            level,
+        })?;
         Ok(())
     }
 
     /// Propagates and decides up to a false clause, or till each clause given has a true literal.
     pub fn until_event(&mut self, alloc: Global) -> Result<Event, AllocError>
-        requires { IsReady self.old }
+        requires ready { IsReady self.old }
+        requires guards { Guards (length self.old.clauses.given) self.old.followed self.old }
         ensures ready { OnOk result (IsReady self.new) }
+        ensures guards { OnOk result (Guards (length self.new.clauses.given) self.new.followed self.new) }
         ensures event { IfOk result (IsEvent self.new) }
         ensures clauses { self.new.clauses ≡ self.old.clauses }
     {
-        if let Some(id) = self.enter_given()? {
-            return Ok(Event::Conflict(id));
-        }
         'decisions: loop {
             if let Some(id) = self.propagate(alloc)? {
                 return Ok(Event::Conflict(id));
@@ -275,10 +373,17 @@ impl Search {
         }
     }
 
-    /// Takes back the literals above a level.
+    /// Takes back the literals above a level, which is 0 or that of an entry.
     pub fn go_back(&mut self, level: u32)
-        requires { IsReady self.old }
+        requires ready { IsReady self.old }
+        requires guards { Guards (length self.old.clauses.given) self.old.followed self.old }
+        requires level { IsLevel level self.old.trail.entries.items }
         ensures ready { IsReady self.new }
+        ensures guards { Guards (length self.new.clauses.given) self.new.followed self.new }
+        ensures cut { IsCut level self.old.trail.entries.items self.new.trail.entries.items }
+        ensures level { self.new.trail.level ≡ level }
+        ensures room { vec_len self.new.trail.levels ≡ vec_len self.old.trail.levels }
+        ensures whole { level < self.old.trail.level → self.new.followed ≡ length self.new.trail.entries.items }
         ensures clauses { self.new.clauses ≡ self.old.clauses }
     {
         self.trail.backjump(level, &mut self.choice.order);

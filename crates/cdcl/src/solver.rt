@@ -1,7 +1,9 @@
-ghost use Rattle.std.specs.Prelude.{◌≡◌, ◌≤◌, ◌++◌, ◌∷◌, [], true, length, IfOk, OnOk, OnErr};
+ghost use Rattle.std.specs.Prelude.{◌≡◌, ◌≤◌, ◌++◌, ◌∷◌, [], true, length, map, IfOk, OnOk, OnErr};
 ghost use Rattle.cnf_core.specs.Truth.{value_of, formula_holds};
 ghost use Rattle.proof_check.specs.Refutations.{IsRefutation, IsTrail};
 ghost use Rattle.cdcl.specs.Tidy.{AreTidy, units};
+ghost use Rattle.proof_check.specs.Steps.{clause_of};
+ghost use Rattle.cdcl.specs.Searches.{AreFresh};
 ghost use Rattle.cdcl.specs.Answers.{IfSat, IfUnsat, IfSpent, IsSpent};
 
 use crate::answer::{Answer, SolveFault};
@@ -67,6 +69,7 @@ impl Solver {
         ensures sat { IfOk result (λ a. IfSat a (λ values. formula_holds (value_of values) (self.old ++ units assume.now) ≡ true)) }
         ensures unsat { IfOk result (λ a. IfUnsat a (λ r. IsRefutation (self.old ++ units assume.now) r × AreTidy (self.old ++ units assume.now) r × (length r ≤ conflicts))) }
         ensures spent { IfOk result (λ a. IfSpent a (λ kept steps. IsTrail self.old kept steps × AreTidy self.old kept × AreTidy self.old steps × (length steps ≡ conflicts))) }
+        ensures fresh { IfOk result (λ a. IfSpent a (λ kept steps. AreFresh (self.old ++ map clause_of kept) steps)) }
         ensures at_once { conflicts ≡ 0 → IfOk result IsSpent }
         ensures clauses { self.new ≡ self.old }
     {

@@ -1,3 +1,9 @@
+ghost use Rattle.std.specs.Prelude.{◌≡◌, ◌<◌, ◌+◌, ◌*◌, ◌^◌, ◌++◌, ◌∷◌, [], ℕ, List, Some, None, cond, length, slice_get, vec_len, IfOk, OnOk};
+ghost use Rattle.cnf_core.specs.Literal.{Literal, same, code_of};
+ghost use Rattle.cdcl.specs.declared.clauses.ClauseId.TheVariants.{Learnt};
+ghost use Rattle.cdcl.specs.Watches.{waiting, pair_of, beside, HasPlace, SameSizes, IsMore, OtherPairs, IsWaiting, WaitsLast, WaitsInstead};
+ghost use Rattle.cdcl.specs.Known.{Member};
+
 use crate::clauses::ClauseId;
 use cnf_core::Lit;
 use std::alloc::{AllocError, Global};
@@ -22,18 +28,16 @@ pub enum Visit {
 
 /// The two literals at which a clause waits.
 #[derive(Clone, Copy, Debug)]
-struct Pair {
-    first: Lit,
-    second: Lit,
+pub struct Pair {
+    pub first: Lit,
+    pub second: Lit,
 }
 
 impl Pair {
-    fn of(first: Lit, second: Lit) -> Pair {
-        Pair { first, second }
-    }
-
     /// The literal beside this one.
-    fn beside(self, literal: Lit) -> Lit {
+    fn beside(self, literal: Lit) -> Lit
+        ensures { result ≡ beside self literal }
+    {
         if self.first == literal {
             self.second
         } else {
@@ -45,18 +49,20 @@ impl Pair {
 /// The clauses that wait at each literal, in lists at the literals' codes (Moskewicz et al., "Chaff", DAC 2001), each
 /// with a blocking literal (Chu, Harwood and Stuckey, "Cache conscious data structures for Boolean satisfiability
 /// solvers", 2009).
-///
-/// What a clause says is read anew where it is used, so nothing is promised of the lists.
 #[derive(Drop)]
 pub struct Watches {
-    lists: Vec<Vec<Watch>>,
-    given: Vec<Pair>,
-    learnt: Vec<Pair>,
+    pub lists: Vec<Vec<Watch>>,
+    pub given: Vec<Pair>,
+    pub learnt: Vec<Pair>,
 }
 
 impl Watches {
     /// No clauses, over no variables. It takes no memory.
-    pub fn new(alloc: Global) -> Watches {
+    pub fn new(alloc: Global) -> Watches
+        ensures lists { result.lists.items ≡ [] }
+        ensures given { vec_len result.given ≡ 0 }
+        ensures learnt { vec_len result.learnt ≡ 0 }
+    {
         Watches {
             lists: Vec::new(alloc),
             given: Vec::new(alloc),
@@ -64,26 +70,41 @@ impl Watches {
         }
     }
 
-    /// No clauses learnt, and so many given, over variables below `room`.
-    pub fn with_room(alloc: Global, room: usize, given: usize) -> Result<Watches, AllocError> {
+    /// No clauses learnt, and so many given, over variables below `room`. None of them waits.
+    pub fn with_room(alloc: Global, room: usize, given: usize) -> Result<Watches, AllocError>
+        ensures lists { IfOk result (λ w. vec_len w.lists ≡ 2 * room) }
+        ensures given { IfOk result (λ w. vec_len w.given ≡ given) }
+        ensures learnt { IfOk result (λ w. vec_len w.learnt ≡ 0) }
+        ensures empty { IfOk result (λ w. (k : ℕ) → waiting w k ≡ []) }
+    {
         let mut watches = Watches::new(alloc);
-        for _ in 0..room {
+        for _index in 0..room {
             watches.lists.push(Vec::new(alloc))?;
             watches.lists.push(Vec::new(alloc))?;
         }
         let nowhere = Lit::new(1, true);
-        watches.given = vec![in alloc; Pair::of(nowhere, nowhere); given]?;
+        let pair = Pair {
+            first: nowhere,
+            second: nowhere,
+        };
+        watches.given = vec![in alloc; pair; given]?;
         Ok(watches)
     }
 
-    fn push(&mut self, literal: Lit, watch: Watch) -> Result<(), AllocError> {
-        if let Some(list) = self.lists.get_mut(literal.code() as usize) {
-            list.push(watch)?;
-        }
+    /// A clause waits at a literal.
+    fn push(&mut self, literal: Lit, watch: Watch) -> Result<(), AllocError>
+        requires { code_of literal < vec_len self.old.lists }
+        ensures more { OnOk result (IsMore (code_of literal) watch self.old self.new) }
+        ensures given { self.new.given ≡ self.old.given }
+        ensures learnt { self.new.learnt ≡ self.old.learnt }
+    {
+        self.lists[literal.code() as usize].push(watch)?;
         Ok(())
     }
 
-    fn pair(&self, id: ClauseId) -> Option<Pair> {
+    fn pair(&self, id: ClauseId) -> Option<Pair>
+        ensures { result ≡ pair_of self.now id }
+    {
         match id {
             ClauseId::Given(index) => self.given.get(index as usize).copied(),
             ClauseId::Assumed(_) => None,
@@ -91,25 +112,28 @@ impl Watches {
         }
     }
 
-    fn set_pair(&mut self, id: ClauseId, pair: Pair) {
+    fn set_pair(&mut self, id: ClauseId, pair: Pair)
+        requires { HasPlace self.old id }
+        ensures here { pair_of self.new id ≡ Some pair }
+        ensures others { OtherPairs id self.old self.new }
+        ensures lists { self.new.lists ≡ self.old.lists }
+        ensures sizes { SameSizes self.old self.new }
+    {
         match id {
-            ClauseId::Given(index) => {
-                if let Some(slot) = self.given.get_mut(index as usize) {
-                    *slot = pair;
-                }
-            }
+            ClauseId::Given(index) => self.given[index as usize] = pair,
             ClauseId::Assumed(_) => {}
-            ClauseId::Learnt(index) => {
-                if let Some(slot) = self.learnt.get_mut(index as usize) {
-                    *slot = pair;
-                }
-            }
+            ClauseId::Learnt(index) => self.learnt[index as usize] = pair,
         }
     }
 
     /// A clause waits at two of its literals.
-    pub fn wait(&mut self, id: ClauseId, first: Lit, second: Lit) -> Result<(), AllocError> {
-        self.set_pair(id, Pair::of(first, second));
+    pub fn wait(&mut self, id: ClauseId, first: Lit, second: Lit) -> Result<(), AllocError>
+        requires place { HasPlace self.old id }
+        requires first { code_of first < vec_len self.old.lists }
+        requires second { code_of second < vec_len self.old.lists }
+        ensures { OnOk result (IsWaiting id first second self.old self.new) }
+    {
+        self.set_pair(id, Pair { first, second });
         self.push(
             first,
             Watch {
@@ -123,16 +147,38 @@ impl Watches {
                 id,
                 blocking: first,
             },
-        )
+        )?;
+        Ok(())
     }
 
-    /// The next clause learnt waits at two of its literals, or nowhere where these are one.
-    pub fn wait_learnt(&mut self, index: u32, first: Lit, second: Lit) -> Result<(), AllocError> {
-        self.learnt.push(Pair::of(first, second))?;
-        if first == second {
+    /// Makes a place for the next clause learnt.
+    fn add(&mut self) -> Result<(), AllocError>
+        ensures place { OnOk result (vec_len self.new.learnt ≡ vec_len self.old.learnt + 1) }
+        ensures pairs { OnOk result (OtherPairs (Learnt (vec_len self.old.learnt)) self.old self.new) }
+        ensures lists { self.new.lists ≡ self.old.lists }
+        ensures given { self.new.given ≡ self.old.given }
+    {
+        let nowhere = Lit::new(1, true);
+        self.learnt.push(Pair {
+            first: nowhere,
+            second: nowhere,
+        })?;
+        Ok(())
+    }
+
+    /// The next clause learnt waits at its first two literals, or nowhere where it has fewer.
+    pub fn wait_last(&mut self, clause: &[Lit]) -> Result<(), AllocError>
+        requires few { vec_len self.old.learnt < 2 ^ 32 }
+        requires codes { (l : Literal) → Member l clause.now → code_of l < vec_len self.old.lists }
+        ensures { OnOk result (WaitsLast clause.now self.old self.new) }
+    {
+        let id = ClauseId::Learnt(self.learnt.len() as u32);
+        self.add()?;
+        if clause.len() < 2 {
             return Ok(());
         }
-        self.wait(ClauseId::Learnt(index), first, second)
+        self.wait(id, clause[0], clause[1])?;
+        Ok(())
     }
 
     /// Lets a clause wait at one of these two literals in place of one that is false, or answers a new watch for that one
@@ -143,50 +189,59 @@ impl Watches {
         falsified: Lit,
         one: Lit,
         another: Lit,
-    ) -> Result<Option<Watch>, AllocError> {
+    ) -> Result<Option<Watch>, AllocError>
+        requires one { code_of one < vec_len self.old.lists }
+        requires another { code_of another < vec_len self.old.lists }
+        ensures { IfOk result (λ o. WaitsInstead id falsified one another self.old self.new o) }
+    {
         let Some(pair) = self.pair(id) else {
             return Ok(None);
         };
         let beside = pair.beside(falsified);
-        let instead = if one == beside { another } else { one };
-        let watch = Watch {
-            id,
-            blocking: beside,
+        let (instead, blocking) = if one == beside {
+            (another, one)
+        } else {
+            (one, another)
         };
         if instead == beside {
-            return Ok(Some(watch));
+            return Ok(Some(Watch {
+                id,
+                blocking: beside,
+            }));
         }
-        self.set_pair(id, Pair::of(beside, instead));
-        self.push(instead, watch)?;
+        self.set_pair(
+            id,
+            Pair {
+                first: beside,
+                second: instead,
+            },
+        );
+        self.push(instead, Watch { id, blocking })?;
         Ok(None)
     }
 
     /// Takes out the list of those that wait at a literal.
-    pub fn take_list(&mut self, alloc: Global, literal: Lit) -> Vec<Watch> {
-        match self.lists.get_mut(literal.code() as usize) {
-            Some(list) => mem::replace(list, Vec::new(alloc)),
-            None => Vec::new(alloc),
-        }
+    pub fn take_list(&mut self, alloc: Global, literal: Lit) -> Vec<Watch>
+        requires { code_of literal < vec_len self.old.lists }
+        ensures list { result.items ≡ waiting self.old (code_of literal) }
+        ensures here { waiting self.new (code_of literal) ≡ [] }
+        ensures others { (k : ℕ) → (k ≡ code_of literal → ⊥) → waiting self.new k ≡ waiting self.old k }
+        ensures sizes { SameSizes self.old self.new }
+        ensures given { self.new.given ≡ self.old.given }
+        ensures learnt { self.new.learnt ≡ self.old.learnt }
+    {
+        mem::replace(&mut self.lists[literal.code() as usize], Vec::new(alloc))
     }
 
     /// Puts the list of those that wait at a literal back.
-    pub fn put_list(&mut self, literal: Lit, watches: Vec<Watch>) {
-        if let Some(list) = self.lists.get_mut(literal.code() as usize) {
-            *list = watches;
-        }
+    pub fn put_list(&mut self, literal: Lit, list: Vec<Watch>)
+        requires { code_of literal < vec_len self.old.lists }
+        ensures here { waiting self.new (code_of literal) ≡ list.items }
+        ensures others { (k : ℕ) → (k ≡ code_of literal → ⊥) → waiting self.new k ≡ waiting self.old k }
+        ensures sizes { SameSizes self.old self.new }
+        ensures given { self.new.given ≡ self.old.given }
+        ensures learnt { self.new.learnt ≡ self.old.learnt }
+    {
+        self.lists[literal.code() as usize] = list;
     }
-}
-
-/// Closes a gap in a list: what stands behind it comes down.
-pub fn close_gap(list: &mut Vec<Watch>, start: usize, end: usize) {
-    let mut next = start;
-    for index in end..list.len() {
-        if let Some(watch) = list.get(index).copied() {
-            if let Some(slot) = list.get_mut(next) {
-                *slot = watch;
-            }
-            next = next.saturating_add(1);
-        }
-    }
-    list.truncate(next);
 }

@@ -1,4 +1,4 @@
-use Rattle.std.proofs.Common.{◌≤◌, ◌<◌, arith, max}
+use Rattle.std.proofs.Common.{arith}
 use Rattle.cdcl.proofs.Assuming.{fits-more, fits-whole}
 use Rattle.cdcl.proofs.asking.room_for.Goals as goal
 

@@ -1,4 +1,4 @@
-use Rattle.std.proofs.Common.{◌≡◌, ◌∷◌, [], ℕ, ◌+◌, ◌-◌, zero, suc, List, Some, take, drop, arith, refl, ap}
+use Rattle.std.proofs.Common.{◌≡◌, ◌∷◌, [], ℕ, ◌+◌, ◌-◌, zero, suc, List, Some, take, drop, arith, refl}
 use Rattle.std.specs.List.{slice_get}
 use Rattle.cdcl.proofs.clauses.unit_at.Goals as goal
 

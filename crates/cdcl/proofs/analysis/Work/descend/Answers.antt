@@ -1,9 +1,9 @@
-use Rattle.std.proofs.Common.{length, reverse, get_or, sym, ◌∙◌, None, Some, false, true, ap, refl, vec_len, ◌≡◌}
-use Rattle.std.specs.List.{slice_get}
+use Rattle.std.proofs.Common.{reverse, sym, ◌∙◌, ap, refl, cond, eqb}
 use Rattle.cdcl.specs.Trails.{seen_at}
 use Rattle.cdcl.specs.Sources.{named}
 use Rattle.cdcl.proofs.Naming.{named-some}
 use Rattle.cdcl.proofs.Derivations.{Derives-skip, implied-fits, reason-read, resolve-derives, resolve-within, keep-derives, keep-within, entry-read, entry-literal}
+use Rattle.cdcl.proofs.Jumping.{stage-skip, stage-resolve, stage-keep, weighs-true, weighs-false}
 use Rattle.cdcl.proofs.analysis.Work.descend.Goals as goal
 
 pub is_marked-requires : goal.is_marked-requires
@@ -42,7 +42,7 @@ returns-in_ok-resolve-in-Some-clause-derives c =
 
 pub returns-in_ok-keep-in-None-clause-kept : goal.returns-in_ok-keep-in-None-clause-kept
 returns-in_ok-keep-in-None-clause-kept c = λ root all.
-    absurd (all c.args.index c.index-entry.result.now (entry-read c.args.trail.now.entries.items c.args.index c.index-entry.result.now c.requires.index c.index-entry.ensures) (c.in-None.ensures.nothing refl (rw root refl) root))
+    absurd (all c.args.index c.index-entry.result.now (entry-read c.args.trail.now.entries.items c.args.index c.index-entry.result.now c.requires.index c.index-entry.ensures) (c.in-None.ensures.nothing refl (c.is_wanted-wanted.ensures.all root) root))
 
 pub returns-in_ok-keep-in-None-clause-occurs : goal.returns-in_ok-keep-in-None-clause-occurs
 returns-in_ok-keep-in-None-clause-occurs c = λ vars w before.
@@ -55,3 +55,33 @@ returns-in_ok-keep-in-None-clause-derives c =
     keep-derives (named c.args.from c.args.clauses.now) c.args.trail.now.entries.items c.args.index c.args.self.now.seen.items c.keep.new.self.seen.items c.args.self.now.kept.items _ _ c.args.self.now.hints.items c.index-entry.result.now.literal c.requires.trail.distinct
     (entry-literal c.args.trail.now.entries.items c.args.index c.index-entry.result.now (entry-read c.args.trail.now.entries.items c.args.index c.index-entry.result.now c.requires.index c.index-entry.ensures))
     (ap (λ k. k.items) c.in_ok-keep-in-None.ensures.hints) c.in_ok-keep-in-None.ensures.kept c.in_ok-keep-in-None.ensures.off c.in_ok-keep-in-None.ensures.marks c.requires.derives
+
+pub is_wanted-wanted-requires-clause-room : goal.is_wanted-wanted-requires-clause-room
+is_wanted-wanted-requires-clause-room c = rw c.requires.seen c.requires.trail.in_room
+
+pub returns-then-not-is_marked-clause-stage : goal.returns-then-not-is_marked-clause-stage
+returns-then-not-is_marked-clause-stage c = λ one top stage.
+    stage-skip c.args.trail.now.entries.items c.args.trail.now.level c.args.index c.args.self.now.seen.items c.args.self.now.kept.items c.args.self.now.level c.index-entry.result.now
+    (entry-read c.args.trail.now.entries.items c.args.index c.index-entry.result.now c.requires.index c.index-entry.ensures)
+    (ap (λ s. seen_at s c.index-entry.result.now.literal.variable) (sym c.deref.ensures.value) ∙ sym c.is_marked.ensures ∙ c.if-not-is_marked.true)
+    stage
+
+pub returns-in_ok-resolve-in-Some-clause-stage : goal.returns-in_ok-resolve-in-Some-clause-stage
+returns-in_ok-resolve-in-Some-clause-stage c = λ one top stage.
+    let e = c.index-entry.result.now in
+    let t = c.args.trail.now in
+    let at = entry-read t.entries.items c.args.index e c.requires.index c.index-entry.ensures in
+    let s = c.in_ok-resolve-in-Some.ensures in
+    rw (s.level, s.kept) (stage-resolve t.entries.items t.level c.args.index c.args.self.now.seen.items c.resolve.new.self.seen.items c.args.self.now.kept.items c.args.self.now.level e c.clause.result.now c.requires.trail.have_levels c.requires.trail.distinct at
+    (ap (λ s. seen_at s e.literal.variable) (sym c.deref.ensures.value) ∙ sym c.is_marked.ensures ∙ c.if-not-is_marked.false)
+    (λ l. weighs-true t.entries.items t.level c.args.index c.args.self.now.seen.items c.is_wanted-wanted.result c.in-Some.ensures.wanted (c.is_wanted-wanted.ensures.top one e at l)) s.marks stage)
+
+pub returns-in_ok-keep-in-None-clause-stage : goal.returns-in_ok-keep-in-None-clause-stage
+returns-in_ok-keep-in-None-clause-stage c = λ one top stage.
+    let e = c.index-entry.result.now in
+    let t = c.args.trail.now in
+    let at = entry-read t.entries.items c.args.index e c.requires.index c.index-entry.ensures in
+    let s = c.in_ok-keep-in-None.ensures in
+    stage-keep t.entries.items t.level c.args.index c.args.self.now.seen.items c.keep.new.self.seen.items c.args.self.now.kept.items c.keep.new.self.kept.items c.args.self.now.level c.keep.new.self.level e c.requires.trail.have_levels c.requires.trail.distinct at
+    (ap (λ s. seen_at s e.literal.variable) (sym c.deref.ensures.value) ∙ sym c.is_marked.ensures ∙ c.if-not-is_marked.false)
+    (λ l. weighs-false c.args.clauses.now t c.args.index c.args.self.now.seen.items c.is_wanted-wanted.result e c.requires.trail top at l (c.in-None.ensures.uncited refl) (c.is_wanted-wanted.ensures.top one e at l)) s.marks s.kept (s.level ∙ ap (λ n. cond (eqb n 1) e.level c.args.self.now.level) c.args.self.now.kept.ok.0) stage

@@ -1,4 +1,5 @@
-use Rattle.std.proofs.Common.{◌≡◌, ◌∙◌, ◌+◌, ◌-◌, arith, length, refl}
+use Rattle.std.proofs.Common.{◌≡◌, ◌∙◌, ◌+◌, ◌-◌, arith, length, refl, ℕ, sym, subst}
+use Rattle.cdcl.specs.Jumps.{IsStage}
 use Rattle.cdcl.proofs.analysis.Work.run.Goals as goal
 
 pub entries-init : goal.entries-init
@@ -9,6 +10,7 @@ entries-init c =
       within = omega (arith, e);
       kept = λ _ _. refl;
       occurs = λ vars w before. before;
+      stage = λ one top stage. let P : ℕ → Type 0 = λ n. IsStage c.args.trail.now.entries.items c.args.trail.now.level n c.args.self.now.seen.items c.args.self.now.kept.items c.args.self.now.level in subst P (sym e) stage;
       derives = rw e c.requires.derives;
     }
 
@@ -23,8 +25,18 @@ entries-preserved c = record {
   within = omega (arith, c.entries.invariant.within);
   kept = λ root all. c.in_ok-descend.ensures.kept root all ∙ c.entries.invariant.kept root all;
   occurs = λ vars w before. c.in_ok-descend.ensures.occurs vars w (c.entries.invariant.occurs vars w before);
+  stage = λ one top stage.
+      let e : c.entries.index - 1 + 1 ≡ c.entries.index = omega (arith, c.entries-test.true) in
+      let P : ℕ → Type 0 = λ n. IsStage c.args.trail.now.entries.items c.args.trail.now.level n c.entries.self.seen.items c.entries.self.kept.items c.entries.self.level in
+      c.in_ok-descend.ensures.stage one top (subst P (sym e) (c.entries.invariant.stage one top stage));
   derives = c.in_ok-descend.ensures.derives;
 }
 
 pub returns-clause-derives : goal.returns-clause-derives
 returns-clause-derives c = let e : c.entries.index ≡ 0 = omega (arith, c.entries-test.false) in rw e at c.entries.invariant.derives
+
+pub returns-clause-stage : goal.returns-clause-stage
+returns-clause-stage c = λ one top stage.
+    let e : c.entries.index ≡ 0 = omega (arith, c.entries-test.false) in
+    let P : ℕ → Type 0 = λ n. IsStage c.args.trail.now.entries.items c.args.trail.now.level n c.entries.self.seen.items c.entries.self.kept.items c.entries.self.level in
+    subst P e (c.entries.invariant.stage one top stage)

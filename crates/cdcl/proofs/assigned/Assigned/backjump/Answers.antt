@@ -1,15 +1,21 @@
-use Rattle.std.proofs.Common.{◌∙◌}
-use Rattle.cdcl.proofs.Placements.{levels-jump, root-then, root-shorter}
+use Rattle.std.proofs.Common.{◌∙◌, refl}
+use Rattle.cdcl.proofs.Placements.{levels-jump, cutting-none, cutting-shorter, cut-jump}
 use Rattle.cdcl.proofs.assigned.Assigned.backjump.Goals as goal
 
 pub pop-requires : goal.pop-requires
 pop-requires c = (c.requires.0, c.loop-order.invariant.trail c.requires.0 c.requires.1)
 
+pub loop-order-init : goal.loop-order-init
+loop-order-init c = record {
+  trail = λ clauses t. t;
+  cut = cutting-none c.args.self.now.entries.items c.args.level;
+  room = refl;
+}
+
 pub loop-order-preserved : goal.loop-order-preserved
 loop-order-preserved c = record {
   trail = λ clauses t. c.pop.ensures.trail clauses (c.loop-order.invariant.trail clauses t);
-  root = root-then c.args.self.now.entries.items c.loop-order.self.entries.items c.pop.new.self.entries.items c.loop-order.invariant.root
-      (root-shorter c.loop-order.self.entries.items c.pop.new.self.entries.items c.args.level c.last_level.result c.pop.ensures.shorter c.last_level.ensures c.loop-order-test.true);
+  cut = cutting-shorter c.args.self.now.entries.items c.loop-order.self.entries.items c.pop.new.self.entries.items c.args.level c.last_level.result c.loop-order.invariant.cut c.pop.ensures.shorter c.last_level.ensures c.loop-order-test.true;
   room = c.pop.ensures.room ∙ c.loop-order.invariant.room;
 }
 
@@ -25,3 +31,8 @@ returns-clause-trail c = λ clauses u.
       paired = t.paired;
       small = t.small;
     }
+
+pub returns-clause-cut : goal.returns-clause-cut
+returns-clause-cut c =
+    let t = c.loop-order.invariant.trail c.requires.0 c.requires.1 in
+    cut-jump c.args.self.now.entries.items c.loop-order.self.entries.items c.args.level c.loop-order.self.level c.last_level.result t.have_levels c.loop-order.invariant.cut c.last_level.ensures c.loop-order-test.false

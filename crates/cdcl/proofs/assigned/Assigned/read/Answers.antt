@@ -1,7 +1,5 @@
-use Rattle.std.proofs.Common.{Some, None, ◌≡◌, true, false, take}
 use Rattle.cdcl.specs.Known.{known}
-use Rattle.cdcl.proofs.Readings.{SoFar, read-false, read-first, read-again, read-undecided}
-use Rattle.cnf_core.specs.Equality.{same-true}
+use Rattle.cdcl.proofs.Readings.{read-false, read-first, read-again, read-undecided}
 use Rattle.proof_check.proofs.ReadingLemmas.{same-not_false}
 use Rattle.cdcl.proofs.assigned.Assigned.read.Goals as goal
 use Rattle.cdcl.proofs.assigned.Assigned.read.Goals.{then-not-holds+in-None, then-not-holds+in-Some+else-ne, else-not-holds}
@@ -14,4 +12,4 @@ loop-literal-preserved c = elim c.if-not-holds.branch [
 ]
 
 pub returns-then-ne : goal.returns-then-ne
-returns-then-ne c = read-undecided (known c.args.self.now.taken.items) c.args.clause.now c.loop-literal.literal-index c.loop-literal.candidate c.in-Some.first c.in-Some.is c.loop-literal.invariant
+returns-then-ne c = read-undecided (known c.args.self.now.taken.items) c.args.clause.now c.loop-literal.literal-index c.loop-literal.candidate c.in-Some.first c.literal-item.result c.negated.result c.holds.result c.holds-in-loop-literal.result c.ne.result c.in-Some.is c.loop-literal.invariant c.loop-literal-test.true c.literal-item.is c.if-holds.false c.holds.ensures c.if-not-holds.true c.holds-in-loop-literal.ensures c.negated.ensures c.ne.ensures c.if-ne.true

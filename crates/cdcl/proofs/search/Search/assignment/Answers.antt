@@ -1,5 +1,5 @@
 use Rattle.std.proofs.Common.{arith}
-use Rattle.cdcl.proofs.Assuming.{Valued, satisfied}
+use Rattle.cdcl.proofs.Assuming.{satisfied}
 use Rattle.cdcl.proofs.search.Search.assignment.Goals as goal
 
 pub returns : goal.returns

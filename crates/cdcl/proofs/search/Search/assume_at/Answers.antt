@@ -1,10 +1,11 @@
-use Rattle.std.proofs.Common.{◌≡◌, Some, ap, ◌∙◌, sym}
+use Rattle.std.proofs.Common.{Some, ap, ◌∙◌, sym, refl}
 use Rattle.std.specs.List.{slice_get}
 use Rattle.cdcl.specs.declared.assigned.Entry.{Entry}
 use Rattle.cdcl.specs.declared.clauses.ClauseId.TheVariants.{Assumed}
 use Rattle.cdcl.specs.Known.{known}
 use Rattle.cdcl.proofs.Assuming.{literal-read, known-stands, last-stands, held-next, assumed-conflict, assumed-reason}
-use Rattle.cdcl.proofs.Searching.{held-root}
+use Rattle.cdcl.proofs.Searching.{assumed-next}
+use Rattle.cdcl.proofs.Guarding.{guards-goes}
 use Rattle.cdcl.proofs.search.Search.assume_at.Goals as goal
 
 pub returns-then-holds-clause-search : goal.returns-then-holds-clause-search
@@ -16,6 +17,8 @@ returns-then-holds-clause-search c = λ _.
       learnt = s.learnt;
       trail = s.trail;
       fits = s.fits;
+      learnt_fit = s.learnt_fit;
+      begun = s.begun;
       assumed_fit = s.assumed_fit;
       holds = held-next c.args.index c.args.self.now.clauses.assumed c.args.self.now.trail.entries.items a s.holds at
           (known-stands c.args.self.now.trail.entries.items c.args.self.now.trail.taken.items c.args.self.now.trail.level a s.trail.are_placed s.trail.have_levels c.requires.level (sym c.holds.ensures ∙ c.if-holds.true));
@@ -44,13 +47,20 @@ returns-clause-search c = λ _.
     let a = c.index-as_slice-index.result in
     let e : Entry = record { literal = a; reason = Some (Assumed c.args.index); level = c.args.self.now.trail.level } in
     let at = literal-read c.args.self.now.clauses.assumed c.as_slice.result.now c.args.index a c.as_slice.ensures c.requires.index c.index-as_slice-index.is in
-    let s = c.in_ok-take.ensures.search c.args.index c.requires.search (assumed-reason c.args.self.now.clauses c.args.self.now.trail.entries.items c.args.index c.args.self.now.trail.level a at c.requires.level) (λ none. absurd (cc)) in
+    let s = c.in_ok-take.ensures.search c.args.index c.requires.search (assumed-next c.args.self.now c.args.index e c.requires.search.begun refl refl (assumed-reason c.args.self.now.clauses c.args.self.now.trail.entries.items c.args.index c.args.self.now.trail.level a at c.requires.level (Assumed c.args.index) refl)) in
     record {
       learnt = s.learnt;
       trail = s.trail;
       fits = s.fits;
+      learnt_fit = s.learnt_fit;
+      begun = s.begun;
       assumed_fit = s.assumed_fit;
       holds = held-next c.args.index c.take.new.self.clauses.assumed c.take.new.self.trail.entries.items a s.holds
           (ap (λ t. slice_get t.assumed c.args.index) c.in_ok-take.ensures.clauses ∙ at)
           (last-stands c.args.self.now.trail.entries.items c.take.new.self.trail.entries.items e c.in_ok-take.ensures.entries c.requires.level);
     }
+
+pub returns-clause-guards : goal.returns-clause-guards
+returns-clause-guards c =
+    let e = c.in_ok-take.ensures in
+    guards-goes 0 0 c.args.self.now c.take.new.self (e.goes refl (λ none. absurd (cc))) e.watches c.requires.guards

@@ -1,14 +1,28 @@
-use Rattle.std.proofs.Common.{length}
-use Rattle.cdcl.proofs.Searching.{held-root}
+use Rattle.std.proofs.Common.{ℕ, length, sym, subst, arith, refl}
+use Rattle.cdcl.specs.Trails.{HasDecision}
+use Rattle.cdcl.proofs.Searching.{held-cut}
+use Rattle.cdcl.proofs.Guarding.{guards-cut, begun-cut, level-within, cut-whole}
 use Rattle.cdcl.proofs.search.Search.go_back.Goals as goal
 
 pub returns-clause-ready : goal.returns-clause-ready
 returns-clause-ready c =
-    let s = c.requires in
+    let s = c.requires.ready in
+    let e = c.backjump.ensures in
     record {
       learnt = s.learnt;
-      trail = c.backjump.ensures.trail c.args.self.now.clauses s.trail;
-      fits = rw c.backjump.ensures.room s.fits;
-      assumed_fit = rw c.backjump.ensures.room s.assumed_fit;
-      holds = held-root (length c.args.self.now.clauses.assumed) c.args.self.now.clauses.assumed c.args.self.now.trail.entries.items c.backjump.new.self.entries.items c.backjump.ensures.root s.holds;
+      trail = e.trail c.args.self.now.clauses s.trail;
+      fits = rw e.room s.fits;
+      learnt_fit = rw e.room s.learnt_fit;
+      assumed_fit = rw e.room s.assumed_fit;
+      holds = held-cut (length c.args.self.now.clauses.assumed) c.args.self.now.clauses.assumed c.args.level c.args.self.now.trail.entries.items c.backjump.new.self.entries.items e.cut s.holds;
+      begun = λ one. let P : ℕ → Type 0 = λ n. HasDecision n c.backjump.new.self.entries.items in subst P (sym e.level) (begun-cut c.args.level c.args.self.now.trail.level c.args.self.now.trail.entries.items c.backjump.new.self.entries.items s.trail.have_levels c.requires.level e.cut (omega (arith, e.level)));
     }
+
+pub returns-clause-guards : goal.returns-clause-guards
+returns-clause-guards c =
+    let a = c.args.self.now in
+    let e = c.backjump.ensures in
+    guards-cut c.args.level a _ c.requires.ready e.cut e.level refl refl e.room (level-within c.args.level a c.requires.ready c.requires.level) (omega (arith, c.min-self.ensures, c.len.ensures)) c.requires.guards
+
+pub returns-clause-whole : goal.returns-clause-whole
+returns-clause-whole c = λ less. cut-whole c.args.level c.args.self.now c.backjump.new.self.entries.items c.min-self.result c.requires.guards.ahead c.backjump.ensures.cut less (omega (arith, c.min-self.ensures, c.len.ensures, c.backjump.new.self.entries.ok.0))

@@ -1,7 +1,5 @@
-use Rattle.std.proofs.Common.{◌≡◌, length, map, ◌∙◌, ap, [], refl}
-use Rattle.proof_check.specs.Steps.{Step}
-use Rattle.cdcl.specs.Sources.{numbered}
-use Rattle.cdcl.proofs.Lessons.{Refuting, refuted, refuted-tidy}
+use Rattle.std.proofs.Common.{◌∙◌, refl}
+use Rattle.cdcl.proofs.Lessons.{refuted, refuted-tidy}
 use Rattle.cdcl.proofs.Searching.{reasoned-root}
 use Rattle.cdcl.proofs.search.Search.refute.Goals as goal
 

@@ -1,16 +1,21 @@
-use Rattle.std.proofs.Common.{length}
-use Rattle.cdcl.proofs.Placements.{root-push}
-use Rattle.cdcl.proofs.Searching.{held-root}
-use Rattle.cdcl.specs.declared.assigned.Entry.{Entry}
+use Rattle.std.proofs.Common.{refl}
+use Rattle.cdcl.proofs.Entries.{next-begun, extends-push}
+use Rattle.cdcl.proofs.Searching.{held-more, taken}
 use Rattle.cdcl.proofs.search.Search.take.Goals as goal
 
 pub returns-clause-search : goal.returns-clause-search
-returns-clause-search c = λ held s why decided.
-    let e : Entry = record { literal = c.args.literal; reason = c.args.reason; level = c.args.self.now.trail.level } in
+returns-clause-search c = λ held s next.
+    let e = c.args.entry in
+    let entries = c.args.self.now.trail.entries.items in
     record {
       learnt = s.learnt;
-      trail = c.in_ok-push.ensures.trail c.args.self.now.clauses s.trail why decided;
+      trail = c.in_ok-push.ensures.trail c.args.self.now.clauses s.trail next;
       fits = rw c.in_ok-push.ensures.room s.fits;
+      learnt_fit = rw c.in_ok-push.ensures.room s.learnt_fit;
       assumed_fit = rw c.in_ok-push.ensures.room s.assumed_fit;
-      holds = rw c.in_ok-push.ensures.entries (held-root held c.args.self.now.clauses.assumed c.args.self.now.trail.entries.items _ (root-push c.args.self.now.trail.entries.items e) s.holds);
+      holds = rw c.in_ok-push.ensures.entries (held-more held c.args.self.now.clauses.assumed entries _ (extends-push entries e) s.holds);
+      begun = rw (c.in_ok-push.ensures.entries, c.in_ok-push.ensures.level) (next-begun c.args.self.now.clauses c.args.self.now.trail e next);
     }
+
+pub returns-clause-goes : goal.returns-clause-goes
+returns-clause-goes c = λ level reason. taken c.args.self.now _ c.args.entry c.in_ok-push.ensures.entries refl c.in_ok-push.ensures.room c.in_ok-push.ensures.fewer c.in_ok-push.ensures.level refl level reason

@@ -1,7 +1,5 @@
 use Rattle.std.proofs.Common.{arith}
 use Rattle.std.proofs.lemmas.Option.{slice_get_within}
-use Rattle.cdcl.specs.Known.{known}
-use Rattle.cdcl.proofs.Searching.{true-more}
 use Rattle.cdcl.proofs.search.Search.weigh.Goals as goal
 
 pub returns-in-Implied : goal.returns-in-Implied
