@@ -11,6 +11,7 @@ pub mod Guarding
 pub mod Visiting
 pub mod Jumping
 pub mod Asserting
+pub mod Counting
 pub mod Turning
 pub mod Numbering
 pub mod Lessons

@@ -1,6 +1,8 @@
 -- What the answers of a solver mean.
-use Rattle.std.specs.Prelude.{Bool, List}
+use Rattle.std.specs.Prelude.{◌≤◌, ◌^◌, ℕ, Contains, Bool, List, length}
+use Rattle.cnf_core.specs.Literal.{Literal}
 use Rattle.proof_check.specs.Steps.{Step}
+use Rattle.proof_check.specs.Room.{variables_of}
 use Rattle.cdcl.specs.declared.answer.Answer.{Answer}
 use Rattle.cdcl.specs.declared.answer.Answer.TheVariants.{Sat, Unsat, Spent}
 
@@ -25,3 +27,7 @@ abbrev pub IsSpent : Answer → Type 0
 IsSpent (Sat values) = ⊥
 IsSpent (Unsat refutation) = ⊥
 IsSpent (Spent trail) = Unit {0}
+
+-- at most 3^v over v variables, which a list has that has each variable of the formula
+pub record IsFew (formula : List (List Literal)) (count : ℕ) : Type 0 where
+  pub over : (vars : List ℕ) → ((v : ℕ) → Contains (variables_of formula) v → Contains vars v) → count ≤ 3 ^ length vars

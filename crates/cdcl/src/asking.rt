@@ -10,7 +10,7 @@ ghost use Rattle.cdcl.specs.Tidy.{AreTidy, units};
 ghost use Rattle.proof_check.specs.Steps.{clause_of};
 ghost use Rattle.cdcl.specs.Guards.{Guards};
 ghost use Rattle.cdcl.specs.Searches.{AreLearnt, AreFresh, IsSearch, IsReady, AllTrue, CanRefute};
-ghost use Rattle.cdcl.specs.Answers.{IfSat, IfUnsat, IfSpent, IsSpent};
+ghost use Rattle.cdcl.specs.Answers.{IfSat, IfUnsat, IfSpent, IsSpent, IsFew};
 
 use crate::answer::Answer;
 use crate::assigned::{Assigned, Entry};
@@ -172,6 +172,7 @@ impl Search {
         ensures unsat { IfOk result (λ a. IfUnsat a (λ r. IsRefutation (self.old.clauses.given ++ units self.old.clauses.assumed) r × AreTidy (self.old.clauses.given ++ units self.old.clauses.assumed) r × (length r ≤ conflicts))) }
         ensures spent { IfOk result (λ a. IfSpent a (λ kept steps. IsTrail self.old.clauses.given kept steps × AreTidy self.old.clauses.given kept × AreTidy self.old.clauses.given steps × (length steps ≡ conflicts))) }
         ensures fresh { IfOk result (λ a. IfSpent a (λ kept steps. AreFresh (self.old.clauses.given ++ map clause_of kept) steps)) }
+        ensures few { IfOk result (λ a. IfSpent a (λ kept steps. IsFew self.old.clauses.given conflicts)) }
         ensures given { self.new.clauses.given ≡ self.old.clauses.given }
     {
         let mut restarts = Restarts::new();
@@ -204,6 +205,7 @@ impl Search {
         ensures unsat { IfOk result (λ a. IfUnsat a (λ r. IsRefutation (self.old.clauses.given ++ units assume.now) r × AreTidy (self.old.clauses.given ++ units assume.now) r × (length r ≤ conflicts))) }
         ensures spent { IfOk result (λ a. IfSpent a (λ kept steps. IsTrail self.old.clauses.given kept steps × AreTidy self.old.clauses.given kept × AreTidy self.old.clauses.given steps × (length steps ≡ conflicts))) }
         ensures fresh { IfOk result (λ a. IfSpent a (λ kept steps. AreFresh (self.old.clauses.given ++ map clause_of kept) steps)) }
+        ensures few { IfOk result (λ a. IfSpent a (λ kept steps. IsFew self.old.clauses.given conflicts)) }
         ensures at_once { conflicts ≡ 0 → IfOk result IsSpent }
         ensures given { self.new.clauses.given ≡ self.old.clauses.given }
     {

@@ -4,7 +4,7 @@ ghost use Rattle.proof_check.specs.Refutations.{IsRefutation, IsTrail};
 ghost use Rattle.cdcl.specs.Tidy.{AreTidy, units};
 ghost use Rattle.proof_check.specs.Steps.{clause_of};
 ghost use Rattle.cdcl.specs.Searches.{AreFresh};
-ghost use Rattle.cdcl.specs.Answers.{IfSat, IfUnsat, IfSpent, IsSpent};
+ghost use Rattle.cdcl.specs.Answers.{IfSat, IfUnsat, IfSpent, IsSpent, IsFew};
 
 use crate::answer::{Answer, SolveFault};
 use crate::search::Search;
@@ -70,6 +70,7 @@ impl Solver {
         ensures unsat { IfOk result (λ a. IfUnsat a (λ r. IsRefutation (self.old ++ units assume.now) r × AreTidy (self.old ++ units assume.now) r × (length r ≤ conflicts))) }
         ensures spent { IfOk result (λ a. IfSpent a (λ kept steps. IsTrail self.old kept steps × AreTidy self.old kept × AreTidy self.old steps × (length steps ≡ conflicts))) }
         ensures fresh { IfOk result (λ a. IfSpent a (λ kept steps. AreFresh (self.old ++ map clause_of kept) steps)) }
+        ensures few { IfOk result (λ a. IfSpent a (λ kept steps. IsFew self.old conflicts)) }
         ensures at_once { conflicts ≡ 0 → IfOk result IsSpent }
         ensures clauses { self.new ≡ self.old }
     {
