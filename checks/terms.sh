@@ -2,7 +2,8 @@
 # Asks what terms are worth, by their clauses and the solver, and compares that with Python's integers (terms.py); then
 # the clauses of adders and multipliers with those of the circuits of solver_instances.c, which are made by hand.
 #
-#     checks/terms.sh [PROGRAM [SHARE]]      one row in SHARE is asked, 16 where none is given: all of them take long
+#     checks/terms.sh [PROGRAM [SHARE]]      one row in SHARE is asked, all where none is given: a trial program takes
+#                                            long for these
 set -u
 cd "$(dirname "$0")/.." || exit 2
 if ! command -v cc >/dev/null || ! command -v python3 >/dev/null; then
@@ -13,7 +14,7 @@ program=${1:-$(tools/program.sh term_rows)} || exit 1
 folder=$(mktemp -d)
 trap 'rm -rf "$folder"' EXIT
 failed=0
-python3 checks/terms.py "$program" "${2:-16}" || failed=1
+python3 checks/terms.py "$program" "${2:-1}" || failed=1
 
 # The circuits by hand, of which each has its number of clauses in the head of its file.
 cc -std=gnu99 -O1 -w -o "$folder/instances" checks/solver_instances.c || exit 1
