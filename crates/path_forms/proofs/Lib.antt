@@ -3,7 +3,6 @@ pub mod Outcomes
 pub mod SideLemmas
 pub mod Evaluated
 pub mod Located
-pub mod OperatorLemmas
 pub mod Started
 pub mod WaitLemmas
 pub mod CallLemmas

@@ -1,5 +1,6 @@
 pub mod Operands
 pub mod Exits
+pub mod Operators
 pub mod Leaves
 pub mod Memories
 pub mod Branches

@@ -1,4 +1,4 @@
-use core_tree::{Access, Arithmetic, Turning, ValueType, WordType};
+use core_tree::{Access, Operator, Turning, ValueType, WordType};
 
 /// What an expression does with the values of its parts. `at` is the byte offset of a token in the source.
 #[derive(Clone, Copy, Debug, PartialEq, Eq)]
@@ -27,11 +27,10 @@ pub enum Leaf {
         operator: Turning,
         word: WordType,
     },
-    /// An operator on two numbers in an integer type.
-    Numbers {
+    /// An operator on the values of two operands.
+    Operate {
         at: u32,
-        operator: Arithmetic,
-        word: WordType,
+        operator: Operator,
     },
     /// The scalar that stands at an address.
     Load {
