@@ -33,7 +33,7 @@ const DISTANCE: WordType = WordType {
 const NO_SIZE: u64 = 0x1_0000_0000;
 
 /// An operator's answer, unless the run leaves by one of two exits.
-#[derive(Clone, Copy, Debug, PartialEq, Eq)]
+#[derive(Clone, Copy)]
 pub(crate) struct Operated {
     pub number: Number,
     pub first: Option<Exit>,
