@@ -133,6 +133,7 @@ moved_by s at a size back z d small here = by (is_near size z) refl
   where
     to : ℤ
     to = pos a +ℤ directed back z *ℤ pos size
+
     by : (c : Bool) → is_near size z ≡ c
         → cond (c && in_one_object s a (address to)) (found (pos (address to)) d) (stop at PointerRange d)
         ≡ moved_to at a to d

@@ -265,13 +265,7 @@ fn ordered(
 {
     let together = are_together(bank, memory, left, right)?;
     let tested = worked(bank, ordering(relation), ADDRESS, left, right)?;
-    let operated = where_so(
-        bank,
-        at,
-        Undefined::PointerOrder,
-        together,
-        tested.number,
-    )?;
+    let operated = where_so(bank, at, Undefined::PointerOrder, together, tested.number)?;
     Ok(operated)
 }
 
