@@ -11,6 +11,7 @@ use Rattle.printf_text.specs.declared.piece.Conversion.{Conversion}
 use Rattle.printf_text.specs.declared.piece.Piece.{Piece}
 use Rattle.printf_text.specs.declared.piece.Piece.TheVariants.{Literal, Converted}
 use Rattle.format_match.specs.Splits.{begins, meet_all, Spells, IsMet}
+use Rattle.format_match.specs.Reaches.{Reaches}
 use Rattle.format_match.specs.Ways.{met_ends, Describes, Adds, here}
 use Rattle.format_match.specs.Spelled.{IsSpelled, IsPieceSpelled}
 use Rattle.format_match.specs.Beginning.{is_marked, IsBegun, IsPrinted, Leads, IsSpelledOn, LeadExactly, AreOnward}
@@ -105,13 +106,13 @@ not_led_more c rest marks least from n b e w i k h l m p = elim (cases_eq k n) [
     less k l d = omega arith
 
 pub converts_not : (c : Conversion) (log : List ℕ) (marks : List Bool) (least from most n : ℕ) → most < n
-    → ((args : List Arg) → begins (conversion_text c args) (drop from log) ≡ true → length (conversion_text c args) ≤ most)
+    → Reaches c (drop from log) most
     → IsNotLed c (drop from log) marks least from n → Leads (Converted c) log marks least from → ⊥
 converts_not c log marks least from most n h r none l =
     let s = l.spelled in
     let t = conversion_text c s.args in
     let last : from + length t ≡ l.end = spells_end t log from l.end s.spells in
-    let long : length t ≤ most = r s.args (spells_begins t log from l.end s.spells) in
+    let long : length t ≤ most = r s.args s.have (spells_begins t log from l.end s.spells) in
     let back : l.end - from ≡ length t = omega arith in
     none (length t) (omega (arith, l.long)) (omega arith) (ap (is_marked marks) last ∙ l.marked)
     (record { args = s.args; have = s.have; prints = s.spells.is ∙ ap (λ n. take n (drop from log)) back })

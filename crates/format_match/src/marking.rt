@@ -102,10 +102,10 @@ fn stands(bytes: &Bytes, log: &[u8], from: usize, least: usize, marks: &[bool]) 
     if bytes.len() < least {
         return false;
     }
-    if !begins(bytes.as_slice(), log.split_at(from).1) {
+    if !is_marked(marks, from + bytes.len()) {
         return false;
     }
-    is_marked(marks, from + bytes.len())
+    begins(bytes.as_slice(), log.split_at(from).1)
 }
 
 /// Whether a piece spells so many bytes at least from a position on, and ends at a mark.

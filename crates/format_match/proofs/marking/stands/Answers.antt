@@ -11,20 +11,19 @@ returns-then-len-least c =
     is_not (Leads (Literal a.bytes.now) a.log.now a.marks.now a.least a.from)
     (λ l. omega (arith, (stands_back a.bytes.now a.log.now a.marks.now a.least a.from l).long, c.len.ensures, c.if-len-least.true))
 
-pub returns-then-not-begins : goal.returns-then-not-begins
-returns-then-not-begins c =
+pub returns-then-not-is_marked : goal.returns-then-not-is_marked
+returns-then-not-is_marked c =
     let a = c.args in
-    let e : begins a.bytes.now (drop a.from a.log.now) ≡ false =
-    ap (begins a.bytes.now) (sym c.split_at.ensures.back) ∙ ap (λ t. begins t c.split_at.result.1.now) (sym c.as_slice.ensures) ∙ sym c.begins.ensures ∙ c.if-not-begins.true in
+    let e : is_marked a.marks.now (a.from + length a.bytes.now) ≡ false = ap (λ n. is_marked a.marks.now (a.from + n)) (sym c.len-2.ensures) ∙ sym c.is_marked.ensures ∙ c.if-not-is_marked.true in
     is_not (Leads (Literal a.bytes.now) a.log.now a.marks.now a.least a.from)
-    (λ l. differ (begins a.bytes.now (drop a.from a.log.now)) e (stands_back a.bytes.now a.log.now a.marks.now a.least a.from l).begins_so)
+    (λ l. differ (is_marked a.marks.now (a.from + length a.bytes.now)) e (stands_back a.bytes.now a.log.now a.marks.now a.least a.from l).marked)
 
 pub returns : goal.returns
 returns c =
     let a = c.args in
-    let e : begins a.bytes.now (drop a.from a.log.now) ≡ true =
-    ap (begins a.bytes.now) (sym c.split_at.ensures.back) ∙ ap (λ t. begins t c.split_at.result.1.now) (sym c.as_slice.ensures) ∙ sym c.begins.ensures ∙ c.if-not-begins.false in
-    let m : c.is_marked.result ≡ is_marked a.marks.now (a.from + length a.bytes.now) = c.is_marked.ensures ∙ ap (λ n. is_marked a.marks.now (a.from + n)) c.len-2.ensures in (
-      λ t. stands_there a.bytes.now a.log.now a.marks.now a.least a.from c.requires (omega (arith, c.len.ensures, c.if-len-least.false)) e (sym m ∙ t),
-      λ l. m ∙ (stands_back a.bytes.now a.log.now a.marks.now a.least a.from l).marked,
+    let m : is_marked a.marks.now (a.from + length a.bytes.now) ≡ true = ap (λ n. is_marked a.marks.now (a.from + n)) (sym c.len-2.ensures) ∙ sym c.is_marked.ensures ∙ c.if-not-is_marked.false in
+    let b : c.begins.result ≡ begins a.bytes.now (drop a.from a.log.now) =
+    c.begins.ensures ∙ ap (λ t. begins t c.split_at.result.1.now) c.as_slice.ensures ∙ ap (begins a.bytes.now) c.split_at.ensures.back in (
+      λ t. stands_there a.bytes.now a.log.now a.marks.now a.least a.from c.requires (omega (arith, c.len.ensures, c.if-len-least.false)) (sym b ∙ t) m,
+      λ l. b ∙ (stands_back a.bytes.now a.log.now a.marks.now a.least a.from l).begins_so,
     )
