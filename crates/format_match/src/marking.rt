@@ -99,13 +99,14 @@ fn stands(bytes: &Bytes, log: &[u8], from: usize, least: usize, marks: &[bool]) 
     requires { from ≤ length log.now }
     ensures { (result ≡ true) ↔ Leads (Piece.Literal bytes.now) log.now marks.now least from }
 {
-    if bytes.len() < least {
+    let text = bytes.as_slice();
+    if text.len() < least {
         return false;
     }
-    if !is_marked(marks, from + bytes.len()) {
+    if !is_marked(marks, from + text.len()) {
         return false;
     }
-    begins(bytes.as_slice(), log.split_at(from).1)
+    begins(text, log.split_at(from).1)
 }
 
 /// Whether a piece spells so many bytes at least from a position on, and ends at a mark.
