@@ -10,13 +10,13 @@ use Rattle.bit_words.specs.Words.{bits, word, signed}
 use Rattle.bit_words.specs.declared.width.Width.{Width}
 use Rattle.bit_words.specs.declared.width.Width.TheVariants.{W8, W16, W32, W64}
 use Rattle.bit_words.proofs.WordLaws.{word_below}
-use Rattle.printf_text.specs.Texts.{HasKind, HaveKinds, base, digits, digits_wanted, sign_of, signed_parts, unsigned_parts, marked, with_zero, number_of, parts, first, size_of, size_kinds, form_kind, conversion_kinds, conversion_text, text_bytes, fills_zeros}
+use Rattle.printf_text.specs.Texts.{HasKind, HaveKinds, base, digits, digits_wanted, sign_of, unsigned_parts, with_zero, number_of, parts, first, size_of, size_kinds, form_kind, text_bytes, fills_zeros}
 use Rattle.printf_text.specs.declared.kind.Kind.{Kind}
 use Rattle.printf_text.specs.declared.piece.Arg.{Arg}
 use Rattle.printf_text.specs.declared.piece.Arg.TheVariants as arg
 use Rattle.printf_text.specs.declared.piece.Conversion.{Conversion}
 use Rattle.printf_text.specs.declared.piece.Flags.{Flags}
-use Rattle.printf_text.specs.declared.piece.Form.TheVariants.{Signed, Unsigned, Char, Text, Pointer}
+use Rattle.printf_text.specs.declared.piece.Form.TheVariants.{Char, Text, Pointer}
 use Rattle.printf_text.specs.declared.piece.Radix.{Radix}
 use Rattle.printf_text.specs.declared.piece.Radix.TheVariants.{Decimal, Octal, LowerHex, UpperHex}
 use Rattle.printf_text.specs.declared.piece.Size.{Size}
