@@ -262,9 +262,9 @@ module _ (p : Piece) (ps : List Piece) (log : List ℕ) (any some : List Bool) (
                 spelled = f'.front;
               }))
               | inr h ↦ (let same : f'.mid ≡ from = omega (arith, f'.front.spells.ordered, h) in
-                or_right (is_marked on from) (passes && is_marked some from)
-                (and_from passes (is_marked some from) (f.1 (empty_there from f'.mid h f'.front))
-                ((o.some_are from).1 (record { end = s.end; long = s.long; spelled = subst (λ m. IsSpelled ps log m s.end) same f'.back }))))
+                  or_right (is_marked on from) (passes && is_marked some from)
+                  (and_from passes (is_marked some from) (f.1 (empty_there from f'.mid h f'.front))
+                  ((o.some_are from).1 (record { end = s.end; long = s.long; spelled = subst (λ m. IsSpelled ps log m s.end) same f'.back }))))
             ],
           )
 

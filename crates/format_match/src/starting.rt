@@ -27,7 +27,8 @@ fn at_the_end(alloc: Global, log: &[u8]) -> Result<Onward, AllocError>
     Ok(Onward { any, some })
 }
 
-/// With a piece in front of others. Where it spells a byte, anything may follow; where it spells none, what follows isn't empty.
+/// With a piece in front of others. Where it spells a byte, anything may follow; where it spells none, what follows
+/// isn't empty.
 fn with_piece(
     alloc: Global,
     piece: &Piece,
