@@ -1,12 +1,13 @@
 //! How many bytes of a log a conversion can take at most.
 ghost use Rattle.std.specs.Prelude.{◌≡◌, ◌≤◌, ◌&&◌, ◌||◌, ◌==◌, nat_le, ℕ, List, true, false, length, IfSome};
 ghost use Rattle.std.specs.List.{list_any};
-ghost use Rattle.printf_text.specs.Texts.{conversion_text};
+ghost use Rattle.printf_text.specs.Texts.{HaveKinds, conversion_kinds, conversion_text};
 ghost use Rattle.printf_text.specs.declared.piece.Arg.{Arg};
 ghost use Rattle.format_match.specs.Splits.{begins};
-ghost use Rattle.format_match.specs.Reaches.{is_numeric, is_numeral, is_other, IsWidest, IsLongest};
+ghost use Rattle.format_match.specs.Reaches.{is_numeric, is_hex, is_mark, is_numeral, is_other, HasMostDigits, IsWidest, IsLongest, IsLongestNumber, IsLongestField, Reaches};
 
-use printf_text::{Conversion, Form, Size};
+use bit_words::Width;
+use printf_text::{Conversion, Form, Radix, Size};
 
 /// Whether a form prints a number or a pointer.
 fn is_numeric(form: Form) -> bool
@@ -18,31 +19,46 @@ fn is_numeric(form: Form) -> bool
     }
 }
 
-/// Whether a byte can stand in the text of a number or a pointer.
-fn is_numeral(byte: u8) -> bool
-    ensures { result ≡ is_numeral byte }
+/// Whether a byte is a letter from this `a` on that is a hexadecimal digit, or this `x`.
+fn is_hex(byte: u8, a: u8, x: u8) -> bool
+    requires { a ≤ 97 }
+    ensures { result ≡ is_hex byte a x }
 {
-    b' ' <= byte && byte <= b'9'
-        || b'A' <= byte && byte <= b'F'
-        || byte == b'X'
-        || b'a' <= byte && byte <= b'f'
-        || byte == b'i'
-        || byte == b'l'
-        || byte == b'n'
-        || byte == b'x'
+    a <= byte && byte <= a + 5 || byte == x
 }
 
-/// How many bytes stand before the first one that stands in the text of no number.
-fn numerals(rest: &[u8]) -> usize
-    ensures within { result ≤ length rest.now }
-    ensures before { (t : List ℕ) → begins t rest.now ≡ true → list_any is_other t ≡ false → length t ≤ result }
+/// Whether a byte is a sign, a letter or a bracket that can stand in the text of a form.
+fn is_mark(form: Form, byte: u8) -> bool
+    ensures { result ≡ is_mark form byte }
 {
-    'bytes: for len in 0..rest.len() {
-        if !is_numeral(rest[len]) {
+    match form {
+        Form::Signed(_) => byte == b'+' || byte == b'-',
+        Form::Unsigned(Radix::LowerHex, _) => is_hex(byte, b'a', b'x'),
+        Form::Unsigned(Radix::UpperHex, _) => is_hex(byte, b'A', b'X'),
+        Form::Pointer => is_hex(byte, b'a', b'x') || b"()iln".contains(&byte),
+        Form::Unsigned(_, _) | Form::Char | Form::Text => false,
+    }
+}
+
+/// Whether a byte can stand in the text of a number or a pointer of this form.
+fn is_numeral(form: Form, byte: u8) -> bool
+    ensures { result ≡ is_numeral form byte }
+{
+    byte == b' ' || b'0' <= byte && byte <= b'9' || is_mark(form, byte)
+}
+
+/// How many of so many bytes stand before the first one that stands in no text of the form.
+fn numerals(form: Form, rest: &[u8], most: usize) -> usize
+    requires { most ≤ length rest.now }
+    ensures within { result ≤ most }
+    ensures before { (t : List ℕ) → begins t rest.now ≡ true → list_any (is_other form) t ≡ false → length t ≤ most → length t ≤ result }
+{
+    'bytes: for len in 0..most {
+        if !is_numeral(form, rest[len]) {
             return len;
         }
     }
-    rest.len()
+    most
 }
 
 /// The width of a field, where no `*` gives it.
@@ -56,45 +72,75 @@ fn widest(width: Size) -> Option<usize>
     }
 }
 
-/// The most bytes of a character, or of a text that a written precision cuts.
+/// The most digits of a word, which base 8 gives.
+fn most_digits(width: Width) -> usize
+    ensures digits { HasMostDigits width result }
+    ensures some { 1 ≤ result }
+    ensures small { result ≤ 22 }
+{
+    match width {
+        Width::W8 => 3,
+        Width::W16 => 6,
+        Width::W32 => 11,
+        Width::W64 => 22,
+    }
+}
+
+/// The most bytes of an integer beside its padding: digits, and a sign, `0x` or the `0` that `#` puts before them.
+fn longest_number(width: Width, precision: Size) -> Option<usize>
+    ensures { IfSome result (λ n. IsLongestNumber width precision n) }
+{
+    let digits = most_digits(width);
+    match precision {
+        Size::Omitted => Some(digits + 2),
+        Size::Written(n) => Some(digits.max(n as usize) + 2),
+        Size::Star => None,
+    }
+}
+
+/// The most bytes of a text beside its padding, where they are limited.
 fn longest(form: Form, precision: Size) -> Option<usize>
     ensures { IfSome result (λ n. IsLongest form precision n) }
 {
     match form {
+        Form::Signed(width) | Form::Unsigned(_, width) => longest_number(width, precision),
         Form::Char => Some(1),
         Form::Text => match precision {
             Size::Written(n) => Some(n as usize),
             Size::Omitted | Size::Star => None,
         },
-        Form::Signed(_) | Form::Unsigned(_, _) | Form::Pointer => None,
+        Form::Pointer => Some(18),
     }
 }
 
 /// The most bytes of a field, where neither its width nor its text is open.
 fn field(c: &Conversion) -> Option<usize>
-    ensures { IfSome result (λ n. (args : List Arg) → length (conversion_text c.now args) ≤ n) }
+    ensures { IfSome result (λ n. IsLongestField c.now n) }
 {
     let width = widest(c.width)?;
     let text = longest(c.form, c.precision)?;
-    if width < text {
-        return Some(text);
+    Some(width.max(text))
+}
+
+/// How many bytes from here on a field can take at most.
+fn field_within(c: &Conversion, rest: &[u8]) -> usize
+    ensures within { result ≤ length rest.now }
+    ensures reached { Reaches c.now rest.now result }
+{
+    match field(c) {
+        Some(most) => most.min(rest.len()),
+        None => rest.len(),
     }
-    Some(width)
 }
 
 /// The most bytes from here on that a conversion can take.
 pub fn reach(c: &Conversion, rest: &[u8]) -> usize
     ensures within { result ≤ length rest.now }
-    ensures reached { (args : List Arg) → begins (conversion_text c.now args) rest.now ≡ true → length (conversion_text c.now args) ≤ result }
+    ensures reached { Reaches c.now rest.now result }
 {
+    let most = field_within(c, rest);
     if is_numeric(c.form) {
-        return numerals(rest);
+        return numerals(c.form, rest, most);
     }
-    let Some(most) = field(c) else {
-        return rest.len();
-    };
-    if most < rest.len() {
-        return most;
-    }
-    rest.len()
+    most
 }
