@@ -1,11 +1,11 @@
 //! What questions for objects lead to, by the memory's last change.
 ghost use Rattle.std.specs.Prelude.{◌≡◌, IfOk, Some, slice_get};
 ghost use Rattle.term_bank.specs.Banks.{IsBank};
-ghost use Rattle.term_bank.specs.Shapes.{Each, IsNode, IsWell};
+ghost use Rattle.term_bank.specs.Shapes.{Each, IsNode, memory as memory_node};
 ghost use Rattle.term_bank.specs.Values.{Grows};
 ghost use Rattle.term_bank.specs.declared.shape.Shape.TheVariants.{Entry, Initial, Made, Ended};
 ghost use Rattle.flat_reads.specs.Choices.{IsChoice};
-ghost use Rattle.flat_reads.specs.Objects.{asked_of, operands};
+ghost use Rattle.flat_reads.specs.Objects.{IsEarlier, asked_of, operands};
 
 use crate::choices::{Choice, Found, certain};
 use crate::earlier::asked_object;
@@ -73,7 +73,7 @@ fn kept(
     old: u32,
 ) -> Result<Choice, BankFault>
     requires bank { IsBank bank.old }
-    requires well { IsWell bank.old (asked_of memory question) }
+    requires operands { Each (IsNode bank.old) (operands question) }
     requires old { IsEarlier bank.old question memory old }
     ensures choice { IfOk result (IsChoice bank.new (asked_of memory question)) }
     ensures grows { Grows bank.old bank.new }
@@ -99,7 +99,8 @@ fn initial(bank: &mut Bank, memory: u32, question: ObjectQuestion) -> Result<Cho
 /// The question of the entry memory: it is left.
 fn entry(bank: &mut Bank, memory: u32, question: ObjectQuestion) -> Result<Choice, BankFault>
     requires memory { slice_get bank.old memory ≡ Some Entry }
-    requires well { IsWell bank.old (asked_of memory question) }
+    requires stands { IsNode bank.old (memory_node memory) }
+    requires operands { Each (IsNode bank.old) (operands question) }
     ensures choice { IfOk result (IsChoice bank.new (asked_of memory question)) }
     ensures grows { Grows bank.old bank.new }
     ensures bank { IsBank bank.new }
@@ -115,7 +116,8 @@ pub(crate) fn object_choice(
     question: ObjectQuestion,
 ) -> Result<Choice, BankFault>
     requires bank { IsBank bank.old }
-    requires well { IsWell bank.old (asked_of memory question) }
+    requires memory { IsNode bank.old (memory_node memory) }
+    requires operands { Each (IsNode bank.old) (operands question) }
     ensures choice { IfOk result (IsChoice bank.new (asked_of memory question)) }
     ensures grows { Grows bank.old bank.new }
     ensures bank { IsBank bank.new }
