@@ -36,4 +36,4 @@ returns-in-Some-Made c =
 pub returns-in-Some-Ended : goal.returns-in-Some-Ended
 returns-in-Some-Ended c =
     let w = c.in-Some-Ended in
-    earlier_ended c.args.bank.now c.args.question c.args.memory w.old w.object w.ensures.bank (sym w.ensures.shape ∙ ap (λ t. Some t) w.field-0-is) (c.if-asks_other-2.ensures c.if-asks_other-2.true)
+    earlier_ended c.args.bank.now c.args.question c.args.memory w.old w.object w.ensures.bank (sym w.ensures.shape ∙ ap (λ t. Some t) w.field-0-is) (c.asks_other-in-Ended-1.ensures c.if-asks_other-2.true)

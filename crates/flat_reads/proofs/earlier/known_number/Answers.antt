@@ -1,4 +1,4 @@
-use Rattle.flat_reads.proofs.ObjectLemmas.{numbered_live, numbered_kind, numbered_size}
+use Rattle.flat_reads.proofs.ObjectLemmas.{numbered_kind, numbered_size}
 use Rattle.flat_reads.proofs.earlier.known_number.Goals as goal
 
 pub returns-in-Kind : goal.returns-in-Kind

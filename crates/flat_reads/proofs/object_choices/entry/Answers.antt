@@ -1,4 +1,4 @@
-use Rattle.std.proofs.Common.{subst, sym, ap, ◌∙◌, ◌≡◌}
+use Rattle.std.proofs.Common.{subst, sym, ap, ◌∙◌}
 use Rattle.term_bank.specs.Shapes.{IsWell, sort_of}
 use Rattle.term_bank.specs.Values.{IsWorth}
 use Rattle.term_bank.specs.Under.{IsOver}
