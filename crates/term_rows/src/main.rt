@@ -12,6 +12,7 @@
 mod asking;
 mod blasting;
 mod chains;
+mod memories;
 mod names;
 mod solving;
 mod terms;
