@@ -1,14 +1,13 @@
 -- What is asked of objects, and of which memory.
-use Rattle.std.proofs.Common.{◌≡◌, ◌<◌, ◌+◌, ◌/◌, ◌%◌, ◌^◌, ◌∷◌, [], ℕ, List, Some, None, Bool, true, false, arith, refl, sym, ap, subst, ◌∙◌, cond}
+use Rattle.std.proofs.Common.{◌≡◌, ◌<◌, ◌/◌, ◌^◌, ◌∷◌, [], ℕ, List, Some, None, Bool, true, false, arith, refl, sym, ap, subst, ◌∙◌, cond}
 use Rattle.std.specs.Prelude.{slice_get, nat_eq, Option, IfSome, Result, Ok, Err, IfOk}
-use Rattle.bit_words.specs.Words.{bits}
 use Rattle.bit_words.specs.declared.width.Width.{Width}
 use Rattle.bit_words.specs.declared.width.Width.TheVariants.{W64}
 use Rattle.c_store.specs.declared.object.Object.{Object}
 use Rattle.c_store.specs.declared.object.ObjectKind.{ObjectKind}
 use Rattle.term_bank.specs.declared.bank.BankFault.{BankFault}
 use Rattle.term_bank.specs.declared.sort.Sort.{Sort}
-use Rattle.term_bank.specs.declared.sort.Sort.TheVariants.{Truth, Word, Memory}
+use Rattle.term_bank.specs.declared.sort.Sort.TheVariants.{Truth}
 use Rattle.term_bank.specs.declared.sort.Node.{Node}
 use Rattle.term_bank.specs.declared.shape.Shape.{Shape}
 use Rattle.term_bank.specs.declared.shape.Shape.TheVariants.{Constant, Entry, Initial, Choose, Write, ZeroRange, CopyRange, Made, Ended}
@@ -17,7 +16,7 @@ use Rattle.term_bank.specs.Folds.{IsConstant}
 use Rattle.term_bank.specs.Memories.{lay, write, zero_range, copy_range}
 use Rattle.term_bank.specs.Shapes.{Each, IsNode, IsWell, memory, word, parts, sort_of}
 use Rattle.term_bank.specs.Terms.{IsTerm}
-use Rattle.term_bank.specs.Under.{IsOnly, IsOver, IsUnder}
+use Rattle.term_bank.specs.Under.{IsOnly, IsOver}
 use Rattle.term_bank.specs.Values.{Environment, Worth, Values, Models, Grows, IsWorth, worth, of_truth}
 use Rattle.term_bank.proofs.BankLemmas.{weaken, grows_on}
 use Rattle.term_bank.proofs.OverLemmas.{only_below}
@@ -27,7 +26,7 @@ use Rattle.flat_reads.specs.declared.choices.Choice.{Choice}
 use Rattle.flat_reads.specs.declared.objects.ObjectQuestion.{ObjectQuestion}
 use Rattle.flat_reads.specs.declared.objects.ObjectQuestion.TheVariants.{Live, Kind, Size}
 use Rattle.flat_reads.specs.Flats.{IsHonest, IsFlatOver, HasWorth, is_flat}
-use Rattle.flat_reads.specs.Choices.{IsAsked, IsFound, IsChoice, Leads, found_worth, rank}
+use Rattle.flat_reads.specs.Choices.{IsFound, IsChoice, Leads, found_worth, rank}
 use Rattle.flat_reads.specs.Answers.{IsAnswer, IsAskable}
 use Rattle.flat_reads.specs.Flattened.{IsFlattened}
 use Rattle.flat_reads.specs.Objects.{asked_of, operands, sort_in, object_in, told, IsNumbered, AsksOther, HasSameObject, IsEarlier, AsksObject, IsSet}

@@ -1,5 +1,5 @@
 -- What the nodes are worth that tell of an object.
-use Rattle.std.proofs.Common.{◌≡◌, ◌<◌, ◌≤◌, ◌+◌, ◌-◌, ◌%◌, ◌^◌, ◌∷◌, [], ℕ, List, Some, Bool, true, false, arith, refl, sym, ap, subst, ◌∙◌, cond}
+use Rattle.std.proofs.Common.{◌≡◌, ◌<◌, ◌≤◌, ◌+◌, ◌-◌, ◌%◌, ◌^◌, ◌∷◌, [], ℕ, List, Some, Bool, true, false, arith, refl, sym, ap, subst, ◌∙◌}
 use Rattle.std.specs.Prelude.{Ok, Result, not, nat_eq, nat_le, nat_lt, ◌||◌}
 use Rattle.std.proofs.lemmas.Bool.Decides.{nat_tests}
 use Rattle.std.proofs.lemmas.Nat.{and_mask}
@@ -18,7 +18,7 @@ use Rattle.term_bank.specs.declared.shape.Shape.{Shape}
 use Rattle.term_bank.specs.Banks.{IsBank}
 use Rattle.term_bank.specs.Memories.{distance}
 use Rattle.term_bank.specs.Shapes.{Each, IsNode, word}
-use Rattle.term_bank.specs.Values.{Environment, Values, Models, Grows, connected, of_truth, of_word, outcome_of, result_of}
+use Rattle.term_bank.specs.Values.{Grows, connected, of_truth, of_word, outcome_of, result_of}
 use Rattle.term_bank.proofs.BankLemmas.{node_grown, stays}
 use Rattle.term_bank.proofs.BindingLemmas.{node_sorted}
 use Rattle.term_bank.proofs.Worth.{each}
