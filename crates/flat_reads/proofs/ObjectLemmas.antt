@@ -216,8 +216,10 @@ leads_none old shapes m q node g is term flat h = record {
 -- a question of the entry memory is left
 pub leads_left : (old shapes : List Shape) (m : ℕ) (q : ObjectQuestion) (node : Node) → Grows old shapes → slice_get old m ≡ Some Entry → IsNode shapes node → node.sort ≡ sort_of (asked_of m q) → IsWorth shapes (asked_of m q) node → IsOver shapes (asked_of m q) node → Leads shapes (asked_of m q) (Known node)
 leads_left old shapes m q node g is stands sort h over = record {
-  found_stands = known_found shapes m q node (term_of shapes (sort_in q) node stands (sort ∙ sort_is m q)) (record { flat = λ l k t x.
-      over.under l k (is_flat t) (λ b. refl) (λ y w. refl) (flat_is t m q ∙ (only_below (is_flat t) l m Entry (k.kept m Entry (g.kept m Entry is)) x.0).0) (subst (Each (λ p. IsOnly (is_flat t) l p.index)) (sym (parts_of m q)) x) });
+  found_stands = known_found shapes m q node (term_of shapes (sort_in q) node stands (sort ∙ sort_is m q)) (record {
+    flat = λ l k t x.
+        over.under l k (is_flat t) (λ b. refl) (λ y w. refl) (flat_is t m q ∙ (only_below (is_flat t) l m Entry (k.kept m Entry (g.kept m Entry is)) x.0).0) (subst (Each (λ p. IsOnly (is_flat t) l p.index)) (sym (parts_of m q)) x);
+  });
   value = λ e v honest t. sym (h.is e v t);
 }
 

@@ -21,19 +21,11 @@ use term_bank::{Bank, BankFault, Connective, Node, Shape, Sort, WordOperator, Wo
 #[derive(Clone, Copy, Debug, PartialEq, Eq)]
 pub enum ObjectQuestion {
     /// Whether so many bytes from an address on are of its object, and it lives.
-    Live {
-        address: u32,
-        length: u32,
-    },
+    Live { address: u32, length: u32 },
     /// Whether it lives and is of this kind.
-    Kind {
-        kind: ObjectKind,
-        object: u32,
-    },
+    Kind { kind: ObjectKind, object: u32 },
     /// Its size in bytes, 0 where it doesn't live.
-    Size {
-        object: u32,
-    },
+    Size { object: u32 },
 }
 
 impl ObjectQuestion {
@@ -192,10 +184,7 @@ pub(crate) fn told_of(
 }
 
 /// What is told where no object of the number lives.
-pub(crate) fn told_of_none(
-    bank: &mut Bank,
-    question: ObjectQuestion,
-) -> Result<Node, BankFault>
+pub(crate) fn told_of_none(bank: &mut Bank, question: ObjectQuestion) -> Result<Node, BankFault>
     ensures { Gives bank.old bank.new [] (sort_in question) (λ v. told v question None) result }
 {
     match question {
