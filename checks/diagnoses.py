@@ -1,7 +1,7 @@
 #!/usr/bin/env python3
-"""Diagnoses random programs of integers along logs that one of their own runs prints: `diagnoses.py PROGRAM COUNT [SEED]`.
+"""Diagnoses random programs of integers, arrays and pointers along logs that one of their own runs prints: `diagnoses.py PROGRAM COUNT [SEED]`.
 
-Each program has loops, calls, a `switch`, answers from outside and operators that may be undefined. A random world is
+Each program has loops, calls, a `switch`, arrays, pointers, answers from outside, and operators and indices that may be undefined. A random world is
 replayed, and what it prints is the log. The diagnosis must find a run. Each world that it lists is replayed in turn, and
 must print exactly the log. What holds on these runs and on that of the random world must agree with the verdicts: no must
 fails and no mustnot holds, and a may fact holds in its first world and not in its second. The facts of a run's end
@@ -59,6 +59,20 @@ class Program:
         self.put(f'{kind} {name} = {self.value(1)};')
         self.names.append((kind, name))
 
+    def declare_array(self):
+        kind, size = self.pick(KINDS), self.random.randrange(2, 5)
+        self.count += 1
+        name = f'a{self.count}'
+        self.put(f'{kind} {name}[{size}] = {{ {self.value(0)}, {self.value(0)} }};')
+        places = [f'{name}[{self.random.randrange(size)}]', f'*({name} + {size - 1})', f'{name}[{self.pick(["ask", "ext"])}() & 3]']
+        self.names += [(kind, place) for place in places]
+
+    def declare_pointer(self):
+        kind, place = self.pick(self.names)
+        self.count += 1
+        self.put(f'{kind} *p{self.count} = &{place};')
+        self.names.append((kind, f'*p{self.count}'))
+
     def print(self):
         kind, name = self.pick(self.names) if self.names else ('int', '1')
         self.put(f'printf("{self.pick(["at", "got", "is"])} {PRINTED[kind]}\\n", {name});')
@@ -73,8 +87,10 @@ class Program:
 
     def statement(self, height):
         kind = self.random.randrange(12)
-        if kind < 3 or not self.names:
+        if not self.names:
             self.declare()
+        elif kind < 3:
+            self.pick([self.declare, self.declare, self.declare_array, self.declare_pointer])()
         elif kind < 6:
             self.print()
         elif kind == 6:
