@@ -1,5 +1,5 @@
 #!/usr/bin/env bash
-# Diagnoses random programs of integers, arrays and pointers along logs that one of their own runs prints, and replays the worlds of the
+# Diagnoses random programs of integers along logs that one of their own runs prints, and replays the worlds of the
 # reports (checks/diagnoses.py).
 #
 #     checks/diagnose.sh [PROGRAM [COUNT [SEED]]]      without PROGRAM the proved program, or the trial program where that

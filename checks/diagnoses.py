@@ -1,7 +1,8 @@
 #!/usr/bin/env python3
-"""Diagnoses random programs of integers, arrays and pointers along logs that one of their own runs prints: `diagnoses.py PROGRAM COUNT [SEED]`.
+"""Diagnoses random programs of integers along logs that one of their own runs prints: `diagnoses.py PROGRAM COUNT [SEED
+[arrays]]`, with `arrays` programs of arrays and pointers too.
 
-Each program has loops, calls, a `switch`, arrays, pointers, answers from outside, and operators and indices that may be undefined. A random world is
+Each program has loops, calls, a `switch`, answers from outside and operators that may be undefined. A random world is
 replayed, and what it prints is the log. The diagnosis must find a run. Each world that it lists is replayed in turn, and
 must print exactly the log. What holds on these runs and on that of the random world must agree with the verdicts: no must
 fails and no mustnot holds, and a may fact holds in its first world and not in its second. The facts of a run's end
@@ -21,8 +22,9 @@ WORDS = [1, 2, 3, 5, 7, 128, 255, 65535, 2147483647, 2147483648, 4294967295, 429
 
 
 class Program:
-    def __init__(self, seed):
+    def __init__(self, seed, has_arrays):
         self.random = random.Random(seed)
+        self.has_arrays = has_arrays
         self.names, self.lines, self.count, self.depth, self.is_main = [], [], 0, 0, False
 
     def pick(self, items):
@@ -90,7 +92,10 @@ class Program:
         if not self.names:
             self.declare()
         elif kind < 3:
-            self.pick([self.declare, self.declare, self.declare_array, self.declare_pointer])()
+            if self.has_arrays and self.random.random() < 0.5:
+                self.pick([self.declare_array, self.declare_pointer])()
+            else:
+                self.declare()
         elif kind < 6:
             self.print()
         elif kind == 6:
@@ -254,8 +259,8 @@ def agree(number, verdict, text, said, first):
 
 
 class Trial:
-    def __init__(self, program, folder):
-        self.program, self.folder = program, folder
+    def __init__(self, program, folder, has_arrays):
+        self.program, self.folder, self.has_arrays = program, folder, has_arrays
 
     def write(self, name, text):
         with open(os.path.join(self.folder, name), 'wb') as file:
@@ -275,7 +280,7 @@ class Trial:
         return ran.stdout, ran.stderr.decode()
 
     def check(self, seed):
-        source = Program(seed).text()
+        source = Program(seed, self.has_arrays).text()
         self.write('p.c', source.encode())
         first = self.replay(world_of(seed))
         if first is None or first[1].startswith('end left'):
@@ -330,7 +335,7 @@ def main():
     told = {'decided': 0, 'unknown': 0, 'left': 0}
     failed = 0
     with tempfile.TemporaryDirectory() as folder:
-        trial = Trial(program, folder)
+        trial = Trial(program, folder, sys.argv[4:] == ['arrays'])
         for number in range(seed, seed + count):
             try:
                 told[trial.check(number)] += 1
