@@ -9,3 +9,5 @@ pub mod Jumps
 pub mod Watches
 pub mod Guards
 pub mod Answers
+pub mod Ranks
+pub mod Scoreboards

@@ -15,12 +15,16 @@ use Rattle.cdcl.specs.declared.search.Event.TheVariants.{Conflict, Satisfied as 
 use Rattle.cdcl.specs.declared.watching.Visit.{Visit}
 use Rattle.cdcl.specs.declared.watching.Visit.TheVariants.{Stays, Moves, Conflict as VisitConflict}
 use Rattle.cdcl.specs.Known.{Member, known, HasTrue, AllFalse, Reads, IsOpen, open_count}
-use Rattle.cdcl.specs.Trails.{IsTrailOf, IsConflict, HasDecision}
+use Rattle.cdcl.specs.declared.analysis.Lesson.{Lesson}
+use Rattle.proof_check.specs.Propagation.{negations}
+use Rattle.proof_check.specs.Room.{Within, variables_of}
+use Rattle.cdcl.specs.Jumps.{IsJump}
+use Rattle.cdcl.specs.Trails.{IsTrailOf, IsConflict, HasDecision, follows}
 use Rattle.cdcl.specs.declared.assigned.Assigned.{Assigned}
 use Rattle.cdcl.specs.declared.clauses.ClauseId.TheVariants.{Learnt}
 use Rattle.cdcl.specs.Sources.{named}
 use Rattle.proof_check.specs.Steps.{Step, clause_of}
-use Rattle.cdcl.specs.Tidy.{AreTidy}
+use Rattle.cdcl.specs.Tidy.{AreTidy, AreApart}
 use Rattle.cdcl.specs.Fits.{Fits, AllFit}
 
 -- the first assumptions stand among the entries of level 0
@@ -44,6 +48,13 @@ AreFresh clauses (step ∷ steps) = ((i : ℕ) (c : List Literal) → slice_get 
 pub record OneMore (old new : Clauses) (clause : List Literal) : Type 0 where
   pub last : named 1 new (Learnt (length old.learnt)) ≡ Some clause
   pub others : (id : ClauseId) (c : List Literal) → named 1 new id ≡ Some c → (named 1 old id ≡ Some c) ⊎ ((id ≡ Learnt (length old.learnt)) × (c ≡ clause))
+
+-- what a conflict above level 0 teaches: a clause that follows by the hints, and where it leads
+pub record IsLesson (s : Search) (lesson : Lesson) : Type 0 where
+  pub valid : follows (named 1 s.clauses) (negations lesson.clause.items) lesson.hints.items ≡ true
+  pub apart : AreApart lesson.clause.items
+  pub occurs : Within (variables_of s.clauses.given) lesson.clause.items
+  pub jump : IsJump s.trail.entries.items s.trail.level lesson.clause.items lesson.level
 
 -- the learnt clauses are steps of a trail, and each clause has a number
 pub record AreLearnt (clauses : Clauses) : Type 0 where

@@ -14,7 +14,8 @@ ghost use Rattle.cdcl.specs.Answers.{IfSat, IfUnsat, IfSpent, IsSpent, IsFew};
 
 use crate::answer::Answer;
 use crate::assigned::{Assigned, Entry};
-use crate::choosing::Choice;
+use crate::chooser::Chooser;
+use crate::choosing::Signs;
 use crate::clauses::{ClauseId, Clauses};
 use crate::restarts::Restarts;
 use crate::search::{Event, Search};
@@ -51,7 +52,7 @@ impl Search {
                 learnt: Steps::new(alloc),
             },
             trail: Assigned::new(alloc),
-            choice: Choice::new(alloc),
+            signs: Signs::new(alloc),
             watches: Watches::new(alloc),
             followed: 0,
         }
@@ -72,8 +73,8 @@ impl Search {
         self.clauses.assumed = Items::from_slice(alloc, assume)?;
         self.clauses.learnt = Steps::new(alloc);
         let room = room_for(self.clauses.given.literals(), room_for(assume, 0));
-        self.trail = Assigned::with_room(alloc, room)?;
-        self.choice = Choice::with_room(alloc, room)?;
+        self.trail = self.trail.cleared(alloc, room)?;
+        self.signs.reset(alloc, room)?;
         self.watches = Watches::with_room(alloc, room, self.clauses.given.len())?;
         self.followed = 0;
         Ok(())
@@ -163,7 +164,12 @@ impl Search {
     }
 
     /// Searches on, learning from at most so many conflicts.
-    fn run(&mut self, alloc: Global, conflicts: u32) -> Result<Answer, AllocError>
+    fn run(
+        &mut self,
+        alloc: Global,
+        chooser: &Chooser,
+        conflicts: u32,
+    ) -> Result<Answer, AllocError>
         requires ready { IsReady self.old }
         requires guards { Guards (length self.old.clauses.given) self.old.followed self.old }
         requires nothing { self.old.clauses.learnt ≡ [] }
@@ -177,7 +183,7 @@ impl Search {
     {
         let mut restarts = Restarts::new();
         for _met in 0..conflicts {
-            match self.until_event(alloc)? {
+            match self.until_event(alloc, chooser)? {
                 Event::Satisfied => return Ok(Answer::Sat(self.assignment(alloc)?)),
                 Event::Conflict(id) => {
                     if self.trail.level == 0 {
@@ -198,6 +204,7 @@ impl Search {
     pub fn answer(
         &mut self,
         alloc: Global,
+        chooser: &Chooser,
         assume: &[Lit],
         conflicts: u32,
     ) -> Result<Answer, AllocError>
@@ -222,6 +229,6 @@ impl Search {
         if let Some(id) = self.enter_given()? {
             return Ok(Answer::Unsat(self.refute(alloc, id)?));
         }
-        self.run(alloc, conflicts)
+        self.run(alloc, chooser, conflicts)
     }
 }

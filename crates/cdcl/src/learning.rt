@@ -5,7 +5,8 @@ ghost use Rattle.proof_check.specs.Refutations.{IsRefutation};
 ghost use Rattle.cdcl.specs.Sources.{named, numbered, shifted, shifted_step};
 ghost use Rattle.cdcl.specs.Trails.{follows, IsTrailOf, IsConflict};
 ghost use Rattle.cdcl.specs.Tidy.{AreApart, AreTidy, units};
-ghost use Rattle.cdcl.specs.Searches.{AreLearnt, IsReady, ContainsNone, OneMore};
+ghost use Rattle.cdcl.specs.declared.analysis.Lesson.{Lesson as LessonValue};
+ghost use Rattle.cdcl.specs.Searches.{AreLearnt, IsReady, ContainsNone, OneMore, IsLesson};
 ghost use Rattle.cdcl.specs.Guards.{Guards, GuardsBut};
 ghost use Rattle.cdcl.specs.Fits.{Fits};
 
@@ -153,6 +154,37 @@ impl Search {
         Ok(())
     }
 
+    /// Counts a conflict for the variables of the clauses that had a part in it.
+    fn count_conflict(&mut self, ids: &[ClauseId]) -> Result<(), AllocError>
+        ensures ready { IsReady self.old → IsReady self.new }
+        ensures guards { (n : ℕ) → Guards (length self.old.clauses.given) n self.old → Guards (length self.new.clauses.given) n self.new }
+        ensures lesson { (lesson : LessonValue) → IsLesson self.old lesson → IsLesson self.new lesson }
+        ensures level { self.new.trail.level ≡ self.old.trail.level }
+        ensures followed { self.new.followed ≡ self.old.followed }
+        ensures clauses { self.new.clauses ≡ self.old.clauses }
+    {
+        self.trail.scores.count_conflict(&self.clauses, ids)?;
+        Ok(())
+    }
+
+    /// Goes back to where the clause learnt from a conflict above level 0 is unit, and takes what it implies.
+    fn jump(&mut self, alloc: Global, lesson: &Lesson) -> Result<(), AllocError>
+        requires ready { IsReady self.old }
+        requires guards { Guards (length self.old.clauses.given) self.old.followed self.old }
+        requires level { 1 ≤ self.old.trail.level }
+        requires room { length self.old.clauses.given + length self.old.clauses.assumed + length self.old.clauses.learnt + 1 < 2 ^ 32 }
+        requires lesson { IsLesson self.old lesson.now }
+        ensures ready { OnOk result (IsReady self.new) }
+        ensures guards { OnOk result (Guards (length self.new.clauses.given) self.new.followed self.new) }
+        ensures more { OnOk result (length self.new.clauses.learnt ≡ length self.old.clauses.learnt + 1) }
+        ensures given { self.new.clauses.given ≡ self.old.clauses.given }
+        ensures assumed { self.new.clauses.assumed ≡ self.old.clauses.assumed }
+    {
+        self.go_back(lesson.level);
+        self.keep(alloc, lesson)?;
+        self.assert_last(&lesson.clause)
+    }
+
     /// Learns from a conflict above level 0, and goes back to where the learnt clause is unit.
     pub fn learn(&mut self, alloc: Global, conflict: ClauseId) -> Result<(), AllocError>
         requires ready { IsReady self.old }
@@ -169,10 +201,8 @@ impl Search {
             return Err(AllocError);
         }
         let lesson = analyze(alloc, &self.clauses, &self.trail, conflict, 1)?;
-        self.choice.mark_all(&self.clauses, &lesson.hints);
-        self.go_back(lesson.level);
-        self.keep(alloc, &lesson)?;
-        self.assert_last(&lesson.clause)
+        self.count_conflict(&lesson.hints)?;
+        self.jump(alloc, &lesson)
     }
 
     /// The refutation that a conflict at level 0 ends: the clauses learnt, and the empty one.

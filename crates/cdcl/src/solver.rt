@@ -7,6 +7,7 @@ ghost use Rattle.cdcl.specs.Searches.{AreFresh};
 ghost use Rattle.cdcl.specs.Answers.{IfSat, IfUnsat, IfSpent, IsSpent, IsFew};
 
 use crate::answer::{Answer, SolveFault};
+use crate::chooser::Chooser;
 use crate::search::Search;
 use cnf_core::{Clause, Lit};
 use std::alloc::Global;
@@ -49,7 +50,7 @@ impl Solver {
     }
 
     /// Whether some assignment satisfies the clauses added and makes the assumptions true, by at
-    /// most so many conflicts.
+    /// most so many conflicts, where what is decided is what the chooser names.
     ///
     /// `Sat` has such an assignment. `Unsat` has a refutation of the clauses added with the
     /// assumptions as unit clauses last; a conflict without decisions ends with it, and isn't
@@ -63,6 +64,7 @@ impl Solver {
     pub fn solve(
         &mut self,
         alloc: Global,
+        chooser: &Chooser,
         assume: &[Lit],
         conflicts: u32,
     ) -> Result<Answer, SolveFault>
@@ -74,7 +76,7 @@ impl Solver {
         ensures at_once { conflicts ≡ 0 → IfOk result IsSpent }
         ensures clauses { self.new ≡ self.old }
     {
-        match self.search.answer(alloc, assume, conflicts) {
+        match self.search.answer(alloc, chooser, assume, conflicts) {
             Ok(answer) => Ok(answer),
             Err(_) => Err(SolveFault::Memory),
         }

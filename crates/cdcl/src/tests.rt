@@ -1,5 +1,5 @@
 //! Each answer once; `checks/rows/solve.txt` has the rows.
-use crate::{Answer, Solver};
+use crate::{Answer, Chooser, Solver, least_open, most_active, most_marked};
 use cnf_core::{Clause, Lit};
 use std::alloc::Global;
 use std::test::Fail;
@@ -14,9 +14,14 @@ fn solver(alloc: Global) -> Result<Solver, Fail> {
 }
 
 /// What the solver answers where the second variable has this value.
-fn asked(alloc: Global, second: bool, conflicts: u32) -> Result<&'static str, Fail> {
+fn asked(
+    alloc: Global,
+    chooser: &Chooser,
+    second: bool,
+    conflicts: u32,
+) -> Result<&'static str, Fail> {
     let mut solver = solver(alloc)?;
-    match solver.solve(alloc, &[Lit::new(2, second)], conflicts)? {
+    match solver.solve(alloc, chooser, &[Lit::new(2, second)], conflicts)? {
         Answer::Sat(_) => Ok("sat"),
         Answer::Unsat(_) => Ok("unsat"),
         Answer::Spent(_) => Ok("spent"),
@@ -25,8 +30,17 @@ fn asked(alloc: Global, second: bool, conflicts: u32) -> Result<&'static str, Fa
 
 #[test]
 fn answers(rt: HostRuntime) -> Result<(), Fail> {
-    assert_eq!(rt; asked(rt.alloc(), true, 1)?, "sat");
-    assert_eq!(rt; asked(rt.alloc(), false, 1)?, "unsat");
-    assert_eq!(rt; asked(rt.alloc(), true, 0)?, "spent");
+    let chooser = &Chooser::new(most_active);
+    assert_eq!(rt; asked(rt.alloc(), chooser, true, 1)?, "sat");
+    assert_eq!(rt; asked(rt.alloc(), chooser, false, 1)?, "unsat");
+    assert_eq!(rt; asked(rt.alloc(), chooser, true, 0)?, "spent");
+    assert_eq!(rt;
+        asked(rt.alloc(), &Chooser::new(most_marked), true, 1)?,
+        "sat"
+    );
+    assert_eq!(rt;
+        asked(rt.alloc(), &Chooser::new(least_open), true, 1)?,
+        "sat"
+    );
     Ok(())
 }

@@ -9,7 +9,7 @@ use crate::fault::AskFault;
 use crate::query::Query;
 use crate::reply::Reply;
 use crate::target::Target;
-use cdcl::Answer;
+use cdcl::{Answer, Chooser, most_active};
 use cnf_core::Lit;
 use gates::Bit;
 use std::alloc::Global;
@@ -21,7 +21,9 @@ impl Query {
         ensures reply { IfOk result (IsSought self.old assume.now conflicts) }
         ensures same { self.new ≡ self.old }
     {
-        let answer = self.solver.solve(alloc, assume, conflicts)?;
+        let answer = self
+            .solver
+            .solve(alloc, &Chooser::new(most_active), assume, conflicts)?;
         match answer {
             Answer::Sat(values) => {
                 let world = self.blasted.decode(alloc, &values)?;

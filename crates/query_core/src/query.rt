@@ -70,7 +70,7 @@ fn query_of(alloc: Global, blasted: Blasted) -> Result<Query, AskFault>
 
 impl Query {
     /// The query of a run formula over its bank: none where what stands for its truths without reads depends on more
-    /// than the world. It fails for want of memory alone.
+    /// than the world, or asks for a memory's objects. It fails for want of memory alone.
     pub fn new(
         alloc: Global,
         formula: &RunFormula,

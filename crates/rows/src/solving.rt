@@ -2,7 +2,7 @@
 //! error.
 use crate::formulas;
 use anyhow::{Result, anyhow, bail, ensure};
-use cdcl::{Answer, Solver};
+use cdcl::{Answer, Chooser, Solver, most_active};
 use cnf_core::{Clause, Formula, Lit, satisfies};
 use proof_check::{Checker, Refutation, StepFault, Steps, Trail};
 use std::alloc::Global;
@@ -110,7 +110,12 @@ fn asked(
     formula: &Formula,
     question: &Question,
 ) -> Result<Verdict> {
-    let answer = solver.solve(alloc, &question.assume, question.conflicts)?;
+    let answer = solver.solve(
+        alloc,
+        &Chooser::new(most_active),
+        &question.assume,
+        question.conflicts,
+    )?;
     let whole = with_units(alloc, formula, &question.assume)?;
     examined(alloc, formula, &whole, answer)
 }

@@ -23,5 +23,5 @@ returns-clause-search c =
 
 pub returns-clause-guards : goal.returns-clause-guards
 returns-clause-guards c =
-    let w = c.in_ok-self-4.ensures in
+    let w = c.in_ok-self-3.ensures in
     guards-none _ c.in_ok-self-2.ensures.entries refl (w.lists ∙ ap (λ n. 2 * n) (sym c.in_ok-self-2.ensures.room)) (w.given ∙ c.len-2.ensures) w.learnt c.new.ensures w.empty

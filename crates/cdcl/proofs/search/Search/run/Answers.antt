@@ -3,7 +3,7 @@ use Rattle.cdcl.proofs.Counting.{few-steps}
 use Rattle.cdcl.proofs.search.Search.run.Goals as goal
 
 pub returns-clause-few : goal.returns-clause-few
-returns-clause-few c = record {
+returns-clause-few g c = record {
   over = λ vars all.
       let i = c.loop-met.invariant in
       let s = c.loop-met.self in
