@@ -106,33 +106,8 @@ def worth_of(name, numbers, values, words, octets):
         return values[numbers[0]] & values[numbers[1]]
     if name == "either":
         return values[numbers[0]] | values[numbers[1]]
-    if name == "choose":
-        return values[numbers[1]] if values[numbers[0]] else values[numbers[2]]
-    return memory_worth_of(name, numbers, values, octets)
-
-
-def memory_worth_of(name, numbers, values, octets):
-    """A memory is worth the octets that were written and the live objects, each by number its kind and size."""
-    if name == "memory":
-        return {}, {}
-    if name in ("made", "has_kind", "load", "store"):
-        first, *numbers = numbers
-    (written, objects), (place, *rest) = values[numbers[0]], (values[number] for number in numbers[1:])
-    if name == "store":
-        return {**written, **{wrapped(place + i, 64): rest[0] >> 8 * i & 255 for i in range(first // 8)}}, objects
-    if name == "load":
-        addresses = [wrapped(place + i, 64) for i in range(first // 8)]
-        return sum(written.get(a, octets.get(a, 0)) << 8 * i for i, a in enumerate(addresses))
-    if name == "made":
-        return written, {**objects, place: (first, rest[0])}
-    if name == "ended":
-        return written, {number: of for number, of in objects.items() if number != place}
-    if name == "object_size":
-        return objects.get(place, (None, 0))[1]
-    if name == "has_kind":
-        return int(place in objects and objects[place][0] == first)
-    assert name == "is_live"
-    return int(place >> 32 in objects and place % (1 << 32) + rest[0] <= objects[place >> 32][1])
+    assert name == "choose"
+    return values[numbers[1]] if values[numbers[0]] else values[numbers[2]]
 
 
 def text_of(row):
@@ -235,74 +210,6 @@ def address_rows():
                 known = m.put("const", 64, 4096)
                 m.put("eq", n, m.put(name, n, known), m.put(name, n, first))
                 yield m.row, ONLY if b == 4096 else OR
-
-
-def memory_of(m, places):
-    """A memory of three objects whose numbers are given, the last of which has ended, with bytes written in between."""
-    memory = m.put("memory")
-    for number, kind, size in (places[0], 1, 4), (places[1], 3, 8), (places[2], 3, 1 << 33):
-        memory = m.put("made", kind, memory, number, m.put("const", 64, size))
-        memory = m.put("store", 32, memory, m.word(64), m.word(32))
-    return m.put("ended", memory, places[2])
-
-
-def places_of(m, is_constant):
-    return [m.put("const", 64, number) if is_constant else m.word(64, number) for number in (5, 6, 7)]
-
-
-def asked_rows(is_constant):
-    """What is asked of objects by pointers and numbers of the world: of each, of one that ended, of one never made."""
-    def start():
-        m = Maker()
-        return m, memory_of(m, places_of(m, is_constant))
-
-    for number in (4, 5, 6, 7):
-        for behind in (0, 4, 5, 8, (1 << 32) - 1):
-            for length in (0, 1, 4, 8, (1 << 64) - 1):
-                m, memory = start()
-                m.put("is_live", memory, m.word(64, (number << 32) + behind), m.word(64, length))
-                yield m.row, ONLY
-        for kind in (1, 3, 4):
-            m, memory = start()
-            m.put("has_kind", kind, memory, m.word(64, number))
-            yield m.row, ONLY
-        m, memory = start()
-        m.put("object_size", memory, m.word(64, number))
-        yield m.row, ONLY
-    m, memory = start()
-    m.put("is_live", memory, m.word(64), m.word(64))
-    yield m.row, OR
-    m, memory = start()
-    m.wish(m.put("is_live", memory, m.put("const", 64, 7 << 32), m.word(64)), 1)
-    yield m.row, NONE
-
-
-def pointer_rows():
-    """An object that is written and read through a pointer that the world chooses, and a memory that it chooses."""
-    for chosen in (0, 1):
-        for asked in (5, 6, 7):
-            m = Maker()
-            memory = memory_of(m, places_of(m, True))
-            condition = m.put("eq", 8, m.word(8, chosen), m.put("const", 8, 1))
-            pointer = m.put("choose", condition, m.put("const", 64, 5 << 32), m.put("const", 64, 6 << 32))
-            written = m.put("store", 16, memory, pointer, m.word(16, 4660))
-            read = m.put("load", 16, written, m.put("const", 64, asked << 32))
-            m.wish(m.put("is_live", written, pointer, m.put("const", 64, 4)), 1)
-            m.put("eq", 16, read, m.word(16, 4660))
-            yield m.row, ONLY if asked == 6 - chosen else OR
-            m = Maker()
-            memory = memory_of(m, places_of(m, True))
-            condition = m.put("eq", 8, m.word(8, chosen), m.put("const", 8, 1))
-            freed = m.put("ended", memory, m.put("const", 64, 6))
-            joined = m.put("choose", condition, freed, memory)
-            m.put("object_size", joined, m.word(64, asked))
-            yield m.row, ONLY
-
-
-def object_rows():
-    yield from asked_rows(True)
-    yield from asked_rows(False)
-    yield from pointer_rows()
 
 
 class Growing:
@@ -432,7 +339,6 @@ def rows_of(share):
         "conversions": list(conversion_rows(chance)),
         "truths": list(truth_rows()),
         "addresses": list(address_rows()),
-        "objects": list(object_rows()),
         "random terms": list(random_rows(chance, 20)),
         "refuted": list(refuted_rows()),
     }

@@ -19,10 +19,9 @@ fn fault_of(fault: BankFault) -> BlastFault {
     }
 }
 
-/// Clauses for the values of roots under which memory is read, or asked for its objects: each byte that is read becomes
-/// a choice among those that were written and initial bytes, and what is told of an object a choice among those that
-/// were made. It answers none exactly where what stands for the roots so depends on more than the world; then some root
-/// does, or is no truth or word.
+/// Clauses for the values of roots under which memory is read: each byte that is read becomes a choice among those that
+/// were written and initial bytes. It answers none exactly where what stands for the roots without reads depends on
+/// more than the world, or asks for a memory's objects.
 pub fn blast_reads(
     alloc: Global,
     bank: &mut Bank,

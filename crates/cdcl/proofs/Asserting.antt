@@ -181,7 +181,7 @@ asserting a t clauses clause level ready trail one j cut at = record {
         omega arith
 
 abbrev pub with_clauses : Search → Clauses → Search
-with_clauses s c = record { clauses = c; trail = s.trail; choice = s.choice; watches = s.watches; followed = s.followed }
+with_clauses s c = record { clauses = c; trail = s.trail; signs = s.signs; watches = s.watches; followed = s.followed }
 
 -- the state in which the clause learnt is known, and waits nowhere yet
 pub guards-but : (a b d : Search) (clause : List Literal) (level : ℕ) → IsReady a → IsReady b → 1 ≤ a.trail.level → IsJump a.trail.entries.items a.trail.level clause level → IsCut level a.trail.entries.items b.trail.entries.items → b.trail.level ≡ level → b.followed ≡ length b.trail.entries.items

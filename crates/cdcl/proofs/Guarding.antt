@@ -16,7 +16,8 @@ use Rattle.cdcl.specs.declared.watching.Watch.{Watch}
 use Rattle.proof_check.specs.Steps.{Step, clause_of}
 use Rattle.cdcl.specs.Sources.{named}
 use Rattle.cdcl.specs.Known.{known, Member, IsOpen, Reads}
-use Rattle.cdcl.specs.declared.choosing.Choice.{Choice}
+use Rattle.cdcl.specs.declared.assigned.Assigned.{Assigned}
+use Rattle.cdcl.specs.Scoreboards.{Scoreboard}
 use Rattle.cdcl.specs.Trails.{literal_at, PlacedBelow, AreDistinct, ArePlaced, HaveLevels, HasDecision, IsLevel, IsCut}
 use Rattle.cdcl.specs.Searches.{Extends, Goes, Says, IsReady}
 use Rattle.cdcl.specs.Watches.{waiting, IsWaiting}
@@ -206,7 +207,7 @@ entered-true i s now g = record {
     go (Assumed k) c en is = absurd (cc)
     go (Learnt k) c en is = g.guarded (Learnt k) c tt is
 
-pub entered-waits : (i : ℕ) (s : Search) (p q : Literal) (w : Watches) (c : List Literal) → named 1 s.clauses (Given i) ≡ Some c → Member p c → Member q c → (p ≡ q → ⊥) → IsWaiting (Given i) p q s.watches w → Guards i 0 s → Guards (i + 1) 0 (record { clauses = s.clauses; trail = s.trail; choice = s.choice; watches = w; followed = s.followed })
+pub entered-waits : (i : ℕ) (s : Search) (p q : Literal) (w : Watches) (c : List Literal) → named 1 s.clauses (Given i) ≡ Some c → Member p c → Member q c → (p ≡ q → ⊥) → IsWaiting (Given i) p q s.watches w → Guards i 0 s → Guards (i + 1) 0 (record { clauses = s.clauses; trail = s.trail; signs = s.signs; watches = w; followed = s.followed })
 entered-waits i s p q w c is p_in q_in apart more g = record {
   sound = record {
     lists = more.sizes.lists ∙ g.sound.lists;
@@ -301,11 +302,11 @@ enters-true i a b l ready g w root says guards =
     let P : ℕ → Type 0 = λ n. HasTrueAt n b.trail.entries.items t in subst P zero_level h)
     (guards-goes i 0 a b g w guards)
 
-pub enters-waits : (i : ℕ) (a b : Search) (p q : Literal) (v : Watches) (t : List Literal) → named 1 a.clauses (Given i) ≡ Some t → Goes a b → b.watches ≡ a.watches → Reads (known b.trail.taken.items) t (Undecided p q) → IsWaiting (Given i) p q b.watches v → Guards i 0 a → Guards (i + 1) 0 (record { clauses = b.clauses; trail = b.trail; choice = b.choice; watches = v; followed = b.followed })
+pub enters-waits : (i : ℕ) (a b : Search) (p q : Literal) (v : Watches) (t : List Literal) → named 1 a.clauses (Given i) ≡ Some t → Goes a b → b.watches ≡ a.watches → Reads (known b.trail.taken.items) t (Undecided p q) → IsWaiting (Given i) p q b.watches v → Guards i 0 a → Guards (i + 1) 0 (record { clauses = b.clauses; trail = b.trail; signs = b.signs; watches = v; followed = b.followed })
 enters-waits i a b p q v t is g w (p_in, p_open, q_in, q_open, apart) more guards =
     entered-waits i b p q v t (ap (λ k. named 1 k (Given i)) g.same ∙ is) p_in q_in apart more (guards-goes i 0 a b g w guards)
 
-pub guards-followed : (entered n : ℕ) (s : Search) → Guards entered n s → Guards entered n (record { clauses = s.clauses; trail = s.trail; choice = s.choice; watches = s.watches; followed = n })
+pub guards-followed : (entered n : ℕ) (s : Search) → Guards entered n s → Guards entered n (record { clauses = s.clauses; trail = s.trail; signs = s.signs; watches = s.watches; followed = n })
 guards-followed entered n s g = record {
   sound = record { lists = g.sound.lists; given = g.sound.given; learnt = g.sound.learnt; watches = g.sound.watches };
   ahead = record {
@@ -404,9 +405,12 @@ guards-decided a b e ready whole g entries level clauses watches followed room =
           subst P (sym followed) (heeded-more a.followed a.trail.entries.items b.trail.entries.items c y extends (omega (arith, whole)) heeded),
         )
 
--- the choice alone is another one
-pub guards-chosen : (entered n : ℕ) (a : Search) (choice : Choice) → Guards entered n a → Guards entered n (record { clauses = a.clauses; trail = a.trail; choice = choice; watches = a.watches; followed = a.followed })
-guards-chosen entered n a choice g = record {
+-- the scores alone are others
+abbrev pub with_scores : Assigned → Scoreboard → Assigned
+with_scores t s = record { entries = t.entries; taken = t.taken; levels = t.levels; level = t.level; scores = s }
+
+pub guards-scored : (entered n : ℕ) (a : Search) (s : Scoreboard) → Guards entered n a → Guards entered n (record { clauses = a.clauses; trail = with_scores a.trail s; signs = a.signs; watches = a.watches; followed = a.followed })
+guards-scored entered n a s g = record {
   sound = record { lists = g.sound.lists; given = g.sound.given; learnt = g.sound.learnt; watches = g.sound.watches };
   ahead = record { followed = g.ahead.followed; within = g.ahead.within; ahead = g.ahead.ahead };
   guarded = g.guarded;

@@ -16,3 +16,6 @@ pub mod Turning
 pub mod Numbering
 pub mod Lessons
 pub mod Assuming
+pub mod RankLemmas
+pub mod Opening
+pub mod KeptSteps

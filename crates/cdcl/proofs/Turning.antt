@@ -348,14 +348,14 @@ turn-ends x n kept next list found s done le turn = record {
 -- the list is put back
 pub turn-done : (x : Literal) (n : ℕ) (list : List Watch) (found : Option ClauseId) (s : Search) (v : Watches) → AreDistinct s.trail.entries.items → InTurn x n (length list) (length list) list found s
     → waiting v (code_of x) ≡ list → ((k : ℕ) → (k ≡ code_of x → ⊥) → waiting v k ≡ waiting s.watches k) → SameSizes s.watches v → ((id : ClauseId) → pair_of v id ≡ pair_of s.watches id)
-    → IsAtRest n found (record { clauses = s.clauses; trail = s.trail; choice = s.choice; watches = v; followed = s.followed })
+    → IsAtRest n found (record { clauses = s.clauses; trail = s.trail; signs = s.signs; watches = v; followed = s.followed })
 turn-done x n list found s v distinct turn here others sizes pairs = go found refl
   where
     entries : List Entry
     entries = s.trail.entries.items
 
     t : Search
-    t = record { clauses = s.clauses; trail = s.trail; choice = s.choice; watches = v; followed = s.followed }
+    t = record { clauses = s.clauses; trail = s.trail; signs = s.signs; watches = v; followed = s.followed }
 
     sound : AreSound t
     sound = record {
@@ -440,7 +440,7 @@ turn-done x n list found s v distinct turn here others sizes pairs = go found re
 -- the list is taken out
 pub turn-begins : (x : Literal) (n : ℕ) (s : Search) (v : Watches) (e : Entry) → Guards (length s.clauses.given) n s → slice_get s.trail.entries.items n ≡ Some e → e.literal ≡ negated x
     → waiting v (code_of x) ≡ [] → ((k : ℕ) → (k ≡ code_of x → ⊥) → waiting v k ≡ waiting s.watches k) → SameSizes s.watches v → ((id : ClauseId) → pair_of v id ≡ pair_of s.watches id)
-    → InTurn x n 0 0 (waiting s.watches (code_of x)) None (record { clauses = s.clauses; trail = s.trail; choice = s.choice; watches = v; followed = s.followed })
+    → InTurn x n 0 0 (waiting s.watches (code_of x)) None (record { clauses = s.clauses; trail = s.trail; signs = s.signs; watches = v; followed = s.followed })
 turn-begins x n s v e g at lit none others sizes pairs = record {
   sound = record {
     lists = sizes.lists ∙ g.sound.lists;
@@ -463,7 +463,7 @@ turn-begins x n s v e g at lit none others sizes pairs = record {
 }
   where
     t : Search
-    t = record { clauses = s.clauses; trail = s.trail; choice = s.choice; watches = v; followed = s.followed }
+    t = record { clauses = s.clauses; trail = s.trail; signs = s.signs; watches = v; followed = s.followed }
 
     turns : (id : ClauseId) (c : List Literal) (y : Literal) → AtRest n s.trail.entries.items s.watches id c y → AtTurn x n 0 0 (waiting s.watches (code_of x)) None t id c y
     turns id c y ((k, w, w_at, is), heeded) = elim (cases_eq (code_of y) (code_of x)) [

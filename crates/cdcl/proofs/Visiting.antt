@@ -19,7 +19,7 @@ use Rattle.cdcl.specs.Guards.{left_of, IsWatch, AreSound, IsTrueNow, Moved, Visi
 use Rattle.cdcl.proofs.Guarding.{code-fits, sound-goes, true-left, open-left, true-placed, said-satisfied, said-implied, said-undecided}
 
 abbrev pub with_watches : Search → Watches → Search
-with_watches s w = record { clauses = s.clauses; trail = s.trail; choice = s.choice; watches = w; followed = s.followed }
+with_watches s w = record { clauses = s.clauses; trail = s.trail; signs = s.signs; watches = w; followed = s.followed }
 
 pub goes-watches : (a b : Search) (w : Watches) → Goes a b → Goes a (with_watches b w)
 goes-watches a b w g = record { same = g.same; room = g.room; count = g.count; grows = g.grows; extends = g.extends; added = g.added; level = g.level; followed = g.followed }

@@ -1,8 +1,12 @@
 -- What the answers of a solver mean.
-use Rattle.std.specs.Prelude.{◌≤◌, ◌^◌, ℕ, Contains, Bool, List, length}
+use Rattle.std.specs.Prelude.{◌≡◌, ◌≤◌, ◌++◌, ◌^◌, map, ℕ, Contains, Bool, List, length}
 use Rattle.cnf_core.specs.Literal.{Literal}
 use Rattle.proof_check.specs.Steps.{Step}
+use Rattle.proof_check.specs.Steps.{clause_of}
+use Rattle.proof_check.specs.Refutations.{IsTrail}
 use Rattle.proof_check.specs.Room.{variables_of}
+use Rattle.cdcl.specs.Tidy.{AreTidy}
+use Rattle.cdcl.specs.Searches.{AreFresh}
 use Rattle.cdcl.specs.declared.answer.Answer.{Answer}
 use Rattle.cdcl.specs.declared.answer.Answer.TheVariants.{Sat, Unsat, Spent}
 
@@ -31,3 +35,15 @@ IsSpent (Spent trail) = Unit {0}
 -- at most 3^v over v variables, which a list has that has each variable of the formula
 pub record IsFew (formula : List (List Literal)) (count : ℕ) : Type 0 where
   pub over : (vars : List ℕ) → ((v : ℕ) → Contains (variables_of formula) v → Contains vars v) → count ≤ 3 ^ length vars
+
+-- A trail over clauses and the steps that were kept before: exactly so many steps, which are kept now too. None of them
+-- contains a clause, a kept step or an earlier one of them.
+pub record IsSpending (clauses : List (List Literal)) (old new : List Step) (conflicts : ℕ) (kept steps : List Step) : Type 0 where
+  pub kept_is : kept ≡ old
+  pub new_is : new ≡ kept ++ steps
+  pub is_trail : IsTrail clauses kept steps
+  pub kept_tidy : AreTidy clauses kept
+  pub steps_tidy : AreTidy clauses steps
+  pub count : length steps ≡ conflicts
+  pub fresh : AreFresh (clauses ++ map clause_of kept) steps
+  pub few : IsFew clauses conflicts

@@ -8,4 +8,8 @@ pub mod Searches
 pub mod Jumps
 pub mod Watches
 pub mod Guards
+pub mod Keeping
 pub mod Answers
+pub mod Solvers
+pub mod Ranks
+pub mod Scoreboards

@@ -15,12 +15,16 @@ use Rattle.cdcl.specs.declared.search.Event.TheVariants.{Conflict, Satisfied as 
 use Rattle.cdcl.specs.declared.watching.Visit.{Visit}
 use Rattle.cdcl.specs.declared.watching.Visit.TheVariants.{Stays, Moves, Conflict as VisitConflict}
 use Rattle.cdcl.specs.Known.{Member, known, HasTrue, AllFalse, Reads, IsOpen, open_count}
-use Rattle.cdcl.specs.Trails.{IsTrailOf, IsConflict, HasDecision}
+use Rattle.cdcl.specs.declared.analysis.Lesson.{Lesson}
+use Rattle.proof_check.specs.Propagation.{negations}
+use Rattle.proof_check.specs.Room.{Within, variables_of}
+use Rattle.cdcl.specs.Jumps.{IsJump}
+use Rattle.cdcl.specs.Trails.{IsTrailOf, IsConflict, HasDecision, follows}
 use Rattle.cdcl.specs.declared.assigned.Assigned.{Assigned}
 use Rattle.cdcl.specs.declared.clauses.ClauseId.TheVariants.{Learnt}
 use Rattle.cdcl.specs.Sources.{named}
 use Rattle.proof_check.specs.Steps.{Step, clause_of}
-use Rattle.cdcl.specs.Tidy.{AreTidy}
+use Rattle.cdcl.specs.Tidy.{AreTidy, AreApart}
 use Rattle.cdcl.specs.Fits.{Fits, AllFit}
 
 -- the first assumptions stand among the entries of level 0
@@ -45,12 +49,40 @@ pub record OneMore (old new : Clauses) (clause : List Literal) : Type 0 where
   pub last : named 1 new (Learnt (length old.learnt)) ≡ Some clause
   pub others : (id : ClauseId) (c : List Literal) → named 1 new id ≡ Some c → (named 1 old id ≡ Some c) ⊎ ((id ≡ Learnt (length old.learnt)) × (c ≡ clause))
 
--- the learnt clauses are steps of a trail, and each clause has a number
+-- what a conflict above level 0 teaches: a clause that follows by the hints, and where it leads
+pub record IsLesson (s : Search) (lesson : Lesson) : Type 0 where
+  pub valid : follows (named 1 s.clauses) (negations lesson.clause.items) lesson.hints.items ≡ true
+  pub apart : AreApart lesson.clause.items
+  pub occurs : Within (variables_of s.clauses.given) lesson.clause.items
+  pub jump : IsJump s.trail.entries.items s.trail.level lesson.clause.items lesson.level
+
+-- the learnt clauses are valid steps, and each clause has a number
 pub record AreLearnt (clauses : Clauses) : Type 0 where
-  pub fresh : AreFresh clauses.given clauses.learnt
   pub valid : AreValid clauses.given clauses.learnt
   pub tidy : AreTidy clauses.given clauses.learnt
   pub few : length clauses.given + length clauses.assumed + length clauses.learnt < 2 ^ 32
+
+-- more clauses were learnt, behind the others, none of which contains an earlier one
+pub record Appends (old new : Clauses) : Type 0 where
+  pub given : new.given ≡ old.given
+  pub assumed : new.assumed ≡ old.assumed
+  pub more : List Step
+  pub learnt : new.learnt ≡ old.learnt ++ more
+  pub fresh : AreFresh (old.given ++ map clause_of old.learnt) more
+  pub still : AreLearnt old → AreLearnt new
+
+-- what is kept from question to question: valid steps over the clauses given, and each of all these has a number
+pub record AreKept (given : List (List Literal)) (kept : List Step) : Type 0 where
+  pub valid : AreValid given kept
+  pub tidy : AreTidy given kept
+  pub few : length given + length kept < 2 ^ 32
+
+-- what a question leaves: the clauses given, and the steps that were kept, with more behind them
+pub record Leaves (old new : Clauses) : Type 0 where
+  pub given : new.given ≡ old.given
+  pub more : List Step
+  pub learnt : new.learnt ≡ old.learnt ++ more
+  pub are : AreKept old.given new.learnt
 
 -- and the first assumptions hold
 pub record IsSearch (held : ℕ) (s : Search) : Type 0 where

@@ -7,7 +7,7 @@ ghost use Rattle.cdcl.specs.Known.{known, Reads, IsOpen, open_count};
 ghost use Rattle.cdcl.specs.Trails.{IsTrailOf, IsNext, IsCut, top_level};
 
 use crate::clauses::ClauseId;
-use crate::order::Order;
+use crate::scores::Scores;
 use cnf_core::Lit;
 use std::alloc::{AllocError, Global};
 
@@ -40,6 +40,8 @@ pub struct Assigned {
     pub taken: Vec<bool>,
     pub levels: Vec<u32>,
     pub level: u32,
+    /// What a chooser sees of the variables.
+    pub scores: Scores,
 }
 
 impl Assigned {
@@ -50,11 +52,12 @@ impl Assigned {
             taken: Vec::new(alloc),
             levels: Vec::new(alloc),
             level: 0,
+            scores: Scores::new(alloc),
         }
     }
 
-    /// No literals, over variables below `room`.
-    pub fn with_room(alloc: Global, room: usize) -> Result<Assigned, AllocError>
+    /// No literals, over variables below `room`. The marks of the variables are kept.
+    pub fn cleared(&self, alloc: Global, room: usize) -> Result<Assigned, AllocError>
         requires { room ≤ 2 ^ 31 }
         ensures room { IfOk result (λ t. vec_len t.levels ≡ room) }
         ensures level { IfOk result (λ t. t.level ≡ 0) }
@@ -63,11 +66,13 @@ impl Assigned {
     {
         let taken = vec![in alloc; false; 2 * room]?;
         let levels = vec![in alloc; 0; room]?;
+        let scores = self.scores.opened(alloc, room)?;
         Ok(Assigned {
             entries: Vec::new(alloc),
             taken,
             levels,
             level: 0,
+            scores,
         })
     }
 
@@ -136,22 +141,23 @@ impl Assigned {
         self.level = level;
         self.taken[literal.code() as usize] = true;
         self.levels[literal.variable() as usize] = level;
+        self.scores.close(literal.variable());
         Ok(())
     }
 
-    /// Takes the last literal back, and answers it.
-    fn pop(&mut self) -> Option<Lit>
+    /// Takes the last literal back.
+    fn pop(&mut self)
         requires { (clauses : ClausesValue) × IsTrailOf clauses self.old }
         ensures trail { (clauses : ClausesValue) → IsTrailOf clauses self.old → IsTrailOf clauses self.new }
         ensures shorter { (self.old.entries.items ≡ []) ⊎ ((e : _) × (self.old.entries.items ≡ self.new.entries.items ++ e ∷ [])) }
         ensures room { vec_len self.new.levels ≡ vec_len self.old.levels }
         ensures level { self.new.level ≡ self.old.level }
     {
-        if let Some(entry) = self.entries.pop() {
-            self.taken[entry.literal.code() as usize] = false;
-            return Some(entry.literal);
-        }
-        None
+        let Some(entry) = self.entries.pop() else {
+            return;
+        };
+        self.taken[entry.literal.code() as usize] = false;
+        self.scores.reopen(entry.literal.variable());
     }
 
     /// The level of the last entry, or 0.
@@ -164,16 +170,16 @@ impl Assigned {
         }
     }
 
-    /// Takes back the literals above a level, and puts their variables back into the order of those to be decided.
-    pub fn backjump(&mut self, level: u32, order: &mut Order)
+    /// Takes back the literals above a level.
+    pub fn backjump(&mut self, level: u32)
         requires { (clauses : ClausesValue) × IsTrailOf clauses self.old }
         ensures trail { (clauses : ClausesValue) → IsTrailOf clauses self.old → IsTrailOf clauses self.new }
         ensures cut { IsCut level self.old.entries.items self.new.entries.items }
         ensures level { self.new.level ≡ level }
         ensures room { vec_len self.new.levels ≡ vec_len self.old.levels }
     {
-        while self.last_level() > level {
-            order.release(self.pop());
+        'entries: while self.last_level() > level {
+            self.pop();
         }
         self.level = level;
     }

@@ -5,7 +5,8 @@ ghost use Rattle.proof_check.specs.Refutations.{IsRefutation};
 ghost use Rattle.cdcl.specs.Sources.{named, numbered, shifted, shifted_step};
 ghost use Rattle.cdcl.specs.Trails.{follows, IsTrailOf, IsConflict};
 ghost use Rattle.cdcl.specs.Tidy.{AreApart, AreTidy, units};
-ghost use Rattle.cdcl.specs.Searches.{AreLearnt, IsReady, ContainsNone, OneMore};
+ghost use Rattle.cdcl.specs.declared.analysis.Lesson.{Lesson as LessonValue};
+ghost use Rattle.cdcl.specs.Searches.{AreLearnt, IsReady, ContainsNone, OneMore, IsLesson, Appends};
 ghost use Rattle.cdcl.specs.Guards.{Guards, GuardsBut};
 ghost use Rattle.cdcl.specs.Fits.{Fits};
 
@@ -71,7 +72,7 @@ fn shifted_numbers(
 }
 
 /// Steps over clauses given, as steps over these and so many more behind them.
-fn shifted_steps(
+pub fn shifted_steps(
     alloc: Global,
     steps: &Steps,
     given: usize,
@@ -102,6 +103,7 @@ impl Clauses {
         requires occurs { Within (variables_of self.old.given) lesson.now.clause.items }
         requires fresh { ContainsNone self.old lesson.now.clause.items }
         ensures learnt { OnOk result (AreLearnt self.new) }
+        ensures appends { Appends self.old self.new }
         ensures more { OnOk result (length self.new.learnt ≡ length self.old.learnt + 1) }
         ensures names { (level : ℕ) (id : _) (c : _) → named level self.old id ≡ Some c → named level self.new id ≡ Some c }
         ensures last { OnOk result (OneMore self.old self.new lesson.now.clause.items) }
@@ -128,6 +130,7 @@ impl Search {
         requires fresh { ContainsNone self.old.clauses lesson.now.clause.items }
         requires fits { Fits (vec_len self.old.trail.levels) lesson.now.clause.items }
         ensures ready { OnOk result (IsReady self.new) }
+        ensures appends { Appends self.old.clauses self.new.clauses }
         ensures more { OnOk result (length self.new.clauses.learnt ≡ length self.old.clauses.learnt + 1) }
         ensures names { OnOk result ((level : ℕ) (id : _) (c : _) → named level self.old.clauses id ≡ Some c → named level self.new.clauses id ≡ Some c) }
         ensures last { OnOk result (OneMore self.old.clauses self.new.clauses lesson.now.clause.items) }
@@ -153,6 +156,38 @@ impl Search {
         Ok(())
     }
 
+    /// Counts a conflict for the variables of the clauses that had a part in it.
+    fn count_conflict(&mut self, ids: &[ClauseId]) -> Result<(), AllocError>
+        ensures ready { IsReady self.old → IsReady self.new }
+        ensures guards { (n : ℕ) → Guards (length self.old.clauses.given) n self.old → Guards (length self.new.clauses.given) n self.new }
+        ensures lesson { (lesson : LessonValue) → IsLesson self.old lesson → IsLesson self.new lesson }
+        ensures level { self.new.trail.level ≡ self.old.trail.level }
+        ensures followed { self.new.followed ≡ self.old.followed }
+        ensures clauses { self.new.clauses ≡ self.old.clauses }
+    {
+        self.trail.scores.count_conflict(&self.clauses, ids)?;
+        Ok(())
+    }
+
+    /// Goes back to where the clause learnt from a conflict above level 0 is unit, and takes what it implies.
+    fn jump(&mut self, alloc: Global, lesson: &Lesson) -> Result<(), AllocError>
+        requires ready { IsReady self.old }
+        requires guards { Guards (length self.old.clauses.given) self.old.followed self.old }
+        requires level { 1 ≤ self.old.trail.level }
+        requires room { length self.old.clauses.given + length self.old.clauses.assumed + length self.old.clauses.learnt + 1 < 2 ^ 32 }
+        requires lesson { IsLesson self.old lesson.now }
+        ensures ready { OnOk result (IsReady self.new) }
+        ensures appends { Appends self.old.clauses self.new.clauses }
+        ensures guards { OnOk result (Guards (length self.new.clauses.given) self.new.followed self.new) }
+        ensures more { OnOk result (length self.new.clauses.learnt ≡ length self.old.clauses.learnt + 1) }
+        ensures given { self.new.clauses.given ≡ self.old.clauses.given }
+        ensures assumed { self.new.clauses.assumed ≡ self.old.clauses.assumed }
+    {
+        self.go_back(lesson.level);
+        self.keep(alloc, lesson)?;
+        self.assert_last(&lesson.clause)
+    }
+
     /// Learns from a conflict above level 0, and goes back to where the learnt clause is unit.
     pub fn learn(&mut self, alloc: Global, conflict: ClauseId) -> Result<(), AllocError>
         requires ready { IsReady self.old }
@@ -160,6 +195,7 @@ impl Search {
         requires level { 1 ≤ self.old.trail.level }
         requires conflict { IsConflict 1 self.old.clauses self.old.trail.entries.items conflict }
         ensures ready { OnOk result (IsReady self.new) }
+        ensures appends { Appends self.old.clauses self.new.clauses }
         ensures guards { OnOk result (Guards (length self.new.clauses.given) self.new.followed self.new) }
         ensures more { OnOk result (length self.new.clauses.learnt ≡ length self.old.clauses.learnt + 1) }
         ensures given { self.new.clauses.given ≡ self.old.clauses.given }
@@ -169,10 +205,8 @@ impl Search {
             return Err(AllocError);
         }
         let lesson = analyze(alloc, &self.clauses, &self.trail, conflict, 1)?;
-        self.choice.mark_all(&self.clauses, &lesson.hints);
-        self.go_back(lesson.level);
-        self.keep(alloc, &lesson)?;
-        self.assert_last(&lesson.clause)
+        self.count_conflict(&lesson.hints)?;
+        self.jump(alloc, &lesson)
     }
 
     /// The refutation that a conflict at level 0 ends: the clauses learnt, and the empty one.

@@ -6,16 +6,22 @@ mod analysis;
 mod answer;
 mod asking;
 mod assigned;
+mod chooser;
 mod choosing;
 mod clauses;
 mod learning;
-mod order;
+mod ranking;
+mod relearning;
 mod restarts;
+mod scores;
 mod search;
 mod solver;
+mod store;
 mod watching;
 
 pub use answer::{Answer, SolveFault};
+pub use chooser::{Chooser, Pick, least_open, most_active, most_marked};
+pub use scores::Scores;
 pub use solver::Solver;
 
 #[cfg(test)]

@@ -9,18 +9,19 @@ ghost use Rattle.cdcl.specs.declared.clauses.ClauseId.TheVariants.{Given};
 ghost use Rattle.cdcl.specs.declared.watching.Visit.TheVariants.{Stays};
 
 use crate::assigned::{Assigned, Entry, Reading};
-use crate::choosing::Choice;
+use crate::chooser::Chooser;
+use crate::choosing::Signs;
 use crate::clauses::{ClauseId, Clauses};
 use crate::watching::{Pair, Visit, Watch, Watches};
 use cnf_core::Lit;
 use std::alloc::{AllocError, Global};
 
-/// The clauses of a question, the literals taken as true, and the choice of the next.
+/// The clauses of a question, the literals taken as true, and the signs that their variables had last.
 #[derive(Drop)]
 pub struct Search {
     pub clauses: Clauses,
     pub trail: Assigned,
-    pub choice: Choice,
+    pub signs: Signs,
     pub watches: Watches,
     /// How many entries of the trail have been followed.
     pub followed: usize,
@@ -82,7 +83,7 @@ impl Search {
     {
         let literal = entry.literal;
         self.trail.push(entry)?;
-        self.choice.note(literal);
+        self.signs.note(literal);
         Ok(())
     }
 
@@ -315,17 +316,11 @@ impl Search {
     }
 
     /// A literal to decide; where each variable has a value, what the clauses given say.
-    fn next(&mut self) -> Next
-        requires { IsReady self.old }
-        ensures ready { IsReady self.new }
-        ensures next { IsNext self.new result }
-        ensures guards { (n : ℕ) → Guards (length self.old.clauses.given) n self.old → Guards (length self.new.clauses.given) n self.new }
-        ensures trail { self.new.trail ≡ self.old.trail }
-        ensures clauses { self.new.clauses ≡ self.old.clauses }
-        ensures watches { self.new.watches ≡ self.old.watches }
-        ensures followed { self.new.followed ≡ self.old.followed }
+    fn next(&self, chooser: &Chooser) -> Next
+        requires { IsReady self.now }
+        ensures { IsNext self.now result }
     {
-        match self.choice.pick(&self.trail) {
+        match self.signs.pick(chooser, &self.trail) {
             Some(literal) => Next::Decide(literal),
             None => self.weigh(),
         }
@@ -353,7 +348,7 @@ impl Search {
     }
 
     /// Propagates and decides up to a false clause, or till each clause given has a true literal.
-    pub fn until_event(&mut self, alloc: Global) -> Result<Event, AllocError>
+    pub fn until_event(&mut self, alloc: Global, chooser: &Chooser) -> Result<Event, AllocError>
         requires ready { IsReady self.old }
         requires guards { Guards (length self.old.clauses.given) self.old.followed self.old }
         ensures ready { OnOk result (IsReady self.new) }
@@ -365,7 +360,7 @@ impl Search {
             if let Some(id) = self.propagate(alloc)? {
                 return Ok(Event::Conflict(id));
             }
-            match self.next() {
+            match self.next(chooser) {
                 Next::Decide(literal) => self.decide(literal)?,
                 Next::Conflict(id) => return Ok(Event::Conflict(id)),
                 Next::Satisfied => return Ok(Event::Satisfied),
@@ -386,7 +381,7 @@ impl Search {
         ensures whole { level < self.old.trail.level → self.new.followed ≡ length self.new.trail.entries.items }
         ensures clauses { self.new.clauses ≡ self.old.clauses }
     {
-        self.trail.backjump(level, &mut self.choice.order);
+        self.trail.backjump(level);
         self.followed = self.followed.min(self.trail.entries.len());
     }
 }

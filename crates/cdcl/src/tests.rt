@@ -1,21 +1,26 @@
 //! Each answer once; `checks/rows/solve.txt` has the rows.
-use crate::{Answer, Solver};
+use crate::{Answer, Chooser, Solver, least_open, most_active, most_marked};
 use cnf_core::{Clause, Lit};
 use std::alloc::Global;
 use std::test::Fail;
 
 /// A solver of two clauses: one of two variables holds, and not the first.
-fn solver(alloc: Global) -> Result<Solver, Fail> {
+fn solver(alloc: Global, chooser: Chooser) -> Result<Solver, Fail> {
     let (first, second) = (Lit::new(1, true), Lit::new(2, true));
-    let mut solver = Solver::new(alloc);
+    let mut solver = Solver::new(alloc, chooser);
     solver.add(Clause::from_vec(vec![in alloc; first, second]?))?;
     solver.add(Clause::from_vec(vec![in alloc; first.negated()]?))?;
     Ok(solver)
 }
 
 /// What the solver answers where the second variable has this value.
-fn asked(alloc: Global, second: bool, conflicts: u32) -> Result<&'static str, Fail> {
-    let mut solver = solver(alloc)?;
+fn asked(
+    alloc: Global,
+    chooser: Chooser,
+    second: bool,
+    conflicts: u32,
+) -> Result<&'static str, Fail> {
+    let mut solver = solver(alloc, chooser)?;
     match solver.solve(alloc, &[Lit::new(2, second)], conflicts)? {
         Answer::Sat(_) => Ok("sat"),
         Answer::Unsat(_) => Ok("unsat"),
@@ -25,8 +30,17 @@ fn asked(alloc: Global, second: bool, conflicts: u32) -> Result<&'static str, Fa
 
 #[test]
 fn answers(rt: HostRuntime) -> Result<(), Fail> {
-    assert_eq!(rt; asked(rt.alloc(), true, 1)?, "sat");
-    assert_eq!(rt; asked(rt.alloc(), false, 1)?, "unsat");
-    assert_eq!(rt; asked(rt.alloc(), true, 0)?, "spent");
+    let chooser = Chooser::new(most_active);
+    assert_eq!(rt; asked(rt.alloc(), chooser, true, 1)?, "sat");
+    assert_eq!(rt; asked(rt.alloc(), chooser, false, 1)?, "unsat");
+    assert_eq!(rt; asked(rt.alloc(), chooser, true, 0)?, "spent");
+    assert_eq!(rt;
+        asked(rt.alloc(), Chooser::new(most_marked), true, 1)?,
+        "sat"
+    );
+    assert_eq!(rt;
+        asked(rt.alloc(), Chooser::new(least_open), true, 1)?,
+        "sat"
+    );
     Ok(())
 }

@@ -152,7 +152,7 @@ impl Watches {
     }
 
     /// Makes a place for the next clause learnt.
-    fn add(&mut self) -> Result<(), AllocError>
+    pub fn add(&mut self) -> Result<(), AllocError>
         ensures place { OnOk result (vec_len self.new.learnt ≡ vec_len self.old.learnt + 1) }
         ensures pairs { OnOk result (OtherPairs (Learnt (vec_len self.old.learnt)) self.old self.new) }
         ensures lists { self.new.lists ≡ self.old.lists }

@@ -13,6 +13,7 @@ use assumptions::assumptions;
 use bit_words::{Bounds, Bytes};
 use c_item_notes::Source;
 use c_tree::Places;
+use cdcl::{Chooser, most_active};
 use diagnoses::{Diagnosis, Kept, Verdict};
 use log_text::LogText;
 use must_facts::{DiagnoseFault, diagnose_source};
@@ -69,6 +70,7 @@ pub fn report_on(
 {
     let found = diagnose_source(
         alloc,
+        Chooser::new(most_active),
         program,
         bounds,
         log,

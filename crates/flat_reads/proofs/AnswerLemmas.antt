@@ -78,7 +78,7 @@ choice_grown a b q c g h = record {
 }
 
 task_grown : (a b : List Shape) (t : Task) → Grows a b → IsTask a t → IsTask b t
-task_grown a b (Ask q) g h = record { well = well_grown a b q g h.well; asks = h.asks }
+task_grown a b (Ask q) g h = record { well = well_grown a b q g h.well; byte = h.byte }
 task_grown a b (Make q c) g h = choice_grown a b q c g h
 
 tasks_instead : (a b : List Shape) (ts : List Task) (t : Task) (us : List Task) → Grows a b → AreTasks a (ts ++ t ∷ []) → AreTasks b us → AreTasks b (ts ++ us)
@@ -133,9 +133,9 @@ opened_weight shapes q c h =
 
 found_tasks : (shapes : List Shape) (most : ℕ) (s : Sort) (ps : List Node) (f g : Found) → IsFound shapes most s ps f → IsFound shapes most s ps g → AreTasks shapes (asks f ++ asks g)
 found_tasks shapes most s ps (Known n) (Known m) h k = tt
-found_tasks shapes most s ps (Known n) (Asked r) h k = (record { well = k.well; asks = k.asks }, tt)
-found_tasks shapes most s ps (Asked q) (Known m) h k = (record { well = h.well; asks = h.asks }, tt)
-found_tasks shapes most s ps (Asked q) (Asked r) h k = (record { well = h.well; asks = h.asks }, (record { well = k.well; asks = k.asks }, tt))
+found_tasks shapes most s ps (Known n) (Asked r) h k = (record { well = k.well; byte = k.byte }, tt)
+found_tasks shapes most s ps (Asked q) (Known m) h k = (record { well = h.well; byte = h.byte }, tt)
+found_tasks shapes most s ps (Asked q) (Asked r) h k = (record { well = h.well; byte = h.byte }, (record { well = k.well; byte = k.byte }, tt))
 
 found_held : (answers : Answers) (f g : Found) → IsSettled answers (asks f ++ asks g) f × (IsSettled answers (asks f ++ asks g) g × AreHeld answers (asks f ++ asks g))
 found_held answers (Known n) (Known m) = (tt, (tt, tt))

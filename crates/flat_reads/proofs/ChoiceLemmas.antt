@@ -38,7 +38,7 @@ well_grown a b s g h = record { parts_stand = each (IsNode a) (IsNode b) (parts 
 
 pub found_grown : (a b : List Shape) (most : ℕ) (s : Sort) (ps : List Node) (found : Found) → Grows a b → IsFound a most s ps found → IsFound b most s ps found
 found_grown a b most s ps (Known n) g h = record { term = term_grown a b s n g h.term; flat = flat_grown a b ps n.index g h.flat }
-found_grown a b most s ps (Asked q) g h = record { well = well_grown a b q g h.well; asks = h.asks; sort = h.sort; less = h.less; flat = each (λ p. IsFlatOver a ps p.index) (λ p. IsFlatOver b ps p.index) (parts q) (λ p k. flat_grown a b ps p.index g k) h.flat }
+found_grown a b most s ps (Asked q) g h = record { well = well_grown a b q g h.well; byte = h.byte; sort = h.sort; less = h.less; flat = each (λ p. IsFlatOver a ps p.index) (λ p. IsFlatOver b ps p.index) (parts q) (λ p k. flat_grown a b ps p.index g k) h.flat }
 
 -- ---- a byte of a memory in which something was laid
 
@@ -106,7 +106,7 @@ laid_copy shapes m old to source from n is = record { is = λ e v k. ap (λ (y :
 pub asks_found : (shapes : List Shape) (m : ℕ) (a : Node) (found : Found) (most : ℕ) (ps : List Node) → Asks shapes m a found → IsNode shapes (word W64 a.index) → m < most → IsFlatOver shapes ps m → IsFlatOver shapes ps a.index → IsFound shapes most (Word W8) ps found
 asks_found shapes m a found most ps h place less flat there = subst (λ f. IsFound shapes most (Word W8) ps f) (sym h.is) (record {
   well = record { parts_stand = (h.stands, (place, tt)); in_width = tt };
-  asks = tt;
+  byte = record { from = h.seen; address = a.index; is = refl };
   sort = refl;
   less = omega (arith, h.most, less);
   flat = (record { flat = λ l g q x. h.under.under l g (is_flat q) (flat.flat l g q x) }, (there, tt));

@@ -1,5 +1,5 @@
 -- Flat shapes under nodes, and what an added shape gives.
-use Rattle.std.proofs.Common.{◌≡◌, ◌∷◌, [], ℕ, List, Bool, true, refl, ap, ◌∙◌}
+use Rattle.std.proofs.Common.{◌≡◌, ◌∷◌, ℕ, List, Bool, true, refl, ap, ◌∙◌}
 use Rattle.std.specs.Prelude.{Result, Ok, Err, IfOk}
 use Rattle.term_bank.specs.declared.sort.Sort.{Sort}
 use Rattle.term_bank.specs.declared.sort.Node.{Node}
@@ -23,14 +23,6 @@ flat_first shapes p ps = record { flat = λ l k q x. x.0 }
 
 pub flat_second : (shapes : List Shape) (p r : Node) (ps : List Node) → IsFlatOver shapes (p ∷ (r ∷ ps)) r.index
 flat_second shapes p r ps = record { flat = λ l k q x. x.1.0 }
-
--- what is flat over nodes under which it stands
-pub flats_under : (shapes : List Shape) (ps rs : List Node) → ((b : List Shape) → Grows shapes b → (q : Shape → Bool) → Each (λ p. IsOnly (is_flat q) b p.index) ps → Each (λ r. IsOnly (is_flat q) b r.index) rs) → Each (λ r. IsFlatOver shapes ps r.index) rs
-flats_under shapes ps [] f = tt
-flats_under shapes ps (r ∷ rs) f = (record { flat = λ b g q x. (f b g q x).0 }, flats_under shapes ps rs (λ b g q x. (f b g q x).1))
-
-pub rest_flat : (shapes : List Shape) (p : Node) (ps : List Node) → Each (λ r. IsFlatOver shapes (p ∷ ps) r.index) ps
-rest_flat shapes p ps = flats_under shapes (p ∷ ps) ps (λ b g q x. x.1)
 
 -- what is flat over nodes that are flat over others
 pub flat_through : (shapes : List Shape) (ps rs : List Node) (n : ℕ) → IsFlatOver shapes rs n → Each (λ p. IsFlatOver shapes ps p.index) rs → IsFlatOver shapes ps n

@@ -7,7 +7,6 @@ use Rattle.term_bank.specs.contracts.shape.ShapePartialEq.TheImpl.{ghosts}
 use Rattle.bit_words.specs.Words.{bits}
 use Rattle.bit_words.specs.declared.width.Width.{Width}
 use Rattle.bit_words.specs.declared.width.Width.TheVariants.{W8, W64}
-use Rattle.c_store.specs.declared.object.ObjectKind.{ObjectKind}
 use Rattle.term_bank.specs.declared.sort.Sort.{Sort}
 use Rattle.term_bank.specs.declared.sort.Sort.TheVariants.{Word}
 use Rattle.term_bank.specs.declared.sort.Node.{Node}
@@ -62,54 +61,46 @@ flat_byte new row a (Ok n) term flat h = record {
 }
 flat_byte new row a (Err e) term flat h = tt
 
--- a shape that asks nothing of a memory, and is no byte of a table
-pub record AsksNothing (s : Shape) : Type 0 where
-  pub no_read : (w : Width) (m a : ℕ) → s ≡ Read w m a → ⊥
-  pub no_byte : (r a : ℕ) → s ≡ InitialByte r a → ⊥
-  pub no_live : (m a n : ℕ) → s ≡ IsLive m a n → ⊥
-  pub no_kind : (k : ObjectKind) (m p : ℕ) → s ≡ HasKind k m p → ⊥
-  pub no_size : (m p : ℕ) → s ≡ ObjectSize m p → ⊥
+plain : (q : Shape → Bool) (s : Shape) → ((w : Width) (m a : ℕ) → s ≡ Read w m a → ⊥) → ((r a : ℕ) → s ≡ InitialByte r a → ⊥) → IsKept q s → is_flat q s ≡ true
+plain q (Flag b) no_read no_byte h = refl
+plain q (Constant x w) no_read no_byte h = refl
+plain q (Parameter k w) no_read no_byte h = h
+plain q Base no_read no_byte h = h
+plain q Entry no_read no_byte h = h
+plain q Initial no_read no_byte h = refl
+plain q (WorldWord w p) no_read no_byte h = refl
+plain q (InitialByte r a) no_read no_byte h = absurd (no_byte r a refl)
+plain q (Binary op w x y) no_read no_byte h = refl
+plain q (Test t w x y) no_read no_byte h = refl
+plain q (Convert x from to a) no_read no_byte h = refl
+plain q (Not a) no_read no_byte h = refl
+plain q (Connect c a b) no_read no_byte h = refl
+plain q (Choose s c a b) no_read no_byte h = refl
+plain q (Write w m a x) no_read no_byte h = refl
+plain q (ZeroRange m a n) no_read no_byte h = refl
+plain q (CopyRange m to source from n) no_read no_byte h = refl
+plain q (Made k m p n) no_read no_byte h = refl
+plain q (Ended m p) no_read no_byte h = refl
+plain q (Read w m a) no_read no_byte h = absurd (no_read w m a refl)
+plain q (ObjectSize m p) no_read no_byte h = refl
+plain q (IsLive m a n) no_read no_byte h = refl
+plain q (HasKind k m p) no_read no_byte h = refl
+plain q NoEvents no_read no_byte h = refl
+plain q (BranchEvent xs n at side) no_read no_byte h = refl
+plain q (CallEvent xs n at) no_read no_byte h = refl
+plain q (PrintEvent xs n at length seen) no_read no_byte h = refl
+plain q (EventsBehind xs ys) no_read no_byte h = refl
+plain q NoNumbers no_read no_byte h = refl
+plain q (NumberBehind xs w s x) no_read no_byte h = refl
 
-plain : (q : Shape → Bool) (s : Shape) → AsksNothing s → IsKept q s → is_flat q s ≡ true
-plain q (Flag b) other h = refl
-plain q (Constant x w) other h = refl
-plain q (Parameter k w) other h = h
-plain q Base other h = h
-plain q Entry other h = h
-plain q Initial other h = refl
-plain q (WorldWord w p) other h = refl
-plain q (InitialByte r a) other h = absurd (other.no_byte r a refl)
-plain q (Binary op w x y) other h = refl
-plain q (Test t w x y) other h = refl
-plain q (Convert x from to a) other h = refl
-plain q (Not a) other h = refl
-plain q (Connect c a b) other h = refl
-plain q (Choose s c a b) other h = refl
-plain q (Write w m a x) other h = refl
-plain q (ZeroRange m a n) other h = refl
-plain q (CopyRange m to source from n) other h = refl
-plain q (Made k m p n) other h = refl
-plain q (Ended m p) other h = refl
-plain q (Read w m a) other h = absurd (other.no_read w m a refl)
-plain q (ObjectSize m p) other h = absurd (other.no_size m p refl)
-plain q (IsLive m a n) other h = absurd (other.no_live m a n refl)
-plain q (HasKind k m p) other h = absurd (other.no_kind k m p refl)
-plain q NoEvents other h = refl
-plain q (BranchEvent xs n at side) other h = refl
-plain q (CallEvent xs n at) other h = refl
-plain q (PrintEvent xs n at length seen) other h = refl
-plain q (EventsBehind xs ys) other h = refl
-plain q NoNumbers other h = refl
-plain q (NumberBehind xs w s x) other h = refl
-
-pub flat_other : (new : List Shape) (s : Shape) (r : Result Node BankFault) → AsksNothing s → IfOk r (IsNode new) → IfOk r (λ n. n.sort ≡ sort_of s) → IfOk r (IsWorth new s) → IfOk r (IsOver new s) → IfOk r (IsFlattened new s)
-flat_other new s (Ok n) other stands sort h over = record {
+pub flat_other : (new : List Shape) (s : Shape) (r : Result Node BankFault) → ((w : Width) (m a : ℕ) → s ≡ Read w m a → ⊥) → ((r a : ℕ) → s ≡ InitialByte r a → ⊥) → IfOk r (IsNode new) → IfOk r (λ n. n.sort ≡ sort_of s) → IfOk r (IsWorth new s) → IfOk r (IsOver new s) → IfOk r (IsFlattened new s)
+flat_other new s (Ok n) no_read no_byte stands sort h over = record {
   stands = stands;
   sort = sort;
   value = λ e v honest k. h.is e v k;
-  flat = λ b g q kept below. over.under b g (is_flat q) (λ _. refl) (λ _ _. refl) (plain q s other kept) below;
+  flat = λ b g q kept below. over.under b g (is_flat q) (λ _. refl) (λ _ _. refl) (plain q s no_read no_byte kept) below;
 }
-flat_other new s (Err e) other stands sort h over = tt
+flat_other new s (Err e) no_read no_byte stands sort h over = tt
 
 -- ---- a shape over images
 

@@ -3,8 +3,6 @@ pub mod PartLemmas
 pub mod ChoiceLemmas
 pub mod AnswerLemmas
 pub mod WordLemmas
-pub mod ToldLemmas
-pub mod ObjectLemmas
 pub mod FlattenLemmas
 pub mod TableLemmas
 pub mod ListLemmas

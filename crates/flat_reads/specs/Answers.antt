@@ -15,7 +15,7 @@ use Rattle.flat_reads.specs.declared.choices.Choice.{Choice}
 use Rattle.flat_reads.specs.declared.answers.Task.{Task}
 use Rattle.flat_reads.specs.declared.answers.Task.TheVariants.{Ask, Make}
 use Rattle.flat_reads.specs.Flats.{IsHonest, IsFlatOver}
-use Rattle.flat_reads.specs.Choices.{IsQuestion, IsChoice, rank}
+use Rattle.flat_reads.specs.Choices.{IsByte, IsChoice, rank}
 
 abbrev pub Answers : Type 0
 Answers = HashMap Shape Node (BuildHasherDefault FoldHasher)
@@ -43,7 +43,7 @@ PutsAnswer old new question node = (q : Shape) → answer_in new q ≡ cond (gho
 -- a question that may be asked
 pub record IsAskable (shapes : List Shape) (question : Shape) : Type 0 where
   pub well : IsWell shapes question
-  pub asks : IsQuestion question
+  pub byte : IsByte question
 
 -- ---- tasks, the next one last
 

@@ -8,7 +8,7 @@ use Rattle.term_bank.specs.declared.sort.Sort.{Sort}
 use Rattle.term_bank.specs.declared.sort.Sort.TheVariants.{Truth}
 use Rattle.term_bank.specs.declared.sort.Node.{Node}
 use Rattle.term_bank.specs.declared.shape.Shape.{Shape}
-use Rattle.term_bank.specs.declared.shape.Shape.TheVariants.{Read, ObjectSize, IsLive, HasKind}
+use Rattle.term_bank.specs.declared.shape.Shape.TheVariants.{Read}
 use Rattle.term_bank.specs.Shapes.{Each, IsNode, IsWell, memory, parts, sort_of}
 use Rattle.term_bank.specs.Values.{Environment, Worth, Values, Models, worth}
 use Rattle.term_bank.specs.Terms.{IsTerm}
@@ -20,27 +20,22 @@ use Rattle.flat_reads.specs.Flats.{IsHonest, IsFlatOver}
 -- the memory that a question asks
 abbrev pub rank : Shape → ℕ
 rank (Read w m a) = m
-rank (ObjectSize m p) = m
-rank (IsLive m a n) = m
-rank (HasKind k m p) = m
 rank _ = 0
 
 abbrev pub found_worth : Environment → Values → Found → Worth
 found_worth e v (Known n) = v n.index
 found_worth e v (Asked s) = worth e v s
 
--- a question: it asks for a byte of a memory, or for an object
-abbrev pub IsQuestion : Shape → Type 0
-IsQuestion (Read W8 m a) = Unit {0}
-IsQuestion (ObjectSize m p) = Unit {0}
-IsQuestion (IsLive m a n) = Unit {0}
-IsQuestion (HasKind k m p) = Unit {0}
-IsQuestion _ = ⊥
+-- the question for a byte of a memory
+pub record IsByte (question : Shape) : Type 0 where
+  pub from : ℕ
+  pub address : ℕ
+  pub is : question ≡ Read W8 from address
 
 -- a question that may be asked, of an earlier memory
 pub record IsAsked (shapes : List Shape) (most : ℕ) (s : Sort) (ps : List Node) (question : Shape) : Type 0 where
   pub well : IsWell shapes question
-  pub asks : IsQuestion question
+  pub byte : IsByte question
   pub sort : sort_of question ≡ s
   pub less : rank question < most
   pub flat : Each (λ p. IsFlatOver shapes ps p.index) (parts question)

@@ -4,7 +4,7 @@ use Rattle.term_bank.specs.declared.sort.Sort.{Sort}
 use Rattle.term_bank.specs.declared.sort.Node.{Node}
 use Rattle.term_bank.specs.declared.bank.BankFault.{BankFault}
 use Rattle.term_bank.specs.declared.shape.Shape.{Shape}
-use Rattle.term_bank.specs.declared.shape.Shape.TheVariants.{Parameter, Base, Entry, InitialByte, Read, ObjectSize, IsLive, HasKind}
+use Rattle.term_bank.specs.declared.shape.Shape.TheVariants.{Parameter, Base, Entry, InitialByte, Read}
 use Rattle.term_bank.specs.Shapes.{Each}
 use Rattle.term_bank.specs.Values.{Environment, Worth, Values, Models, Grows}
 use Rattle.term_bank.specs.Under.{IsOnly}
@@ -16,17 +16,14 @@ pub record IsHonest (e : Environment) : Type 0 where
   pub same : (row address : ℕ) → e.rows row address ≡ e.bytes address
 
 -- A shape that may stand where reads were taken away from terms under which each shape has the property: the entry
--- memory, a parameter or the base only if it has it, a read or a question for an object only of an entry memory that has
--- it, and of the table a row that has its address's number.
+-- memory, a parameter or the base only if it has it, a read only of an entry memory that has it, and of the table a row
+-- that has its address's number.
 abbrev pub is_flat : (Shape → Bool) → Shape → Bool
 is_flat q Entry = q Entry
 is_flat q (Parameter k w) = q (Parameter k w)
 is_flat q Base = q Base
 is_flat q (InitialByte row address) = nat_eq row address
 is_flat q (Read w m a) = q Entry
-is_flat q (ObjectSize m p) = q Entry
-is_flat q (IsLive m a n) = q Entry
-is_flat q (HasKind k m p) = q Entry
 is_flat q _ = true
 
 -- where flat shapes alone stand under some nodes, flat shapes alone stand under the node of this number

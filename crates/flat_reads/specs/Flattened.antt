@@ -25,7 +25,7 @@ pub record IsFlattened (shapes : List Shape) (shape : Shape) (node : Node) : Typ
 
 -- The node has, in every honest environment, the value of the node of this number. Whatever property each shape has
 -- that stands under this one, flat shapes alone stand under the node: no entry memory, parameter or base without it, and
--- no read nor question for an object but of an entry memory with it.
+-- no read but of an entry memory with it.
 pub record HasFlat (shapes : List Shape) (n : ℕ) (node : Node) : Type 0 where
   pub stands : IsNode shapes node
   pub sort : sort_at shapes n ≡ Some node.sort

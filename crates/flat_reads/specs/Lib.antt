@@ -1,6 +1,5 @@
 pub mod Flats
 pub mod Parts
-pub mod Objects
 pub mod Choices
 pub mod Answers
 pub mod Flattened

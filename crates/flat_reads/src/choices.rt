@@ -7,10 +7,8 @@ ghost use Rattle.term_bank.specs.declared.shape.Shape.TheVariants.{Entry, Initia
 ghost use Rattle.term_bank.specs.declared.sort.Sort.TheVariants.{Word};
 ghost use Rattle.term_bank.specs.Terms.{IsTerm};
 ghost use Rattle.flat_reads.specs.Flats.{IsFlatOver};
-ghost use Rattle.flat_reads.specs.Choices.{Asks, IsChoice, IsQuestion, Leads};
+ghost use Rattle.flat_reads.specs.Choices.{Asks, IsByte, IsChoice, Leads};
 
-use crate::object_choices::object_choice;
-use crate::objects::ObjectQuestion;
 use crate::parts::{behind, constant, distance, inside, octet};
 use bit_words::Width;
 use mem_terms::{octets, seen};
@@ -32,7 +30,7 @@ pub struct Choice {
 }
 
 /// What was found, whatever else is true.
-pub(crate) fn certain(bank: &mut Bank, found: Found) -> Result<Choice, BankFault>
+fn certain(bank: &mut Bank, found: Found) -> Result<Choice, BankFault>
     ensures choice { (question : _) → Leads bank.old question found → IfOk result (IsChoice bank.new question) }
     ensures grows { Grows bank.old bank.new }
     ensures bank { IsBank bank.new }
@@ -195,7 +193,7 @@ fn entry(bank: &mut Bank, memory: u32, address: u32) -> Result<Choice, BankFault
 }
 
 /// What the question for a byte leads to, whatever its condition is.
-fn byte_choice(bank: &mut Bank, memory: u32, address: u32) -> Result<Choice, BankFault>
+fn undecided(bank: &mut Bank, memory: u32, address: u32) -> Result<Choice, BankFault>
     requires bank { IsBank bank.old }
     requires well { IsWell bank.old (Read W8 memory address) }
     ensures choice { IfOk result (IsChoice bank.new (Read W8 memory address)) }
@@ -255,38 +253,6 @@ fn byte_choice(bank: &mut Bank, memory: u32, address: u32) -> Result<Choice, Ban
     }
 }
 
-/// What a question leads to, whatever its condition is.
-fn undecided(bank: &mut Bank, question: Shape) -> Result<Choice, BankFault>
-    requires bank { IsBank bank.old }
-    requires well { IsWell bank.old question }
-    requires asks { IsQuestion question }
-    ensures choice { IfOk result (IsChoice bank.new question) }
-    ensures grows { Grows bank.old bank.new }
-    ensures bank { IsBank bank.new }
-{
-    match question {
-        Shape::Read {
-            width: Width::W8,
-            memory,
-            address,
-        } => byte_choice(bank, memory, address),
-        Shape::IsLive {
-            memory,
-            address,
-            length,
-        } => object_choice(bank, memory, ObjectQuestion::Live { address, length }),
-        Shape::HasKind {
-            kind,
-            memory,
-            object,
-        } => object_choice(bank, memory, ObjectQuestion::Kind { kind, object }),
-        Shape::ObjectSize { memory, object } => {
-            object_choice(bank, memory, ObjectQuestion::Size { object })
-        }
-        _ => certain(bank, Found::Asked(question)),
-    }
-}
-
 /// A choice whose condition is a constant has the chosen arm twice.
 fn decided(bank: &Bank, choice: Choice) -> Choice
     ensures { (question : _) → IsChoice bank.now question choice → IsChoice bank.now question result }
@@ -306,15 +272,33 @@ fn decided(bank: &Bank, choice: Choice) -> Choice
     }
 }
 
+/// What the question for a byte leads to.
+pub(crate) fn byte_choice(bank: &mut Bank, memory: u32, address: u32) -> Result<Choice, BankFault>
+    requires bank { IsBank bank.old }
+    requires well { IsWell bank.old (Read W8 memory address) }
+    ensures choice { IfOk result (IsChoice bank.new (Read W8 memory address)) }
+    ensures grows { Grows bank.old bank.new }
+    ensures bank { IsBank bank.new }
+{
+    let choice = undecided(bank, memory, address)?;
+    Ok(decided(bank, choice))
+}
+
 /// What a question leads to.
 pub(crate) fn choice_of(bank: &mut Bank, question: Shape) -> Result<Choice, BankFault>
     requires bank { IsBank bank.old }
     requires well { IsWell bank.old question }
-    requires asks { IsQuestion question }
+    requires byte { IsByte question }
     ensures choice { IfOk result (IsChoice bank.new question) }
     ensures grows { Grows bank.old bank.new }
     ensures bank { IsBank bank.new }
 {
-    let choice = undecided(bank, question)?;
-    Ok(decided(bank, choice))
+    match question {
+        Shape::Read {
+            width: Width::W8,
+            memory,
+            address,
+        } => byte_choice(bank, memory, address),
+        _ => certain(bank, Found::Asked(question)),
+    }
 }

@@ -5,39 +5,15 @@ ghost use Rattle.term_bank.specs.Shapes.{Each, IsNode, IsWell};
 ghost use Rattle.term_bank.specs.Values.{Grows};
 ghost use Rattle.flat_reads.specs.Answers.{AreAnswers};
 ghost use Rattle.flat_reads.specs.Flattened.{HasFlat, IsFlattened};
-ghost use Rattle.flat_reads.specs.Objects.{asked_of};
 
-use crate::answers::answer;
 use crate::choices::initial_byte;
-use crate::earlier::asked_object;
-use crate::objects::ObjectQuestion;
 use crate::words::word_at;
 use plain_data::Items;
 use std::alloc::Global;
 use std::collections::HashMap;
 use term_bank::{Bank, BankFault, Node, Shape, images_of, nodes_under, over, set_image};
 
-/// The answer of a question for an object of a memory.
-fn object_answer(
-    alloc: Global,
-    bank: &mut Bank,
-    answers: &mut HashMap<Shape, Node>,
-    memory: u32,
-    question: ObjectQuestion,
-) -> Result<Node, BankFault>
-    requires bank { IsBank bank.old }
-    requires answers { AreAnswers bank.old answers.old }
-    requires well { IsWell bank.old (asked_of memory question) }
-    ensures node { IfOk result (IsFlattened bank.new (asked_of memory question)) }
-    ensures answers { OnOk result (AreAnswers bank.new answers.new) }
-    ensures grows { Grows bank.old bank.new }
-    ensures bank { IsBank bank.new }
-{
-    let asked = asked_object(bank, memory, question);
-    answer(alloc, bank, answers, asked)
-}
-
-/// A node of a shape's value without reads and questions for objects.
+/// A node of a shape's value without reads.
 fn flat_shape(
     alloc: Global,
     bank: &mut Bank,
@@ -59,32 +35,12 @@ fn flat_shape(
             address,
         } => word_at(alloc, bank, answers, memory, address, width),
         Shape::InitialByte { address, .. } => initial_byte(bank, address),
-        Shape::IsLive {
-            memory,
-            address,
-            length,
-        } => {
-            let question = ObjectQuestion::Live { address, length };
-            object_answer(alloc, bank, answers, memory, question)
-        }
-        Shape::HasKind {
-            kind,
-            memory,
-            object,
-        } => {
-            let question = ObjectQuestion::Kind { kind, object };
-            object_answer(alloc, bank, answers, memory, question)
-        }
-        Shape::ObjectSize { memory, object } => {
-            let question = ObjectQuestion::Size { object };
-            object_answer(alloc, bank, answers, memory, question)
-        }
         _ => bank.add(shape),
     }
 }
 
-/// Nodes that have the values of the roots, without reads and questions for objects but of the entry memory. The time
-/// is that of the nodes under the roots, and of the bytes and objects that are asked of their memories.
+/// Nodes that have the values of the roots, without reads but of the entry memory. The time is that of the nodes under
+/// the roots and of the bytes that are asked of their memories.
 pub fn flat_roots(alloc: Global, bank: &mut Bank, roots: &[Node]) -> Result<Items<Node>, BankFault>
     requires bank { IsBank bank.old }
     requires roots { Each (IsNode bank.old) roots.now }

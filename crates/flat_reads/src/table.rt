@@ -136,10 +136,9 @@ fn add_rows(
     Ok(())
 }
 
-/// Terms without reads and questions for objects but of the entry memory: each byte that is read is a choice among those
-/// that were written and bytes of the initial memory, which stand in a table, and what is told of an object a choice
-/// among those that were made. The time is that of the nodes under the roots, and of the bytes and objects that are asked
-/// of their memories; each two rows take a constraint.
+/// Terms without reads but of the entry memory: each byte that is read is a choice among those that were written and
+/// bytes of the initial memory, which stand in a table. The time is that of the nodes under the roots and of the bytes
+/// that are asked of their memories; each two rows take a constraint.
 pub fn flatten_reads(alloc: Global, bank: &mut Bank, roots: &[Node]) -> Result<Flat, BankFault>
     requires bank { IsBank bank.old }
     requires roots { Each (IsNode bank.old) roots.now }

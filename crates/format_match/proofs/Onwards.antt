@@ -1,7 +1,7 @@
 -- From which positions pieces lead on, piece by piece from the back.
-use Rattle.std.proofs.Common.{◌≡◌, ℕ, ◌+◌, ◌-◌, ◌<◌, ◌≤◌, ◌↔◌, ◌&&◌, ◌||◌, Bool, true, false, not, cond, eqb, List, [], ◌∷◌, ◌++◌, length, take, drop, refl, sym, ap, subst, ◌∙◌, arith, append-nil, inl, inr, All}
+use Rattle.std.proofs.Common.{◌≡◌, ℕ, ◌+◌, ◌-◌, ◌<◌, ◌≤◌, ◌↔◌, ◌||◌, Bool, true, false, not, cond, eqb, List, [], ◌∷◌, ◌++◌, length, take, drop, refl, sym, ap, subst, ◌∙◌, arith, append-nil, inl, inr, All}
 use Rattle.std.specs.Str.{bytes_eq}
-use Rattle.std.proofs.lemmas.Bool.{and_from, and_parts, or_cases, or_left, or_right, cases_lt, cases_eq, ne_eqb}
+use Rattle.std.proofs.lemmas.Bool.{or_cases, or_left, or_right, cases_lt, cases_eq, ne_eqb}
 use Rattle.std.proofs.lemmas.Slice.Eq.{bytes_eq-Decides}
 use Rattle.std.proofs.lemmas.List.Elements.{All-head}
 use Rattle.printf_text.specs.Texts.{HaveKinds, kinds, piece_kinds, piece_text, text_of, conversion_kinds, conversion_text}
@@ -11,10 +11,9 @@ use Rattle.printf_text.specs.declared.piece.Conversion.{Conversion}
 use Rattle.printf_text.specs.declared.piece.Piece.{Piece}
 use Rattle.printf_text.specs.declared.piece.Piece.TheVariants.{Literal, Converted}
 use Rattle.format_match.specs.Splits.{begins, meet_all, Spells, IsMet}
-use Rattle.format_match.specs.Reaches.{Reaches}
 use Rattle.format_match.specs.Ways.{met_ends, Describes, Adds, here}
 use Rattle.format_match.specs.Spelled.{IsSpelled, IsPieceSpelled}
-use Rattle.format_match.specs.Beginning.{is_marked, CanBeEmpty, IsBegun, IsPrinted, Leads, IsSpelledOn, LeadExactly, AreOnward}
+use Rattle.format_match.specs.Beginning.{is_marked, IsBegun, IsPrinted, Leads, IsSpelledOn, LeadExactly, AreOnward}
 use Rattle.format_match.specs.declared.split.Split.{Split}
 use Rattle.format_match.proofs.Following.{have_append, parted, piece_front}
 use Rattle.format_match.proofs.Printing.{same_bytes}
@@ -106,13 +105,13 @@ not_led_more c rest marks least from n b e w i k h l m p = elim (cases_eq k n) [
     less k l d = omega arith
 
 pub converts_not : (c : Conversion) (log : List ℕ) (marks : List Bool) (least from most n : ℕ) → most < n
-    → Reaches c (drop from log) most
+    → ((args : List Arg) → begins (conversion_text c args) (drop from log) ≡ true → length (conversion_text c args) ≤ most)
     → IsNotLed c (drop from log) marks least from n → Leads (Converted c) log marks least from → ⊥
 converts_not c log marks least from most n h r none l =
     let s = l.spelled in
     let t = conversion_text c s.args in
     let last : from + length t ≡ l.end = spells_end t log from l.end s.spells in
-    let long : length t ≤ most = r s.args s.have (spells_begins t log from l.end s.spells) in
+    let long : length t ≤ most = r s.args (spells_begins t log from l.end s.spells) in
     let back : l.end - from ≡ length t = omega arith in
     none (length t) (omega (arith, l.long)) (omega arith) (ap (is_marked marks) last ∙ l.marked)
     (record { args = s.args; have = s.have; prints = s.spells.is ∙ ap (λ n. take n (drop from log)) back })
@@ -216,37 +215,18 @@ module _ (p : Piece) (ps : List Piece) (log : List ℕ) (any some : List Bool) (
             spelled = f.front;
           })
 
-  -- a piece that can be empty leads from a position to itself
-  led_here : (from : ℕ) → from ≤ length log → CanBeEmpty p → IsPieceSpelled p log from from
-  led_here from l e = record {
-    args = e.args;
-    have = e.have;
-    spells = record { ordered = omega arith; within = l; is = e.none ∙ ap (λ n. take n (drop from log)) (nothing from) };
-  }
-    where
-      nothing : (n : ℕ) → 0 ≡ n - n
-      nothing n = omega arith
-
-  -- and one that leads there can be
-  empty_there : (from mid : ℕ) → mid ≤ from → IsPieceSpelled p log from mid → CanBeEmpty p
-  empty_there from mid l s = record { args = s.args; have = s.have; none = s.spells.is ∙ ap (λ n. take n (drop from log)) (nothing from mid l) }
-    where
-      nothing : (n m : ℕ) → m ≤ n → m - n ≡ 0
-      nothing n m l = omega arith
-
-  pub more_some : (on some' : List Bool) (passes : Bool) → LeadExactly p log any 1 on → (passes ≡ true) ↔ CanBeEmpty p
-      → ((y : ℕ) → (is_marked some' y ≡ true) ↔ (y < length log + 1) × ((is_marked on y || (passes && is_marked some y)) ≡ true)) → (from : ℕ) → (is_marked some' from ≡ true) ↔ IsSpelledOn (p ∷ ps) log 1 from
-  more_some on some' passes e f g from = (there, back)
+  pub more_some : (on through some' : List Bool) → LeadExactly p log any 1 on → LeadExactly p log some 0 through
+      → ((y : ℕ) → (is_marked some' y ≡ true) ↔ (y < length log + 1) × ((is_marked on y || is_marked through y) ≡ true)) → (from : ℕ) → (is_marked some' from ≡ true) ↔ IsSpelledOn (p ∷ ps) log 1 from
+  more_some on through some' e f g from = (there, back)
     where
       there : is_marked some' from ≡ true → IsSpelledOn (p ∷ ps) log 1 from
-      there t = elim (or_cases (is_marked on from) (passes && is_marked some from) ((g from).0 t).1) [
+      there t = elim (or_cases (is_marked on from) (is_marked through from) ((g from).0 t).1) [
         | inl a ↦ (let l = (e from).0 a in
             let s = (o.any_are l.end).0 l.marked in
             record { end = s.end; long = omega (arith, l.long, s.long); spelled = front_there p ps log from s.end l.end l.spelled s.spelled })
-        | inr b ↦ (let q = and_parts passes (is_marked some from) b in
-            let s = (o.some_are from).0 q.1 in
-            let short : from ≤ length log = omega (arith, s.long, s.spelled.spells.within) in
-            record { end = s.end; long = s.long; spelled = front_there p ps log from s.end from (led_here from short (f.0 q.0)) s.spelled })
+        | inr b ↦ (let l = (f from).0 b in
+            let s = (o.some_are l.end).0 l.marked in
+            record { end = s.end; long = omega (arith, l.long, s.long); spelled = front_there p ps log from s.end l.end l.spelled s.spelled })
       ]
 
       back : IsSpelledOn (p ∷ ps) log 1 from → is_marked some' from ≡ true
@@ -255,16 +235,18 @@ module _ (p : Piece) (ps : List Piece) (log : List ℕ) (any some : List Bool) (
           (g from).1 (
             omega (arith, s.long, s.spelled.spells.within),
             elim (cases_lt from f'.mid) [
-              | inl l ↦ or_left (is_marked on from) (passes && is_marked some from) ((e from).1 (record {
+              | inl l ↦ or_left (is_marked on from) (is_marked through from) ((e from).1 (record {
                 end = f'.mid;
                 long = omega arith;
                 marked = (o.any_are f'.mid).1 (record { end = s.end; long = omega (arith, f'.back.spells.ordered); spelled = f'.back });
                 spelled = f'.front;
               }))
-              | inr h ↦ (let same : f'.mid ≡ from = omega (arith, f'.front.spells.ordered, h) in
-                  or_right (is_marked on from) (passes && is_marked some from)
-                  (and_from passes (is_marked some from) (f.1 (empty_there from f'.mid h f'.front))
-                  ((o.some_are from).1 (record { end = s.end; long = s.long; spelled = subst (λ m. IsSpelled ps log m s.end) same f'.back }))))
+              | inr h ↦ or_right (is_marked on from) (is_marked through from) ((f from).1 (record {
+                end = f'.mid;
+                long = omega (arith, f'.front.spells.ordered);
+                marked = (o.some_are f'.mid).1 (record { end = s.end; long = omega (arith, s.long, h); spelled = f'.back });
+                spelled = f'.front;
+              }))
             ],
           )
 

@@ -1,9 +1,9 @@
 -- Where a format begins that spells a stretch of a log, whatever its arguments are.
-use Rattle.std.specs.Prelude.{◌≡◌, ◌↔◌, ◌<◌, ◌≤◌, ◌+◌, ℕ, Bool, true, false, List, [], slice_index_or}
+use Rattle.std.specs.Prelude.{◌≡◌, ◌↔◌, ◌<◌, ◌≤◌, ◌+◌, ℕ, Bool, true, false, List, slice_index_or}
 use Rattle.printf_text.specs.declared.piece.Arg.{Arg}
 use Rattle.printf_text.specs.declared.piece.Conversion.{Conversion}
 use Rattle.printf_text.specs.declared.piece.Piece.{Piece}
-use Rattle.printf_text.specs.Texts.{HaveKinds, conversion_kinds, conversion_text, piece_kinds, piece_text}
+use Rattle.printf_text.specs.Texts.{HaveKinds, conversion_kinds, conversion_text}
 use Rattle.positions.specs.Sets.{has}
 use Rattle.format_match.specs.Spelled.{IsSpelled, IsPieceSpelled}
 
@@ -27,12 +27,6 @@ pub record IsPrinted (c : Conversion) (bytes : List ℕ) : Type 0 where
   pub args : List Arg
   pub have : HaveKinds (conversion_kinds c) args
   pub prints : conversion_text c args ≡ bytes
-
--- some arguments of the piece's kinds spell no byte
-pub record CanBeEmpty (piece : Piece) : Type 0 where
-  pub args : List Arg
-  pub have : HaveKinds (piece_kinds piece) args
-  pub none : piece_text piece args ≡ []
 
 -- the piece spells so many bytes at least from a position on, and ends at a mark
 pub record Leads (piece : Piece) (log : List ℕ) (marks : List Bool) (least from : ℕ) : Type 0 where

@@ -33,6 +33,9 @@ fn prints(
     requires { HasKind (form_kind form) arg.now }
     ensures { IfOk result (λ b. b ≡ bytes_eq (formed flags form sizes.width.value sizes.precision.value arg.now) slice.now) }
 {
+    if is_wider(sizes.width.value, slice) {
+        return Ok(false);
+    }
     let mut out = Bytes::new(alloc);
     write_formed(
         &mut out,
@@ -273,9 +276,6 @@ pub fn push_formed<'a>(
     requires { AreHeld sizes }
     ensures { OnOk result (Adds (sizes_kinds sizes form) (sizes_marks sizes) (sized_ends sizes (formed_end flags form sizes slice.now end)) out.old out.new) }
 {
-    if is_wider(sizes.width.value, slice) {
-        return Ok(());
-    }
     match form {
         Form::Signed(_) | Form::Unsigned(_, _) | Form::Char => {
             push_integer(alloc, out, flags, form, sizes, slice, end)

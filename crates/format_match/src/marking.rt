@@ -1,6 +1,6 @@
 //! From which positions a piece leads to marked ones, over all positions of a log at once.
 ghost use Rattle.std.specs.Prelude.{◌≡◌, ◌≤◌, ◌<◌, ◌+◌, ◌↔◌, ◌&&◌, ◌||◌, ℕ, true, false, length, vec_len, take, IfOk};
-ghost use Rattle.format_match.specs.Beginning.{is_marked, CanBeEmpty, IsPrinted, Leads, LeadExactly};
+ghost use Rattle.format_match.specs.Beginning.{is_marked, IsPrinted, Leads, LeadExactly};
 ghost use Rattle.format_match.specs.Spelled.{plain_text, is_printed};
 ghost use Rattle.printf_text.specs.declared.piece.Flags.{Flags};
 
@@ -53,16 +53,6 @@ fn prints_some(alloc: Global, c: &Conversion, slice: &[u8]) -> Result<bool, Allo
     Ok(!ways.as_slice().is_empty())
 }
 
-/// Whether some arguments of the piece's kinds spell no byte.
-pub fn can_be_empty(alloc: Global, piece: &Piece) -> Result<bool, AllocError>
-    ensures { IfOk result (λ b. (b ≡ true) ↔ CanBeEmpty piece.now) }
-{
-    match piece {
-        Piece::Literal(bytes) => Ok(bytes.as_slice().is_empty()),
-        Piece::Converted(c) => prints_some(alloc, c, b""),
-    }
-}
-
 /// Whether a conversion prints so many of the bytes, and a mark stands at its end.
 fn converts_by(
     alloc: Global,
@@ -109,14 +99,13 @@ fn stands(bytes: &Bytes, log: &[u8], from: usize, least: usize, marks: &[bool]) 
     requires { from ≤ length log.now }
     ensures { (result ≡ true) ↔ Leads (Piece.Literal bytes.now) log.now marks.now least from }
 {
-    let text = bytes.as_slice();
-    if text.len() < least {
+    if bytes.len() < least {
         return false;
     }
-    if !is_marked(marks, from + text.len()) {
+    if !begins(bytes.as_slice(), log.split_at(from).1) {
         return false;
     }
-    begins(text, log.split_at(from).1)
+    is_marked(marks, from + bytes.len())
 }
 
 /// Whether a piece spells so many bytes at least from a position on, and ends at a mark.
@@ -246,26 +235,20 @@ pub fn leading_on(
     Ok(on)
 }
 
-/// Whether the first mark stands at a position, or the second where it counts.
-fn is_in_either(xs: &[bool], ys: &[bool], counts: bool, at: usize) -> bool
-    ensures { result ≡ (is_marked xs.now at || (counts && is_marked ys.now at)) }
+/// Whether either mark stands at a position.
+fn is_in_either(xs: &[bool], ys: &[bool], at: usize) -> bool
+    ensures { result ≡ (is_marked xs.now at || is_marked ys.now at) }
 {
-    is_marked(xs, at) || counts && is_marked(ys, at)
+    is_marked(xs, at) || is_marked(ys, at)
 }
 
-/// Marks where the first stand, and the second where they count, up to a position.
-pub fn either(
-    alloc: Global,
-    xs: &[bool],
-    ys: &[bool],
-    counts: bool,
-    len: usize,
-) -> Result<Vec<bool>, AllocError>
-    ensures { IfOk result (λ all. (y : ℕ) → (is_marked all.items y ≡ true) ↔ (y < len) × ((is_marked xs.now y || (counts && is_marked ys.now y)) ≡ true)) }
+/// Marks where either stand, up to a position.
+pub fn either(alloc: Global, xs: &[bool], ys: &[bool], len: usize) -> Result<Vec<bool>, AllocError>
+    ensures { IfOk result (λ all. (y : ℕ) → (is_marked all.items y ≡ true) ↔ (y < len) × ((is_marked xs.now y || is_marked ys.now y) ≡ true)) }
 {
     let mut all = Vec::new(alloc);
     'positions: for at in 0..len {
-        let mark = is_in_either(xs, ys, counts, at);
+        let mark = is_in_either(xs, ys, at);
         all.push(mark)?;
     }
     Ok(all)

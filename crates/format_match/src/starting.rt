@@ -5,7 +5,7 @@ ghost use Rattle.positions.specs.Sets.{has};
 ghost use Rattle.format_match.specs.Beginning.{BeginsExactly, AreOnward, is_marked};
 
 use crate::ending::push_where;
-use crate::marking::{all_marks, can_be_empty, either, is_marked, leading, leading_on, no_marks};
+use crate::marking::{all_marks, either, is_marked, leading, leading_on, no_marks};
 use crate::matching::MatchFault;
 use positions::Positions;
 use printf_text::{Piece, Pieces};
@@ -27,8 +27,7 @@ fn at_the_end(alloc: Global, log: &[u8]) -> Result<Onward, AllocError>
     Ok(Onward { any, some })
 }
 
-/// With a piece in front of others. Where it spells a byte, anything may follow; where it spells none, what follows
-/// isn't empty.
+/// With a piece in front of others.
 fn with_piece(
     alloc: Global,
     piece: &Piece,
@@ -39,14 +38,8 @@ fn with_piece(
 {
     let any = leading(alloc, piece, log, behind.any.as_slice())?;
     let on = leading_on(alloc, piece, log, behind.any.as_slice(), any.as_slice())?;
-    let passes = can_be_empty(alloc, piece)?;
-    let some = either(
-        alloc,
-        on.as_slice(),
-        behind.some.as_slice(),
-        passes,
-        log.len() + 1,
-    )?;
+    let through = leading(alloc, piece, log, behind.some.as_slice())?;
+    let some = either(alloc, on.as_slice(), through.as_slice(), log.len() + 1)?;
     Ok(Onward { any, some })
 }
 

@@ -13,7 +13,7 @@ use Rattle.flat_reads.specs.Flats.{IsHonest}
 use Rattle.bitvectors.specs.Blasts.{IsOfWorld}
 use Rattle.path_summaries.specs.Tours.{Tour, tour_of}
 use Rattle.run_formula.specs.Formula.{OfRun, HoldsIn, the_run}
-use Rattle.query_core.specs.declared.query.Query.{Query}
+use Rattle.query_core.specs.Queries.{Query}
 use Rattle.query_core.specs.declared.target.Target.TheVariants.{Fits as Fitting, Having, Lacking}
 use Rattle.query_core.specs.Claims.{OfFact, fact_at, root_bit}
 use Rattle.query_core.specs.Replies.{IsWitness, Refutes}

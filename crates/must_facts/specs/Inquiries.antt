@@ -11,7 +11,7 @@ use Rattle.log_text.specs.Lines.{line_count}
 use Rattle.log_expr.specs.declared.table.Entry.{Entry}
 use Rattle.path_summaries.specs.Tours.{tour_of}
 use Rattle.program_facts.specs.Listing.{AreFactsOf}
-use Rattle.query_core.specs.declared.query.Query.{Query}
+use Rattle.query_core.specs.Queries.{Query}
 use Rattle.query_core.specs.Claims.{IsQuery}
 use Rattle.must_facts.specs.declared.inquiry.Inquiry.{Inquiry}
 use Rattle.must_facts.specs.declared.whole.Diagnosed.{Diagnosed}

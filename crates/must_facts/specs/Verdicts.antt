@@ -8,7 +8,7 @@ use Rattle.log_text.specs.Shown.{Fits, Holds}
 use Rattle.proof_check.specs.Steps.{Step}
 use Rattle.proof_check.specs.declared.steps.Trail.{Trail}
 use Rattle.proof_check.specs.Refutations.{IsRefutation}
-use Rattle.query_core.specs.declared.query.Query.{Query}
+use Rattle.query_core.specs.Queries.{Query}
 use Rattle.query_core.specs.declared.target.Target.TheVariants.{Fits as Fitting, Having, Lacking}
 use Rattle.query_core.specs.Claims.{claim}
 use Rattle.query_core.specs.Replies.{Spends}

@@ -1,5 +1,6 @@
 //! The diagnosis.
 ghost use Rattle.std.specs.Prelude.{◌≡◌, IfOk};
+ghost use Rattle.query_core.specs.Queries.{seen};
 ghost use Rattle.must_facts.specs.Inquiries.{IsQueryOf, matter_of};
 ghost use Rattle.must_facts.specs.Verdicts.{AreFindings, FitsOn, IsDiagnosis};
 
@@ -18,10 +19,10 @@ fn findings(
     query: &mut Query,
     world: World,
 ) -> Result<Findings, AskFault>
-    requires query { IsQueryOf inquiry.now query.old }
-    requires fits { FitsOn (matter_of inquiry.now query.old) world }
-    ensures same { query.new ≡ query.old }
-    ensures found { IfOk result (AreFindings (matter_of inquiry.now query.old) inquiry.now.facts.now) }
+    requires query { IsQueryOf inquiry.now (seen query.old) }
+    requires fits { FitsOn (matter_of inquiry.now (seen query.old)) world }
+    ensures same { seen query.new ≡ seen query.old }
+    ensures found { IfOk result (AreFindings (matter_of inquiry.now (seen query.old)) inquiry.now.facts.now) }
 {
     let mut known = Known::new(alloc);
     known.add(alloc, inquiry, world)?;
@@ -38,9 +39,9 @@ pub fn diagnose(
     inquiry: &Inquiry<'_>,
     query: &mut Query,
 ) -> Result<Diagnosis, AskFault>
-    requires query { IsQueryOf inquiry.now query.old }
-    ensures same { query.new ≡ query.old }
-    ensures diagnosis { IfOk result (IsDiagnosis (matter_of inquiry.now query.old) inquiry.now.facts.now) }
+    requires query { IsQueryOf inquiry.now (seen query.old) }
+    ensures same { seen query.new ≡ seen query.old }
+    ensures diagnosis { IfOk result (IsDiagnosis (matter_of inquiry.now (seen query.old)) inquiry.now.facts.now) }
 {
     match query.ask(alloc, Target::Fits, inquiry.conflicts)? {
         Reply::World(world) => {

@@ -1,6 +1,7 @@
 //! Verdicts on facts: by worlds that are known, else by a question.
 ghost use Rattle.std.specs.Prelude.{◌≡◌, Some, All, IfOk, true, false};
 ghost use Rattle.query_core.specs.Claims.{fact_at};
+ghost use Rattle.query_core.specs.Queries.{seen};
 ghost use Rattle.must_facts.specs.Inquiries.{IsQueryOf, matter_of};
 ghost use Rattle.must_facts.specs.Knowing.{Answers, IsKnown, Weighs, WeighsAll};
 
@@ -21,12 +22,12 @@ fn weigh_lacking(
     number: u32,
     fact: &Fact,
 ) -> Result<Verdict, AskFault>
-    requires query { IsQueryOf inquiry.now query.old }
-    requires known { IsKnown (matter_of inquiry.now query.old) known.old }
+    requires query { IsQueryOf inquiry.now (seen query.old) }
+    requires known { IsKnown (matter_of inquiry.now (seen query.old)) known.old }
     requires fact { fact_at inquiry.now.facts.now number ≡ Some fact.now }
     requires hold { All (Answers true inquiry.now.log.now fact.now) known.old.runs }
-    ensures same { query.new ≡ query.old }
-    ensures weighs { IfOk result (Weighs (matter_of inquiry.now query.old) number fact.now known.old known.new) }
+    ensures same { seen query.new ≡ seen query.old }
+    ensures weighs { IfOk result (Weighs (matter_of inquiry.now (seen query.old)) number fact.now known.old known.new) }
 {
     match query.ask(alloc, Target::Lacking(number), inquiry.conflicts)? {
         Reply::World(world) => {
@@ -55,12 +56,12 @@ fn weigh_having(
     number: u32,
     fact: &Fact,
 ) -> Result<Verdict, AskFault>
-    requires query { IsQueryOf inquiry.now query.old }
-    requires known { IsKnown (matter_of inquiry.now query.old) known.old }
+    requires query { IsQueryOf inquiry.now (seen query.old) }
+    requires known { IsKnown (matter_of inquiry.now (seen query.old)) known.old }
     requires fact { fact_at inquiry.now.facts.now number ≡ Some fact.now }
     requires fail { All (Answers false inquiry.now.log.now fact.now) known.old.runs }
-    ensures same { query.new ≡ query.old }
-    ensures weighs { IfOk result (Weighs (matter_of inquiry.now query.old) number fact.now known.old known.new) }
+    ensures same { seen query.new ≡ seen query.old }
+    ensures weighs { IfOk result (Weighs (matter_of inquiry.now (seen query.old)) number fact.now known.old known.new) }
 {
     match query.ask(alloc, Target::Having(number), inquiry.conflicts)? {
         Reply::World(world) => {
@@ -89,11 +90,11 @@ fn weigh(
     number: u32,
     fact: &Fact,
 ) -> Result<Verdict, AskFault>
-    requires query { IsQueryOf inquiry.now query.old }
-    requires known { IsKnown (matter_of inquiry.now query.old) known.old }
+    requires query { IsQueryOf inquiry.now (seen query.old) }
+    requires known { IsKnown (matter_of inquiry.now (seen query.old)) known.old }
     requires fact { fact_at inquiry.now.facts.now number ≡ Some fact.now }
-    ensures same { query.new ≡ query.old }
-    ensures weighs { IfOk result (Weighs (matter_of inquiry.now query.old) number fact.now known.old known.new) }
+    ensures same { seen query.new ≡ seen query.old }
+    ensures weighs { IfOk result (Weighs (matter_of inquiry.now (seen query.old)) number fact.now known.old known.new) }
 {
     let Some(having) = known.find(inquiry, fact, true)? else {
         return weigh_having(alloc, inquiry, query, known, number, fact);
@@ -111,10 +112,10 @@ pub(crate) fn weigh_all(
     query: &mut Query,
     known: &mut Known,
 ) -> Result<Items<Verdict>, AskFault>
-    requires query { IsQueryOf inquiry.now query.old }
-    requires known { IsKnown (matter_of inquiry.now query.old) known.old }
-    ensures same { query.new ≡ query.old }
-    ensures weighs { IfOk result (λ vs. WeighsAll (matter_of inquiry.now query.old) inquiry.now.facts.now known.new vs) }
+    requires query { IsQueryOf inquiry.now (seen query.old) }
+    requires known { IsKnown (matter_of inquiry.now (seen query.old)) known.old }
+    ensures same { seen query.new ≡ seen query.old }
+    ensures weighs { IfOk result (λ vs. WeighsAll (matter_of inquiry.now (seen query.old)) inquiry.now.facts.now known.new vs) }
 {
     let mut verdicts = Items::new(alloc);
     for index in 0..inquiry.facts.len() {

@@ -1,5 +1,6 @@
 //! From an accepted source and a log to the diagnosis.
 ghost use Rattle.std.specs.Prelude.{◌≡◌, ◌↔◌, ◌≤◌, ◌<◌, Err, IfOk, true};
+ghost use Rattle.query_core.specs.Queries.{seen};
 ghost use Rattle.must_facts.specs.Inquiries.{IsDiagnosed, RunsAlong, measure_of};
 ghost use Rattle.must_facts.specs.declared.fault.DiagnoseFault.TheVariants.{TooLarge};
 
@@ -8,6 +9,7 @@ use crate::fault::DiagnoseFault;
 use crate::inquiry::Inquiry;
 use acceptance::Accepted;
 use bit_words::{Bounds, Fact, Facts};
+use cdcl::Chooser;
 use cnf_core::Formula;
 use core_tree::Core;
 use diagnoses::Diagnosis;
@@ -62,9 +64,13 @@ fn is_within(
 }
 
 /// The query over the runs of a program along a log.
-fn query_of(alloc: Global, walked: &Walked<'_>) -> Result<Query, DiagnoseFault>
+fn query_of(
+    alloc: Global,
+    chooser: Chooser,
+    walked: &Walked<'_>,
+) -> Result<Query, DiagnoseFault>
     ensures query { IfOk result (λ q. RunsAlong walked.now.core.now walked.now.bounds.now walked.now.log.now
-        walked.now.facts.now q) }
+        walked.now.facts.now (seen q)) }
     ensures small { result ≡ Err TooLarge → ⊥ }
 {
     let Walked {
@@ -79,19 +85,20 @@ fn query_of(alloc: Global, walked: &Walked<'_>) -> Result<Query, DiagnoseFault>
     let formula = run_formula(
         alloc, core, log, bounds, &ends, facts, &mut bank, &mut walks,
     )?;
-    match Query::new(alloc, &formula, &mut bank)? {
+    match Query::new(alloc, chooser, &formula, &mut bank)? {
         Some(query) => Ok(query),
         None => Err(DiagnoseFault::Unwalked),
     }
 }
 
-/// The diagnosis of an accepted source and a log, by at most so many conflicts a question; by line, the sides of
-/// branches and the calls are facts of each line too.
+/// The diagnosis of an accepted source and a log, by at most so many conflicts a question, in which the solver decides
+/// what the chooser names; by line, the sides of branches and the calls are facts of each line too.
 ///
 /// `TooLarge` comes exactly where the source unrolls to more nodes than are followed, over the lines of the log.
 /// `Unwalked` comes where the walk doesn't do what a step of the program does yet.
 pub fn diagnose_source(
     alloc: Global,
+    chooser: Chooser,
     program: &Accepted,
     bounds: &Bounds,
     log: &LogText,
@@ -112,7 +119,7 @@ pub fn diagnose_source(
         log,
         facts: facts.facts.as_slice(),
     };
-    let mut query = query_of(alloc, &walked)?;
+    let mut query = query_of(alloc, chooser, &walked)?;
     let inquiry = Inquiry {
         program,
         bounds,

@@ -37,6 +37,12 @@ raised_way at operator access answer e v h =
     pushed (under (under h.operands))
     (raised at operator access answer (top h.operands) (top (under h.operands)) h.done)
 
+-- a leaf that does what the operator does
+pub record Works (at : ℕ) (operator : Operator) (x : Leaf) : Type 0 where
+  pub is_leaf : IsLeaf x
+  pub has_room : (room : ℕ) → HasRoom room x
+  pub same : (e : Environment) (v : Values) (h : Held) → leaf_way x e v h ≡ operated_way at operator e v h
+
 -- the address of the object that is declared here
 pub record ReachesPlace (frame : List Placed) (room at : ℕ) (a b : List Shape) (w u : Walked) : Type 0 where
   pub offset : ℕ

@@ -11,6 +11,9 @@ pub enum WalkFault {
     /// The address of an object that isn't known, or whose number is 2^32 or more.
     #[error("an object without a place")]
     Unplaced,
+    /// A pointer is moved or compared by order: not walked yet.
+    #[error("a pointer that is moved")]
+    MovedPointer,
     /// More places than 64 bits count, or than the room of the function has.
     #[error("a place beyond the room")]
     TooFar,

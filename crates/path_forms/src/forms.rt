@@ -1,15 +1,16 @@
 //! What single nodes make of states that go on.
-ghost use Rattle.std.specs.Prelude.{OnOk, IsTrue};
+ghost use Rattle.std.specs.Prelude.{OnOk, IfSome, IsTrue};
 ghost use Rattle.path_steps.specs.declared.leaf.Leaf.TheVariants as l;
 ghost use Rattle.path_steps.specs.Leaves.{IsLeaf, IsWithin, HasRoom, leaf_way};
 ghost use Rattle.path_forms.specs.Reaching.{Ready, Reaches, operated_way};
-ghost use Rattle.path_forms.specs.Steps.{recalled_way, raised_way, ReachesPlace};
+ghost use Rattle.path_forms.specs.Steps.{recalled_way, raised_way, Works, ReachesPlace};
 ghost use Rattle.path_steps.specs.Memories.{IsScalar};
 ghost use Rattle.core_tree.specs.declared.types.Answered.TheVariants as a;
 
 use crate::fault::WalkFault;
 use crate::frame::{Placed, place_of};
-use core_tree::{Access, Answered, Operator};
+use core_tree::{Access, Answered, Arithmetic, Operator};
+use path_numbers::ADDRESS;
 use path_states::{Walked, settled};
 use path_steps::{Leaf, then_each};
 use std::alloc::Global;
@@ -100,7 +101,27 @@ pub fn local(
     }
 }
 
-/// An operator on the two values on top. It fails for want of memory alone.
+/// The leaf that does an operator, where there is one.
+fn worked_by(at: u32, operator: Operator) -> Option<Leaf>
+    ensures { IfSome result (Works at operator) }
+{
+    match operator {
+        Operator::Numbers(operator, word) => Some(Leaf::Numbers { at, operator, word }),
+        Operator::Same => Some(Leaf::Numbers {
+            at,
+            operator: Arithmetic::Equal,
+            word: ADDRESS,
+        }),
+        Operator::Different => Some(Leaf::Numbers {
+            at,
+            operator: Arithmetic::NotEqual,
+            word: ADDRESS,
+        }),
+        _ => None,
+    }
+}
+
+/// An operator on the two values on top.
 pub fn operate(
     alloc: Global,
     bank: &mut Bank,
@@ -112,8 +133,13 @@ pub fn operate(
     requires { Ready bank.old walked.old }
     ensures { OnOk result (Reaches room bank.old bank.new walked.old walked.new (operated_way at operator)) }
 {
-    leaf(alloc, bank, room, Leaf::Operate { at, operator }, walked)?;
-    Ok(())
+    match worked_by(at, operator) {
+        Some(works) => {
+            leaf(alloc, bank, room, works, walked)?;
+            Ok(())
+        }
+        None => Err(WalkFault::MovedPointer),
+    }
 }
 
 /// What stands at the address on top is put on it.

@@ -8,7 +8,7 @@ use Rattle.std.proofs.Math.Nat.{mod-eq_of_lt}
 use Rattle.bit_words.specs.declared.width.Width.TheVariants.{W64}
 use Rattle.bit_words.specs.Words.{shl}
 use Rattle.c_store.specs.Store.{start}
-use Rattle.core_tree.specs.Numbers.{turned}
+use Rattle.core_tree.specs.Numbers.{turned, worked}
 use Rattle.term_bank.specs.declared.shape.WordOperator.TheVariants as operator
 use Rattle.term_bank.specs.declared.shape.Shape.{Shape}
 use Rattle.term_bank.specs.declared.shape.Shape.TheVariants.{Base, Constant, Binary}
@@ -32,7 +32,6 @@ use Rattle.path_states.specs.States.{onto, done_in}
 use Rattle.path_numbers.specs.Answers.{Numbered, Worded}
 use Rattle.path_steps.specs.Operands.{Pops, under, top, on_none}
 use Rattle.path_steps.proofs.AccessLemmas.{load_keeps, put_keeps}
-use Rattle.path_steps.proofs.OperatorLemmas.{operator_keeps}
 use Rattle.path_steps.proofs.Trials.{Keeps, answer_keeps, found_by_none, nothing_so, tries_put, with_operand}
 
 -- ---- places
@@ -89,7 +88,9 @@ leaf_keeps leaf.Again = record { keeps = λ e v h k. (k, tt) }
 leaf_keeps leaf.Tuck = record { keeps = λ e v h k. (k, tt) }
 leaf_keeps leaf.Not = record { keeps = λ e v h k. (k, tt) }
 leaf_keeps (leaf.Turn at o word) = record { keeps = λ e v h k. answer_keeps (under h.operands) (turned o word (top h.operands)) at h.done k }
-leaf_keeps (leaf.Operate at o) = operator_keeps at o
+leaf_keeps (leaf.Numbers at o word) = record {
+  keeps = λ e v h k. answer_keeps (under (under h.operands)) (worked o word (top (under h.operands)) (top h.operands)) at h.done k;
+}
 
 pub enough : (x : Leaf) → HasRoom (room_for x) x
 enough (leaf.Constant z) = tt
@@ -104,7 +105,7 @@ enough leaf.Again = tt
 enough leaf.Tuck = tt
 enough leaf.Not = tt
 enough (leaf.Turn at o word) = tt
-enough (leaf.Operate at o) = tt
+enough (leaf.Numbers at o word) = tt
 
 -- ---- lists
 

@@ -1,9 +1,6 @@
 pub mod Popping
 pub mod Exiting
 pub mod Trials
-pub mod OperatorLemmas
-pub mod PointerLaws
-pub mod PointerTerms
 pub mod LeafLemmas
 pub mod Naturals
 pub mod AccessLemmas

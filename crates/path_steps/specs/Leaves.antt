@@ -2,8 +2,7 @@
 use Rattle.std.specs.Prelude.{ℕ, suc, List, ◌∷◌, ◌+◌, ◌<◌, ◌-◌, ◌^◌, ℤ, pos, negsuc, ◌≤ℤ◌, Some, Ok, unsigned_abs}
 use Rattle.c_store.specs.Store.{start}
 use Rattle.c_type_terms.specs.Integers.{is_zero, number_of}
-use Rattle.core_tree.specs.Memory.{operated}
-use Rattle.core_tree.specs.Numbers.{converted_to, turned}
+use Rattle.core_tree.specs.Numbers.{converted_to, turned, worked}
 use Rattle.core_tree.specs.States.{found, or_stop}
 use Rattle.term_bank.specs.declared.shape.Shape.{Shape}
 use Rattle.term_bank.specs.Values.{Grows}
@@ -35,7 +34,7 @@ leaf_way (leaf.Fixed place) = on_none (λ e d. found (pos (start place)) d)
 leaf_way (leaf.Offset bytes) = on_one (λ e z d. found (pos (behind bytes (unsigned_abs z))) d)
 leaf_way leaf.Not = on_one (λ e z d. found (number_of (is_zero z)) d)
 leaf_way (leaf.Turn at operator word) = on_one (λ e z d. or_stop at (turned operator word z) d)
-leaf_way (leaf.Operate at operator) = on_two (λ e x y d. operated at operator x y d)
+leaf_way (leaf.Numbers at operator word) = on_two (λ e x y d. or_stop at (worked operator word x y) d)
 leaf_way (leaf.Load access) = on_one (λ e z d. load_by access (unsigned_abs z) d)
 leaf_way (leaf.Put at access) = on_two (λ e a z d. put_by at access (unsigned_abs a) z d)
 leaf_way leaf.Drop = shifts under

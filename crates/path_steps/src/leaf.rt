@@ -1,4 +1,4 @@
-use core_tree::{Access, Operator, Turning, ValueType, WordType};
+use core_tree::{Access, Arithmetic, Turning, ValueType, WordType};
 
 /// What an expression does with the values of its parts. `at` is the byte offset of a token in the source.
 #[derive(Clone, Copy, Debug, PartialEq, Eq)]
@@ -27,10 +27,11 @@ pub enum Leaf {
         operator: Turning,
         word: WordType,
     },
-    /// An operator on the values of two operands.
-    Operate {
+    /// An operator on two numbers in an integer type.
+    Numbers {
         at: u32,
-        operator: Operator,
+        operator: Arithmetic,
+        word: WordType,
     },
     /// The scalar that stands at an address.
     Load {

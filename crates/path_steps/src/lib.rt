@@ -6,7 +6,6 @@ mod addresses;
 mod leaf;
 mod memory_steps;
 mod operands;
-mod operators;
 mod parting;
 mod settling;
 mod steps;

@@ -1,8 +1,7 @@
 ghost use Rattle.std.specs.Prelude.{◌≡◌, ◌++◌, ◌∷◌, [], IfOk, Some, Ok};
 ghost use Rattle.std.specs.Prelude.{◌<◌, ◌+◌, ◌-◌, ◌^◌, ◌≤ℤ◌, pos, negsuc, ℕ, unsigned_abs};
 ghost use Rattle.c_type_terms.specs.Integers.{is_zero, number_of};
-ghost use Rattle.core_tree.specs.Memory.{operated as operated_by};
-ghost use Rattle.core_tree.specs.Numbers.{converted_to, turned as turned_in};
+ghost use Rattle.core_tree.specs.Numbers.{converted_to, turned as turned_in, worked as worked_in};
 ghost use Rattle.core_tree.specs.States.{found, or_stop};
 ghost use Rattle.path_states.specs.States.{IsState, AreStates, IsNumber};
 ghost use Rattle.path_states.specs.Ways.{Tries};
@@ -17,11 +16,10 @@ use crate::addresses::natural;
 use crate::leaf::Leaf;
 use crate::memory_steps::{load_step, put_step};
 use crate::operands::pop;
-use crate::operators::operate;
 use crate::settling::{exit_of, settle};
 use bit_words::Width;
-use core_tree::{Operator, Turning, ValueType, WordType};
-use path_numbers::{ADDRESS, Tested, constant, converted, flag, truth, turned};
+use core_tree::{Arithmetic, Turning, ValueType, WordType};
+use path_numbers::{ADDRESS, Tested, constant, converted, flag, truth, turned, worked};
 use path_states::{Number, State, Walked, settled};
 use std::alloc::Global;
 use term_bank::{Bank, BankFault, WordOperator};
@@ -130,24 +128,23 @@ fn turn_step(
     Ok(walked)
 }
 
-fn operate_step(
+fn numbers_step(
     alloc: Global,
     bank: &mut Bank,
     at: u32,
-    operator: Operator,
+    operator: Arithmetic,
+    word: WordType,
     state: State,
 ) -> Result<Walked, BankFault>
     requires { IsState bank.old state }
     ensures { IfOk result (λ w. (room : ℕ) → Tries room bank.old bank.new state w
-        (on_two (λ e x y d. operated_by at operator x y d))) }
+        (on_two (λ e x y d. or_stop at (worked_in operator word x y) d))) }
 {
     let mut state = state;
     let right = pop(bank, &mut state)?;
     let left = pop(bank, &mut state)?;
-    let operated = operate(bank, state.memory, at, operator, left, right)?;
-    let mut next = state.copy(alloc)?;
-    next.operands.push(operated.number)?;
-    let walked = settle(alloc, bank, &state, next, operated.first, operated.second)?;
+    let tested = worked(bank, operator, word, left, right)?;
+    let walked = answer(alloc, bank, &state, at, tested)?;
     Ok(walked)
 }
 
@@ -305,8 +302,8 @@ pub fn step(alloc: Global, bank: &mut Bank, leaf: Leaf, state: State) -> Result<
             let walked = turn_step(alloc, bank, at, operator, word, state)?;
             Ok(walked)
         }
-        Leaf::Operate { at, operator } => {
-            let walked = operate_step(alloc, bank, at, operator, state)?;
+        Leaf::Numbers { at, operator, word } => {
+            let walked = numbers_step(alloc, bank, at, operator, word, state)?;
             Ok(walked)
         }
     }

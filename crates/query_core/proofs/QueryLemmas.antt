@@ -23,7 +23,7 @@ use Rattle.bitvectors.specs.Blasts.{HaveValues, IsBlasted, IsOfWorld}
 use Rattle.path_summaries.specs.Tours.{Tour}
 use Rattle.run_formula.specs.declared.formula.RunFormula.{RunFormula}
 use Rattle.run_formula.specs.Formula.{FitsIn, HoldsIn, SaysFact, SayFacts, IsFormula}
-use Rattle.query_core.specs.declared.query.Query.{Query}
+use Rattle.query_core.specs.Queries.{Query}
 use Rattle.query_core.specs.declared.target.Target.TheVariants.{Having, Lacking}
 use Rattle.query_core.specs.Claims.{fact_at, asked_nodes, first_bit, root_bit, run_clauses, IsMade, IsWhole, IsAbout, IsDecoded, TellsFacts, HasRun, FitsAs, IsQuery}
 use Rattle.query_core.proofs.BitLemmas.{first-holds, holds-both, holds-parts}

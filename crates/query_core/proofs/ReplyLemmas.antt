@@ -17,7 +17,7 @@ use Rattle.term_bank.specs.Values.{Environment}
 use Rattle.flat_reads.specs.Flats.{IsHonest}
 use Rattle.path_summaries.specs.Tours.{Tour}
 use Rattle.run_formula.specs.Formula.{FitsIn, HoldsIn}
-use Rattle.query_core.specs.declared.query.Query.{Query}
+use Rattle.query_core.specs.Queries.{Query}
 use Rattle.query_core.specs.declared.target.Target.{Target}
 use Rattle.query_core.specs.declared.target.Target.TheVariants.{Fits, Having, Lacking}
 use Rattle.query_core.specs.declared.reply.Reply.{Reply}

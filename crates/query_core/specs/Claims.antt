@@ -18,7 +18,7 @@ use Rattle.bitvectors.specs.Blasts.{HasWidth, IsBlasted, IsOfWorld, Shows}
 use Rattle.path_summaries.specs.Tours.{Tour}
 use Rattle.run_formula.specs.declared.formula.RunFormula.{RunFormula}
 use Rattle.run_formula.specs.Formula.{FitsIn, HoldsIn}
-use Rattle.query_core.specs.declared.query.Query.{Query}
+use Rattle.query_core.specs.Queries.{Query}
 use Rattle.query_core.specs.declared.target.Target.{Target}
 use Rattle.query_core.specs.declared.target.Target.TheVariants.{Fits, Having, Lacking}
 

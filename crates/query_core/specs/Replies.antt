@@ -12,7 +12,7 @@ use Rattle.term_bank.specs.Values.{Environment}
 use Rattle.flat_reads.specs.Flats.{IsHonest}
 use Rattle.bitvectors.specs.Blasts.{IsOfWorld}
 use Rattle.path_summaries.specs.Tours.{Tour}
-use Rattle.query_core.specs.declared.query.Query.{Query}
+use Rattle.query_core.specs.Queries.{Query}
 use Rattle.query_core.specs.declared.target.Target.{Target}
 use Rattle.query_core.specs.declared.reply.Reply.{Reply}
 use Rattle.query_core.specs.declared.reply.Reply.TheVariants.{World, Refuted, Spent}

@@ -1,5 +1,6 @@
 //! Questions.
 ghost use Rattle.std.specs.Prelude.{◌≡◌, IfOk};
+ghost use Rattle.query_core.specs.Queries.{seen};
 ghost use Rattle.query_core.specs.Claims.{IsWhole, IsAbout};
 ghost use Rattle.query_core.specs.Replies.{IsReply, IsSought};
 
@@ -17,9 +18,9 @@ use std::alloc::Global;
 impl Query {
     /// What the solver answers under assumptions.
     fn search(&mut self, alloc: Global, assume: &[Lit], conflicts: u32) -> Result<Reply, AskFault>
-        requires whole { IsWhole self.old }
-        ensures reply { IfOk result (IsSought self.old assume.now conflicts) }
-        ensures same { self.new ≡ self.old }
+        requires whole { IsWhole (seen self.old) }
+        ensures reply { IfOk result (IsSought (seen self.old) assume.now conflicts) }
+        ensures same { seen self.new ≡ seen self.old }
     {
         let answer = self.solver.solve(alloc, assume, conflicts)?;
         match answer {
@@ -39,10 +40,10 @@ impl Query {
     /// bits alone say that no run that fits is so, nothing is searched for. It fails for want of memory alone, and may
     /// be asked again whatever it answers.
     pub fn ask(&mut self, alloc: Global, target: Target, conflicts: u32) -> Result<Reply, AskFault>
-        requires whole { IsWhole self.old }
-        requires target { IsAbout self.old target }
-        ensures reply { IfOk result (IsReply self.old target conflicts) }
-        ensures same { self.new ≡ self.old }
+        requires whole { IsWhole (seen self.old) }
+        requires target { IsAbout (seen self.old) target }
+        ensures reply { IfOk result (IsReply (seen self.old) target conflicts) }
+        ensures same { seen self.new ≡ seen self.old }
     {
         match bit_of_target(&self.blasted.roots, target) {
             Bit::Known(true) => {

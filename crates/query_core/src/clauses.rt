@@ -1,5 +1,6 @@
 //! Clauses that say that bits are true.
 ghost use Rattle.std.specs.Prelude.{◌≡◌, ◌++◌, ◌∷◌, ◌+◌, [], length, IfOk, OnOk};
+ghost use Rattle.cdcl.specs.Solvers.{clauses_of};
 ghost use Rattle.query_core.specs.Claims.{claimed, refuting};
 
 use crate::fault::AskFault;
@@ -38,7 +39,7 @@ pub(crate) fn push_all(formula: &mut Formula, more: &Formula) -> Result<(), Allo
 
 /// Adds the clause of these literals.
 fn add_clause(alloc: Global, solver: &mut Solver, literals: &[Lit]) -> Result<(), AskFault>
-    ensures { OnOk result (solver.new ≡ solver.old ++ literals.now ∷ []) }
+    ensures { OnOk result (clauses_of solver.new.search ≡ clauses_of solver.old.search ++ literals.now ∷ []) }
 {
     let literals = Vec::from_slice(alloc, literals)?;
     solver.add(Clause::from_vec(literals))?;
@@ -47,7 +48,7 @@ fn add_clause(alloc: Global, solver: &mut Solver, literals: &[Lit]) -> Result<()
 
 /// Adds the clauses that say that a bit is true.
 pub(crate) fn add_claim(alloc: Global, solver: &mut Solver, bit: &Bit) -> Result<(), AskFault>
-    ensures { OnOk result (solver.new ≡ solver.old ++ claimed bit.now) }
+    ensures { OnOk result (clauses_of solver.new.search ≡ clauses_of solver.old.search ++ claimed bit.now) }
 {
     match bit {
         Bit::Known(true) => Ok(()),
@@ -64,7 +65,7 @@ pub(crate) fn add_claim(alloc: Global, solver: &mut Solver, bit: &Bit) -> Result
 
 /// Adds the clauses of a formula.
 pub(crate) fn add_all(alloc: Global, solver: &mut Solver, formula: &Formula) -> Result<(), AskFault>
-    ensures { OnOk result (solver.new ≡ solver.old ++ formula.now) }
+    ensures { OnOk result (clauses_of solver.new.search ≡ clauses_of solver.old.search ++ formula.now) }
 {
     'clauses: for index in 0..formula.len() {
         add_clause(alloc, solver, formula.clause(index))?;

@@ -8,6 +8,8 @@ ghost use Rattle.term_bank.specs.declared.shape.Shape.{Shape};
 ghost use Rattle.bitvectors.specs.Reads.{IfNone, IsNotPlain};
 ghost use Rattle.path_summaries.specs.Tours.{Tour};
 ghost use Rattle.run_formula.specs.Formula.{IsFormula};
+ghost use Rattle.cdcl.specs.Solvers.{clauses_of};
+ghost use Rattle.query_core.specs.Queries.{seen};
 ghost use Rattle.query_core.specs.Claims.{asked_nodes, claimed, claim, IsMade, IsWhole, IsQuery};
 
 use crate::bits::{bit_of_root, bit_of_target};
@@ -15,7 +17,7 @@ use crate::clauses::{add_all, add_claim, number_behind, push_all, push_claim};
 use crate::fault::AskFault;
 use crate::target::Target;
 use bitvectors::{Blasted, blast_reads};
-use cdcl::Solver;
+use cdcl::{Chooser, Solver};
 use cnf_core::Formula;
 use gates::Bit;
 use plain_data::Items;
@@ -45,22 +47,27 @@ fn roots_of(alloc: Global, formula: &RunFormula) -> Result<Items<Node>, AllocErr
 }
 
 /// A solver over the clauses that say that the run fits.
-fn solver_of(alloc: Global, blasted: &Blasted, fits: &Bit) -> Result<Solver, AskFault>
-    ensures { IfOk result (λ solver. solver ≡ blasted.now.formula ++ claimed fits.now) }
+fn solver_of(
+    alloc: Global,
+    chooser: Chooser,
+    blasted: &Blasted,
+    fits: &Bit,
+) -> Result<Solver, AskFault>
+    ensures { IfOk result (λ solver. clauses_of solver.search ≡ blasted.now.formula ++ claimed fits.now) }
 {
-    let mut solver = Solver::new(alloc);
+    let mut solver = Solver::new(alloc, chooser);
     add_all(alloc, &mut solver, &blasted.formula)?;
     add_claim(alloc, &mut solver, fits)?;
     Ok(solver)
 }
 
 /// The query over these clauses.
-fn query_of(alloc: Global, blasted: Blasted) -> Result<Query, AskFault>
-    ensures { IfOk result (IsMade blasted) }
+fn query_of(alloc: Global, chooser: Chooser, blasted: Blasted) -> Result<Query, AskFault>
+    ensures { IfOk result (λ query. IsMade blasted (seen query)) }
 {
     let fits = bit_of_root(&blasted.roots, 0);
     let last = number_behind(&blasted.formula, &fits)?;
-    let solver = solver_of(alloc, &blasted, &fits)?;
+    let solver = solver_of(alloc, chooser, &blasted, &fits)?;
     Ok(Query {
         blasted,
         solver,
@@ -69,18 +76,19 @@ fn query_of(alloc: Global, blasted: Blasted) -> Result<Query, AskFault>
 }
 
 impl Query {
-    /// The query of a run formula over its bank: none where what stands for its truths without reads depends on more
-    /// than the world. It fails for want of memory alone.
+    /// The query of a run formula over its bank, whose solver decides what the chooser names: none where what stands for its truths without reads depends on more
+    /// than the world, or asks for a memory's objects. It fails for want of memory alone.
     pub fn new(
         alloc: Global,
+        chooser: Chooser,
         formula: &RunFormula,
         bank: &mut Bank,
     ) -> Result<Option<Query>, AskFault>
         requires bank { IsBank bank.old }
         requires roots { Each (IsNode bank.old) (asked_nodes formula.now) }
         ensures query { IfOk result (λ found. IfSome found (λ q. (t : Tour) (a : List Shape) (fs : List Fact) →
-            IsFormula t a bank.old fs formula.now → IsQuery t fs q)) }
-        ensures whole { IfOk result (λ found. IfSome found IsWhole) }
+            IsFormula t a bank.old fs formula.now → IsQuery t fs (seen q))) }
+        ensures whole { IfOk result (λ found. IfSome found (λ q. IsWhole (seen q))) }
         ensures none { IfOk result (λ found. IfNone found (IsNotPlain bank.new (asked_nodes formula.now))) }
         ensures grows { Grows bank.old bank.new }
         ensures bank { IsBank bank.new }
@@ -89,7 +97,7 @@ impl Query {
         match blast_reads(alloc, bank, roots.as_slice())? {
             None => Ok(None),
             Some(blasted) => {
-                let query = query_of(alloc, blasted)?;
+                let query = query_of(alloc, chooser, blasted)?;
                 Ok(Some(query))
             }
         }
@@ -100,8 +108,8 @@ impl Query {
     /// the bits alone there is no clause more. A refutation that the query answers to this target is one of exactly
     /// these clauses. It fails for want of memory alone.
     pub fn claim_formula(&self, alloc: Global, target: Target) -> Result<Formula, AskFault>
-        requires whole { IsWhole self.now }
-        ensures { IfOk result (λ formula. formula ≡ claim self.now target) }
+        requires whole { IsWhole (seen self.now) }
+        ensures { IfOk result (λ formula. formula ≡ claim (seen self.now) target) }
     {
         let mut formula = Formula::new(alloc);
         push_all(&mut formula, &self.blasted.formula)?;

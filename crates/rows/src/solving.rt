@@ -2,7 +2,7 @@
 //! error.
 use crate::formulas;
 use anyhow::{Result, anyhow, bail, ensure};
-use cdcl::{Answer, Solver};
+use cdcl::{Answer, Chooser, Solver, most_active};
 use cnf_core::{Clause, Formula, Lit, satisfies};
 use proof_check::{Checker, Refutation, StepFault, Steps, Trail};
 use std::alloc::Global;
@@ -96,8 +96,8 @@ fn read_questions(alloc: Global, text: &str, usual: u32) -> Result<(Formula, Vec
     Ok((formula, questions))
 }
 
-fn solver_of(alloc: Global, formula: &Formula) -> Result<Solver> {
-    let mut solver = Solver::new(alloc);
+fn solver_of(alloc: Global, chooser: Chooser, formula: &Formula) -> Result<Solver> {
+    let mut solver = Solver::new(alloc, chooser);
     for index in 0..formula.len() {
         solver.add(Clause::from_vec(formula.clause(index).to_vec(alloc)?))?;
     }
@@ -131,7 +131,7 @@ fn ask_all(
 
 /// The answers of one solver to all questions about a formula.
 fn examine_all(alloc: Global, formula: &Formula, questions: &[Question]) -> Result<Vec<Verdict>> {
-    let mut solver = solver_of(alloc, formula)?;
+    let mut solver = solver_of(alloc, Chooser::new(most_active), formula)?;
     ask_all(alloc, &mut solver, formula, questions)
 }
 

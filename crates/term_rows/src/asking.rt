@@ -9,7 +9,7 @@ use crate::terms::{Terms, Wish, read_terms};
 use anyhow::Result;
 use bit_words::World;
 use bitvectors::Blasted;
-use cdcl::Solver;
+use cdcl::{Chooser, Solver, most_active};
 use cnf_core::{Assignment, Formula, Lit};
 use gates::Bit;
 use plain_data::Rows;
@@ -130,7 +130,7 @@ fn answer_blasted(alloc: Global, blasted: &mut Blasted, wishes: &[Wish]) -> Resu
 {
     let mut out = String::new(alloc);
     push_wishes(&mut blasted.formula, &blasted.roots, wishes)?;
-    let mut solver = solver_of(alloc, &blasted.formula)?;
+    let mut solver = solver_of(alloc, Chooser::new(most_active), &blasted.formula)?;
     match model_of(alloc, &blasted.formula, &mut solver)? {
         Some(values) => {
             let world = blasted.decode(alloc, &values)?;

@@ -10,6 +10,7 @@ use crate::terms::node_of;
 use anyhow::{Result, anyhow};
 use bit_words::Width;
 use bitvectors::Blasted;
+use cdcl::{Chooser, most_active};
 use std::alloc::Global;
 use term_bank::{Bank, Connective, Node, Sort, WordTest};
 
@@ -64,7 +65,7 @@ fn blast_chain(alloc: Global, count: u32) -> Result<Blasted>
 pub fn answer_chain(alloc: Global, count: u32) -> Result<String> {
     let blasted = blast_chain(alloc, count)?;
     let clauses = blasted.formula.len();
-    let mut solver = solver_of(alloc, &blasted.formula)?;
+    let mut solver = solver_of(alloc, Chooser::new(most_active), &blasted.formula)?;
     match model_of(alloc, &blasted.formula, &mut solver)? {
         Some(values) => {
             let world = blasted.decode(alloc, &values)?;

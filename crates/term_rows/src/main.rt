@@ -12,7 +12,6 @@
 mod asking;
 mod blasting;
 mod chains;
-mod memories;
 mod names;
 mod solving;
 mod terms;

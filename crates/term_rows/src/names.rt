@@ -3,27 +3,6 @@
 use bit_words::Width;
 use term_bank::{Connective, Extension, WordOperator, WordTest};
 
-/// What a statement makes of memories, or asks of one.
-#[derive(Clone, Copy)]
-pub enum MemoryForm {
-    /// `memory`: that of the world's initial bytes, with no object.
-    Initial,
-    /// `store BITS MEMORY ADDRESS WORD`.
-    Write,
-    /// `load BITS MEMORY ADDRESS`.
-    Read,
-    /// `made KIND MEMORY OBJECT SIZE`: kinds are numbered from 0, static, automatic, literal, heap, outside.
-    Made,
-    /// `ended MEMORY OBJECT`.
-    Ended,
-    /// `object_size MEMORY OBJECT`.
-    Size,
-    /// `is_live MEMORY ADDRESS LENGTH`.
-    Live,
-    /// `has_kind KIND MEMORY OBJECT`.
-    Kind,
-}
-
 /// What a statement makes. Behind its name stand numbers: bits of words, values, and statements.
 #[derive(Clone, Copy)]
 pub enum Form {
@@ -45,7 +24,6 @@ pub enum Form {
     Connect(Connective),
     /// `choose TRUTH THEN ELSE`.
     Choose,
-    Memory(MemoryForm),
 }
 
 /// The width of so many bits.
@@ -113,20 +91,6 @@ fn other_named(name: &str) -> Option<Form> {
     }
 }
 
-fn memory_named(name: &str) -> Option<MemoryForm> {
-    match name {
-        "memory" => Some(MemoryForm::Initial),
-        "store" => Some(MemoryForm::Write),
-        "load" => Some(MemoryForm::Read),
-        "made" => Some(MemoryForm::Made),
-        "ended" => Some(MemoryForm::Ended),
-        "object_size" => Some(MemoryForm::Size),
-        "is_live" => Some(MemoryForm::Live),
-        "has_kind" => Some(MemoryForm::Kind),
-        _ => None,
-    }
-}
-
 /// What the statements of a name make.
 pub fn form_named(name: &str) -> Option<Form> {
     if let Some(operator) = arithmetic_named(name) {
@@ -137,9 +101,6 @@ pub fn form_named(name: &str) -> Option<Form> {
     }
     if let Some(test) = test_named(name) {
         return Some(Form::Test(test));
-    }
-    if let Some(form) = memory_named(name) {
-        return Some(Form::Memory(form));
     }
     other_named(name)
 }

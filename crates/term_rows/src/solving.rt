@@ -1,7 +1,7 @@
 //! Formulas, solved. An answer whose evidence doesn't hold is an error.
 
 use anyhow::{Result, anyhow, ensure};
-use cdcl::{Answer, Solver};
+use cdcl::{Answer, Chooser, Solver};
 use cnf_core::{Assignment, Clause, Formula, Lit, satisfies};
 use proof_check::{Checker, Refutation};
 use std::alloc::Global;
@@ -10,8 +10,8 @@ use std::alloc::Global;
 const CONFLICTS: u32 = 1_000_000;
 
 /// A solver over the clauses of a formula.
-pub fn solver_of(alloc: Global, formula: &Formula) -> Result<Solver> {
-    let mut solver = Solver::new(alloc);
+pub fn solver_of(alloc: Global, chooser: Chooser, formula: &Formula) -> Result<Solver> {
+    let mut solver = Solver::new(alloc, chooser);
     for index in 0..formula.len() {
         solver.add(Clause::from_vec(formula.clause(index).to_vec(alloc)?))?;
     }

@@ -2,7 +2,6 @@
 ghost use Rattle.std.specs.Prelude.{IfOk};
 ghost use Rattle.term_bank.specs.Terms.{IsTerm};
 
-use crate::memories::make_memory;
 use crate::names::{Form, form_named, width_of};
 use anyhow::{Result, anyhow};
 use bit_words::{Width, wrap};
@@ -30,12 +29,12 @@ pub struct Terms {
 }
 
 /// The operand at an index, 0 where there is none.
-pub fn operand(operands: &[u64], index: usize) -> u64 {
+fn operand(operands: &[u64], index: usize) -> u64 {
     operands.get(index).copied().unwrap_or(0)
 }
 
 /// The width that an operand says.
-pub fn width_at(operands: &[u64], index: usize) -> Result<Width> {
+fn width_at(operands: &[u64], index: usize) -> Result<Width> {
     width_of(operand(operands, index)).ok_or(anyhow!("no width"))
 }
 
@@ -62,7 +61,7 @@ pub fn node_of(bank: &Bank, number: u32, sort: Sort) -> Result<Node>
 }
 
 /// The node of the statement that an operand names, which must be of a sort.
-pub fn node_at(bank: &Bank, numbers: &[u32], operands: &[u64], index: usize, sort: Sort) -> Result<Node>
+fn node_at(bank: &Bank, numbers: &[u32], operands: &[u64], index: usize, sort: Sort) -> Result<Node>
     ensures { IfOk result (IsTerm bank.now sort) }
 {
     let number = number_at(numbers, operands, index)?;
@@ -163,7 +162,6 @@ fn make(bank: &mut Bank, form: Form, numbers: &[u32], operands: &[u64]) -> Resul
         Form::Not => make_not(bank, numbers, operands),
         Form::Connect(connective) => make_connected(bank, connective, numbers, operands),
         Form::Choose => make_choice(bank, numbers, operands),
-        Form::Memory(form) => make_memory(bank, form, numbers, operands),
     }
 }
 

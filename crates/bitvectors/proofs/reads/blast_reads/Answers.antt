@@ -1,9 +1,7 @@
-use Rattle.std.proofs.Common.{rules, subst, sym}
-use Rattle.term_bank.specs.Under.{IsOnly}
+use Rattle.std.proofs.Common.{subst, sym}
 use Rattle.term_bank.specs.Shapes.{Each, IsNode}
 use Rattle.bitvectors.specs.Blasts.{IsBlasted}
-use Rattle.bitvectors.specs.Signals.{is_plain}
-use Rattle.bitvectors.proofs.ReadLemmas.{blasted-back, flat-nodes, nodes-grown, none-plain}
+use Rattle.bitvectors.proofs.ReadLemmas.{blasted-back, flat-nodes, nodes-grown}
 use Rattle.bitvectors.proofs.reads.blast_reads.Goals as goal
 
 pub are_plain-requires : goal.are_plain-requires
@@ -16,10 +14,3 @@ pub returns-clause-blasted : goal.returns-clause-blasted
 returns-clause-blasted c =
     blasted-back c.flat_roots.new.bank c.args.roots.now c.in-Ok.flat c.in_ok-blasted.blasted (nodes-grown c.args.bank.now c.flat_roots.new.bank c.args.roots.now c.in-Ok.ensures.grows c.requires.roots) c.in-Ok.ensures.nodes
     (subst (λ f. IsBlasted c.flat_roots.new.bank f c.in_ok-blasted.blasted) c.as_slice-2.ensures c.in_ok-blasted.ensures)
-
-pub returns-then-not-are_plain-clause-none : goal.returns-then-not-are_plain-clause-none
-returns-then-not-are_plain-clause-none c =
-    let shapes = c.flat_roots.new.bank in
-    let flat = c.in-Ok.flat in
-    let other : (Each (λ r. IsOnly is_plain shapes r.index) flat → ⊥) = search rules in
-    none-plain shapes c.args.roots.now flat c.in-Ok.ensures.bank (nodes-grown c.args.bank.now shapes c.args.roots.now c.in-Ok.ensures.grows c.requires.roots) c.in-Ok.ensures.nodes other

@@ -27,7 +27,7 @@ returns-in_default c =
     let new = c.add.new.self in
     let e = c.add.ensures in
     record {
-      node = flat_other new c.args.shape c.add.result (record { no_read = c.in_default.not-Read; no_byte = c.in_default.not-InitialByte; no_live = c.in_default.not-IsLive; no_kind = c.in_default.not-HasKind; no_size = c.in_default.not-ObjectSize }) e.node e.sort e.value e.over;
+      node = flat_other new c.args.shape c.add.result c.in_default.not-Read c.in_default.not-InitialByte e.node e.sort e.value e.over;
       answers = always (AreAnswers new c.args.answers.now) c.add.result (answers_grown c.args.bank.now new c.args.answers.now e.grows c.requires.answers);
       grows = e.grows;
       bank = e.bank;

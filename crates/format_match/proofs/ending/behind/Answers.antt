@@ -1,4 +1,4 @@
-use Rattle.std.proofs.Common.{arith, ◌<◌, ◌≤◌, length, get_or, sym, subst}
+use Rattle.std.proofs.Common.{◌∙◌, arith, ◌<◌, ◌≤◌, length, get_or, sym, subst}
 use Rattle.format_match.specs.Spelled.{AddsEnds, EndsBehind}
 use Rattle.format_match.proofs.Reached.{behind_more, behind_all, stands}
 use Rattle.format_match.proofs.PlainTexts.{plain_is, texts_end}

@@ -1,7 +1,10 @@
 use Rattle.std.proofs.Common.{◌≡◌, ◌≤◌, ◌+◌, true, false, take, length, subst, arith, rules}
 use Rattle.format_match.specs.Beginning.{IsPrinted, Leads}
-use Rattle.format_match.specs.Reaches.{Reaches}
+use Rattle.format_match.specs.Splits.{begins}
+use Rattle.printf_text.specs.Texts.{conversion_text}
+use Rattle.printf_text.specs.declared.piece.Arg.{Arg}
 use Rattle.printf_text.specs.declared.piece.Piece.TheVariants.{Converted}
+use Rattle.std.proofs.Common.{List}
 use Rattle.std.proofs.lemmas.List.{length-drop}
 use Rattle.format_match.proofs.Onwards.{converts_there, converts_not, not_led_more, is_so, is_not, IsNotLed}
 use Rattle.format_match.proofs.marking.converts.Goals as goal
@@ -31,5 +34,5 @@ returns c =
     let n = c.lengths.len in
     is_not (Leads (Converted a.c.now) a.log.now a.marks.now a.least a.from)
     (converts_not a.c.now a.log.now a.marks.now a.least a.from c.reach-most.result n (omega (arith, c.lengths-test.false))
-    (subst (λ r. Reaches a.c.now r c.reach-most.result) c.split_at.ensures.back c.reach-most.ensures.reached)
+    (subst (λ r. (args : List Arg) → begins (conversion_text a.c.now args) r ≡ true → length (conversion_text a.c.now args) ≤ c.reach-most.result) c.split_at.ensures.back c.reach-most.ensures.reached)
     (subst (λ r. IsNotLed a.c.now r a.marks.now a.least a.from n) c.split_at.ensures.back c.lengths.invariant))

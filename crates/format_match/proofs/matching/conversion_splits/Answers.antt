@@ -24,4 +24,4 @@ returns c =
     ∙ ap (λ r. upto (λ len. kept_here a.next.now (drop len r) (here (conversion_text a.c.now args) (take len r) (a.from + len))) (most + 1)) c.split_at.ensures.back
     ∙ upto_kept a.next.now (conversion_text a.c.now args) a.log.now a.from most c.requires
     (subst (λ r. most ≤ length r) c.split_at.ensures.back c.reach-most.ensures.within)
-    (subst (λ r. begins (conversion_text a.c.now args) r ≡ true → length (conversion_text a.c.now args) ≤ most) c.split_at.ensures.back (c.reach-most.ensures.reached args h)))
+    (subst (λ r. begins (conversion_text a.c.now args) r ≡ true → length (conversion_text a.c.now args) ≤ most) c.split_at.ensures.back (c.reach-most.ensures.reached args)))

@@ -5,20 +5,21 @@ use Rattle.bit_words.specs.declared.fact.Fact.TheVariants as fact
 use Rattle.bit_words.specs.declared.run.Side.TheVariants.{Yes}
 use Rattle.must_facts.specs.Inquiries.{matter_of}
 use Rattle.must_facts.specs.Knowing.{Weighs, WeighsAll}
+use Rattle.query_core.specs.Queries.{seen}
 use Rattle.must_facts.proofs.Learning.{weighs_more}
 use Rattle.must_facts.proofs.Lists.{length_taken}
 use Rattle.must_facts.proofs.weighing.weigh_all.Goals as goal
 
 pub loop-index-preserved : goal.loop-index-preserved
-loop-index-preserved c =
+loop-index-preserved g c =
     let x = c.args.inquiry.now in
-    let q = c.args.query.now in
+    let q = seen c.args.query.now in
     let m = matter_of x q in
     let i = c.loop-index.index in
     let first : Fact = fact.Branch 0 Yes in
     let f = get_or x.facts.now i first in
     let before = c.loop-index.invariant.1 in
-    let same : c.weigh.new.query ≡ q = c.in_ok-verdict.ensures.same ∙ c.loop-index.invariant.0 in
+    let same : seen c.weigh.new.query ≡ q = c.in_ok-verdict.ensures.same ∙ c.loop-index.invariant.0 in
     let weighed = subst (λ r. Weighs (matter_of x r) c.in_ok-number.number f c.loop-index.known c.weigh.new.known c.in_ok-verdict.verdict)
     c.loop-index.invariant.0 c.in_ok-verdict.ensures.weighs in
     let at : c.in_ok-number.number ≡ suc (length (take i x.facts.now)) =
@@ -33,7 +34,7 @@ loop-index-preserved c =
     )
 
 pub returns-clause-weighs : goal.returns-clause-weighs
-returns-clause-weighs c =
-    let m = matter_of c.args.inquiry.now c.args.query.now in
+returns-clause-weighs g c =
+    let m = matter_of c.args.inquiry.now (seen c.args.query.now) in
     subst (λ fs. WeighsAll m fs c.loop-index.known c.loop-index.verdicts)
     (take_all c.loop-index.index c.args.inquiry.now.facts.now c.loop-index-test.false) c.loop-index.invariant.1

@@ -2,14 +2,15 @@ use Rattle.std.proofs.Common.{subst}
 use Rattle.query_core.specs.declared.target.Target.TheVariants.{Lacking}
 use Rattle.query_core.specs.Replies.{IsReply}
 use Rattle.must_facts.specs.Inquiries.{matter_of}
+use Rattle.query_core.specs.Queries.{seen}
 use Rattle.must_facts.proofs.Learning.{weighs_lacking, weighs_must, weighs_open_lacking}
 use Rattle.must_facts.proofs.Worlds.{lacks_there, all_have}
 use Rattle.must_facts.proofs.weighing.weigh_lacking.Goals as goal
 
 pub returns-in_ok-lacking-in-World-clause-weighs : goal.returns-in_ok-lacking-in-World-clause-weighs
-returns-in_ok-lacking-in-World-clause-weighs c =
+returns-in_ok-lacking-in-World-clause-weighs g c =
     let x = c.args.inquiry.now in
-    let q = c.args.query.now in
+    let q = seen c.args.query.now in
     let w = c.in-World.world in
     let reply = subst (IsReply q (Lacking c.args.number) x.conflicts) c.in-World.is c.in_ok-world.ensures.reply in
     let there = lacks_there x q c.requires.query w c.args.number c.args.fact.now c.requires.fact reply in
@@ -18,18 +19,18 @@ returns-in_ok-lacking-in-World-clause-weighs c =
     c.in_ok-lacking-in-World.lacking c.in_ok-lacking-in-World.ensures c.requires.hold there.1
 
 pub returns-in-Refuted-clause-weighs : goal.returns-in-Refuted-clause-weighs
-returns-in-Refuted-clause-weighs c =
+returns-in-Refuted-clause-weighs g c =
     let x = c.args.inquiry.now in
-    let q = c.args.query.now in
+    let q = seen c.args.query.now in
     let steps = c.in-Refuted.refutation in
     let reply = subst (IsReply q (Lacking c.args.number) x.conflicts) c.in-Refuted.is c.in_ok-world.ensures.reply in
     weighs_must (matter_of x q) c.args.number c.args.fact.now c.args.known.now steps c.requires.known
     (all_have x q c.requires.query c.args.number c.args.fact.now steps c.requires.fact reply)
 
 pub returns-in_ok-count-in-Spent-clause-weighs : goal.returns-in_ok-count-in-Spent-clause-weighs
-returns-in_ok-count-in-Spent-clause-weighs c =
+returns-in_ok-count-in-Spent-clause-weighs g c =
     let x = c.args.inquiry.now in
-    let q = c.args.query.now in
+    let q = seen c.args.query.now in
     let reply = subst (IsReply q (Lacking c.args.number) x.conflicts) c.in-Spent.is c.in_ok-world.ensures.reply in
     weighs_open_lacking (matter_of x q) c.args.number c.args.fact.now c.args.known.now c.in_ok-count-in-Spent.count
     c.in-Spent.trail c.requires.known c.in_ok-count-in-Spent.ensures reply c.requires.hold

@@ -1,20 +1,21 @@
 use Rattle.std.proofs.Common.{subst, ap, ◌∙◌, append-nil}
 use Rattle.c_runs.specs.Units.{source_run}
+use Rattle.query_core.specs.Queries.{seen}
 use Rattle.must_facts.specs.Inquiries.{RunsAlong}
 use Rattle.must_facts.specs.Verdicts.{IsDiagnosis}
 use Rattle.must_facts.proofs.whole.diagnose_source.Goals as goal
 
 pub returns-clause-diagnosed : goal.returns-clause-diagnosed
-returns-clause-diagnosed c =
+returns-clause-diagnosed g c =
     let p = c.args.program.now in
     let b = c.args.bounds.now in
     let log = c.args.log.now in
-    let q = c.in_ok-query.query in
+    let q = seen c.in_ok-query.query in
     record {
       facts = c.in_ok-facts.ensures;
       query = q;
       runs = subst (λ fs. RunsAlong p.core b log fs q) c.as_slice.ensures c.in_ok-query.ensures.query;
-      run = c.in_ok-run.ensures ∙ append-nil c.diagnose.new.query.solver ∙ ap (λ r. r.solver) c.in_ok-diagnosis.ensures.same;
+      run = c.in_ok-run.ensures ∙ append-nil (seen c.diagnose.new.query).solver ∙ ap (λ r. r.solver) c.in_ok-diagnosis.ensures.same;
       is = subst (λ fs. IsDiagnosis (record { run = λ w. source_run p.externals p.profile w b; log = log; query = q; conflicts = c.args.conflicts })
           fs c.in_ok-diagnosis.diagnosis) c.as_slice-2.ensures c.in_ok-diagnosis.ensures.diagnosis;
     }

@@ -37,8 +37,8 @@ returns-in_ok-walked-in-Not c = rw c.in-Not.is (record { tries = λ room h. c.in
 pub returns-in_ok-walked-in-Turn : goal.returns-in_ok-walked-in-Turn
 returns-in_ok-walked-in-Turn c = rw c.in-Turn.is (record { tries = λ room h. c.in_ok-walked-in-Turn.ensures room })
 
-pub returns-in_ok-walked-in-Operate : goal.returns-in_ok-walked-in-Operate
-returns-in_ok-walked-in-Operate c = rw c.in-Operate.is (record { tries = λ room h. c.in_ok-walked-in-Operate.ensures room })
+pub returns-in_ok-walked-in-Numbers : goal.returns-in_ok-walked-in-Numbers
+returns-in_ok-walked-in-Numbers c = rw c.in-Numbers.is (record { tries = λ room h. c.in_ok-walked-in-Numbers.ensures room })
 
 pub returns-in_ok-walked-in-Fixed : goal.returns-in_ok-walked-in-Fixed
 returns-in_ok-walked-in-Fixed c = rw c.in-Fixed.is (record { tries = λ room h. c.in_ok-walked-in-Fixed.ensures room })

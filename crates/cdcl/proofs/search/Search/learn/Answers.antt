@@ -1,37 +1,24 @@
-use Rattle.std.proofs.Common.{sym, refl, subst}
+use Rattle.std.proofs.Common.{ℕ, refl, sym, subst, length}
+use Rattle.cdcl.specs.Guards.{Guards}
 use Rattle.proof_check.specs.Room.{variables_of}
-use Rattle.cdcl.specs.declared.clauses.Clauses.{Clauses}
-use Rattle.cdcl.specs.Searches.{ContainsNone}
 use Rattle.cdcl.proofs.Lessons.{names-within}
-use Rattle.cdcl.proofs.Asserting.{has-top, contains-none, jump-fits, jump-level, jump-below, guards-but}
+use Rattle.cdcl.proofs.Asserting.{has-top}
 use Rattle.cdcl.proofs.search.Search.learn.Goals as goal
 
-pub go_back-requires-clause-level : goal.go_back-requires-clause-level
-go_back-requires-clause-level c =
+pub jump-requires-clause-lesson : goal.jump-requires-clause-lesson
+jump-requires-clause-lesson c =
     let s = c.args.self.now in
-    let j = c.in_ok-lesson.ensures.jump refl c.requires.level (has-top s c.args.conflict c.requires.ready c.requires.guards.settled c.requires.level c.requires.conflict) in
-    jump-level s.trail.entries.items s.trail.level c.in_ok-lesson.lesson.level c.in_ok-lesson.lesson.clause.items j
+    let e = c.in_ok-lesson.ensures in
+    c.count_conflict.ensures.lesson c.in_ok-lesson.lesson (record {
+      valid = e.valid;
+      apart = e.apart;
+      occurs = e.occurs (variables_of s.clauses.given) (names-within s.clauses c.requires.ready.learnt);
+      jump = e.jump refl c.requires.level (has-top s c.args.conflict c.requires.ready c.requires.guards.settled c.requires.level c.requires.conflict);
+    })
 
-pub keep-requires-clause-occurs : goal.keep-requires-clause-occurs
-keep-requires-clause-occurs c = rw c.go_back.ensures.clauses (c.in_ok-lesson.ensures.occurs (variables_of c.args.self.now.clauses.given) (names-within c.args.self.now.clauses c.requires.ready.learnt))
-
-pub keep-requires-clause-fresh : goal.keep-requires-clause-fresh
-keep-requires-clause-fresh c =
-    let s = c.args.self.now in
-    let j = c.in_ok-lesson.ensures.jump refl c.requires.level (has-top s c.args.conflict c.requires.ready c.requires.guards.settled c.requires.level c.requires.conflict) in
-    let P : Clauses → Type 0 = λ t. ContainsNone t c.in_ok-lesson.lesson.clause.items in
-    subst P (sym c.go_back.ensures.clauses) (contains-none s c.in_ok-lesson.lesson.clause.items c.in_ok-lesson.lesson.level c.requires.ready c.requires.guards.settled c.requires.level j)
-
-pub keep-requires-clause-fits : goal.keep-requires-clause-fits
-keep-requires-clause-fits c =
-    let s = c.args.self.now in
-    let j = c.in_ok-lesson.ensures.jump refl c.requires.level (has-top s c.args.conflict c.requires.ready c.requires.guards.settled c.requires.level c.requires.conflict) in
-    rw c.go_back.ensures.room (jump-fits s.trail.entries.items s.trail.level c.in_ok-lesson.lesson.level _ c.in_ok-lesson.lesson.clause.items c.requires.ready.trail.in_room j)
-
-pub assert_last-requires-clause-guards : goal.assert_last-requires-clause-guards
-assert_last-requires-clause-guards c =
-    let s = c.args.self.now in
-    let j = c.in_ok-lesson.ensures.jump refl c.requires.level (has-top s c.args.conflict c.requires.ready c.requires.guards.settled c.requires.level c.requires.conflict) in
-    let b = c.go_back.ensures in
-    let k = c.in_ok-keep.ensures in
-    rw c.deref-2.ensures.value (guards-but s c.go_back.new.self c.keep.new.self c.in_ok-lesson.lesson.clause.items c.in_ok-lesson.lesson.level c.requires.ready b.ready c.requires.level j b.cut b.level (b.whole (jump-below s.trail.entries.items s.trail.level c.in_ok-lesson.lesson.level c.in_ok-lesson.lesson.clause.items c.requires.level j)) b.guards k.rest k.names k.last k.more k.given)
+pub jump-requires-clause-guards : goal.jump-requires-clause-guards
+jump-requires-clause-guards c =
+    let e = c.count_conflict.ensures in
+    let s = c.count_conflict.new.self in
+    let P : ℕ → Type 0 = λ n. Guards (length s.clauses.given) n s in
+    subst P (sym e.followed) (e.guards c.args.self.now.followed c.requires.guards)
