@@ -2,7 +2,7 @@
 use Rattle.std.proofs.Common.{◌≡◌, ◌⊎◌, inl, inr, ◌<◌, ◌≤◌, ◌++◌, ◌∷◌, [], ℕ, zero, suc, ℤ, List, Option, Some, None, Bool, true, false, cond, length, take, get_or, nat_eq, refl, sym, ap, ◌∙◌, subst, arith}
 use Rattle.std.specs.Prelude.{slice_get, ◌&&◌, IfSome}
 use Rattle.std.specs.Ordering.{int_eq}
-use Rattle.std.proofs.lemmas.Bool.{and_parts}
+use Rattle.std.proofs.lemmas.Bool.{and_from, and_parts}
 use Rattle.std.proofs.lemmas.Bool.Decides.{Decides-int_eq, nat_tests}
 use Rattle.term_bank.specs.declared.shape.Shape.{Shape}
 use Rattle.term_bank.specs.Banks.{IsBank}
@@ -24,7 +24,7 @@ use Rattle.query_core.specs.declared.others.Other.{Other as OtherLiteral}
 use Rattle.query_core.specs.declared.others.Made.{Made}
 use Rattle.query_core.specs.declared.target.Target.{Target}
 use Rattle.query_core.specs.declared.target.Target.TheVariants.{Fits, Having, Lacking, Other}
-use Rattle.query_core.specs.Claims.{claim, claimed, is_of, other_at, other_bit, other_clauses, watch_at, with_others, HasMade, IsBankOf, IsAbout, IsDefined, IsFoundAt, IsLiteral, IsMadeOf, IsQuery, IsWhole, Keeps}
+use Rattle.query_core.specs.Claims.{claim, claimed, is_of, other_at, other_bit, other_clauses, watch_at, with_others, HasMade, IsBankOf, IsAbout, IsDefined, IsFoundAt, IsLiteral, IsMadeOf, IsQuery, IsWhole, Keeps, OfSome}
 
 -- ---- literals by watched variable and value
 
@@ -37,35 +37,41 @@ one e = cc
 -- a literal that was found stays where more are put behind
 pub stays-found : (os more : List OtherLiteral) (k : ℕ) (x : ℤ) (o : OtherLiteral) → other_at os k x ≡ Some o → other_at (os ++ more) k x ≡ Some o
 stays-found [] more k x o is = no-literal o is
-stays-found (p ∷ os) more k x o is = split (is_of p k x) is
+stays-found (p ∷ os) more k x o is = split (is_of p k x) is (stays-found os more k x o)
   where
-    split : (b : Bool) → cond b (Some p) (other_at os k x) ≡ Some o → cond b (Some p) (other_at (os ++ more) k x) ≡ Some o
-    split true e = e
-    split false e = stays-found os more k x o e
+    split : (b : Bool) → cond b (Some p) (other_at os k x) ≡ Some o → (other_at os k x ≡ Some o → other_at (os ++ more) k x ≡ Some o)
+        → cond b (Some p) (other_at (os ++ more) k x) ≡ Some o
+    split true e h = e
+    split false e h = h e
 
 pub found-parted : (os more : List OtherLiteral) (k : ℕ) (x : ℤ) (o : OtherLiteral) → other_at (os ++ more) k x ≡ Some o
     → (other_at os k x ≡ Some o) ⊎ (other_at more k x ≡ Some o)
 found-parted [] more k x o is = inr is
-found-parted (p ∷ os) more k x o is = split (is_of p k x) is
+found-parted (p ∷ os) more k x o is = split (is_of p k x) is (found-parted os more k x o)
   where
     split : (b : Bool) → cond b (Some p) (other_at (os ++ more) k x) ≡ Some o
+        → (other_at (os ++ more) k x ≡ Some o → (other_at os k x ≡ Some o) ⊎ (other_at more k x ≡ Some o))
         → (cond b (Some p) (other_at os k x) ≡ Some o) ⊎ (other_at more k x ≡ Some o)
-    split true e = inl e
-    split false e = found-parted os more k x o e
+    split true e h = inl e
+    split false e h = h e
 
 pub none-behind : (os more : List OtherLiteral) (k : ℕ) (x : ℤ) → other_at os k x ≡ None → other_at (os ++ more) k x ≡ other_at more k x
 none-behind [] more k x is = refl
-none-behind (p ∷ os) more k x is = split (is_of p k x) is
+none-behind (p ∷ os) more k x is = split (is_of p k x) is (none-behind os more k x)
   where
-    split : (b : Bool) → cond b (Some p) (other_at os k x) ≡ None → cond b (Some p) (other_at (os ++ more) k x) ≡ other_at more k x
-    split true e = no-literal p (sym e)
-    split false e = none-behind os more k x e
+    split : (b : Bool) → cond b (Some p) (other_at os k x) ≡ None → (other_at os k x ≡ None → other_at (os ++ more) k x ≡ other_at more k x)
+        → cond b (Some p) (other_at (os ++ more) k x) ≡ other_at more k x
+    split true e h = no-literal p (sym e)
+    split false e h = h e
 
 same-int : (x y : ℤ) → int_eq x y ≡ true → x ≡ y
 same-int x y h = (Decides-int_eq x y).0 h
 
 same-nat : (m n : ℕ) → nat_eq m n ≡ true → m ≡ n
 same-nat m n h = grind (arith, nat_tests)
+
+nat_same : (m n : ℕ) → m ≡ n → nat_eq m n ≡ true
+nat_same m n h = grind (arith, nat_tests)
 
 record IsOf (o : OtherLiteral) (k : ℕ) (x : ℤ) : Type 0 where
   watch : o.watch ≡ k
@@ -77,7 +83,7 @@ of-so o k x h =
     record { watch = same-nat o.watch k p.0; value = same-int o.value x p.1 }
 
 of-itself : (o : OtherLiteral) (k : ℕ) (x : ℤ) → o.watch ≡ k → o.value ≡ x → is_of o k x ≡ true
-of-itself o k x h e = ?
+of-itself o k x h e = and_from (nat_eq o.watch k) (int_eq o.value x) (nat_same o.watch k h) ((Decides-int_eq o.value x).1 e)
 
 alone-is : (p o : OtherLiteral) (k : ℕ) (x : ℤ) → other_at (p ∷ []) k x ≡ Some o → IsOf p k x × (p ≡ o)
 alone-is p o k x is = split (is_of p k x) refl is
@@ -94,12 +100,13 @@ found-at (p ∷ os) k x zero o less at none is = record {
   at = refl;
   is = ap (λ b. cond b (Some p) (other_at os k x)) (subst (λ y. is_of y k x ≡ true) at is);
 }
-found-at (p ∷ os) k x (suc i) o less at none is = split (is_of p k x) refl none
+found-at (p ∷ os) k x (suc i) o less at none is = split (is_of p k x) refl none (λ h. found-at os k x i o (omega (arith, less)) at h is)
   where
-    split : (b : Bool) → is_of p k x ≡ b → cond b (Some p) (other_at (take i os) k x) ≡ None → IsFoundAt (p ∷ os) k x (suc i)
-    split true e h = no-literal p (sym h)
-    split false e h =
-        let found = found-at os k x i o (omega (arith, less)) at h is in
+    split : (b : Bool) → is_of p k x ≡ b → cond b (Some p) (other_at (take i os) k x) ≡ None
+        → (other_at (take i os) k x ≡ None → IsFoundAt os k x i) → IsFoundAt (p ∷ os) k x (suc i)
+    split true e h g = no-literal p (sym h)
+    split false e h g =
+        let found = g h in
         record { other = found.other; at = found.at; is = ap (λ b. cond b (Some p) (other_at os k x)) e ∙ found.is }
 
 pub none-more : (os : List OtherLiteral) (k : ℕ) (x : ℤ) (o : OtherLiteral) → other_at os k x ≡ None → is_of o k x ≡ false
@@ -140,6 +147,7 @@ module _ (q : Query) (bank : Option (List Shape)) (others : List OtherLiteral)
   }
 
   query : (t : Tour) (fs : List Fact) → IsQuery t fs q → IsQuery t fs (with_others q bank others)
+  unfolding whole
   query t fs h = record {
     whole = whole h.whole;
     run = h.run;
@@ -246,3 +254,20 @@ made-some b t c r x k v w n m one at answers g bank more = record {
     more = more;
   };
 }
+
+-- a literal was put behind the others
+pub keeps-put : (q : Query) (b : List Shape) (k : ℕ) (x : ℤ) (m : Made) (index : ℕ) (new : Query) → q.bank ≡ Some b
+    → other_at q.others k x ≡ None → HasMade b q.formula q.blasted k x m
+    → OfSome m.other (λ o. (index ≡ length q.others) × (new ≡ with_others q (Some m.bank) (q.others ++ o ∷ [])))
+    → Keeps q new × IsFoundAt new.others k x index
+keeps-put q b k x m index new is none has put = go m.other has.is put
+  where
+    go : (other : Option OtherLiteral) → IfSome other (IsMadeOf b m.bank q.formula q.blasted k x)
+        → OfSome other (λ o. (index ≡ length q.others) × (new ≡ with_others q (Some m.bank) (q.others ++ o ∷ [])))
+        → Keeps q new × IsFoundAt new.others k x index
+    go None h p = absurd p
+    go (Some o) h p = (
+      subst (Keeps q) (sym p.1) (keeps-more q b m.bank k x o is has.grows has.stands h),
+      subst (λ n. IsFoundAt n.others k x index) (sym p.1)
+          (subst (IsFoundAt (q.others ++ o ∷ []) k x) (sym p.0) (found-last q.others k x o none h.watch h.value)),
+    )

@@ -19,6 +19,7 @@ use Rattle.term_bank.specs.Terms.{IsTerm}
 use Rattle.term_bank.specs.declared.sort.Sort.TheVariants.{Truth}
 use Rattle.term_bank.specs.Values.{Environment, Values, Models, Grows}
 use Rattle.term_bank.proofs.BankLemmas.{weaken, grows_on}
+use Rattle.term_bank.proofs.TermLemmas.{term_grown}
 use Rattle.flat_reads.specs.Flats.{IsHonest}
 use Rattle.bitvectors.specs.declared.blasting.Blasted.{Blasted}
 use Rattle.bitvectors.specs.Blasts.{HasWidth, HaveValues, IsBlasted, IsOfWorld, joined}
@@ -76,7 +77,12 @@ module _ (t : Tour) (fs : List Fact) (q : Query) (h : IsQuery t fs q) (k : ℕ) 
   grown = grows_on lit.since (grows_on lit.made.answers.grows lit.made.grows)
 
   says : SaysOther t lit.bank lit.made.seen x lit.made.node
-  says = lit.made.answers.says t h.run.begun h.run.given fs h.run.is lit.bank lit.made.grows (grows_on h.run.grows grown)
+  says =
+      let s = lit.made.answers.says t h.run.begun h.run.given fs h.run.is (grows_on h.run.grows lit.since) in
+      record {
+        term = term_grown _ _ _ lit.made.node lit.made.grows s.term;
+        is = λ e v m fits. s.is e v (weaken lit.made.grows m) fits;
+      }
 
   blasted : IsBlasted lit.bank (asked_nodes q.formula ++ lit.made.node ∷ []) (joined q.blasted o.more)
   blasted = lit.made.more.is h.whole.first (asked_nodes q.formula) grown h.whole.blasted

@@ -209,6 +209,7 @@ module _ (t : Tour) (a b c : List Shape) (fs : List Fact) (r : RunFormula) (x : 
       many-roots t b found.model valued.0 fs r.fits r.facts x.roots h.facts found.are
 
   query-is : IsQuery t fs q
+  unfolding whole-made
   query-is = record {
     whole = whole-made c x r blasted ready bank ends;
     run = record { begun = a; given = b; is = h; grows = g };

@@ -1,5 +1,5 @@
 -- What the answers to questions mean.
-use Rattle.std.proofs.Common.{◌≡◌, ◌<◌, ◌≤◌, ◌++◌, ◌∷◌, [], ℕ, zero, suc, List, Option, Some, None, Bool, true, false, not, length, refl, sym, ap, ◌∙◌, subst, arith}
+use Rattle.std.proofs.Common.{◌≡◌, ◌<◌, ◌≤◌, ◌+◌, ◌++◌, ◌∷◌, [], ℕ, zero, suc, List, Option, Some, None, Bool, true, false, not, length, refl, sym, ap, ◌∙◌, subst, arith}
 use Rattle.std.specs.List.{slice_get}
 use Rattle.bit_words.specs.declared.fact.Fact.{Fact}
 use Rattle.bit_words.specs.Worlds.{WorldTables}
@@ -148,7 +148,7 @@ run-replies q x bit n (World world) run about is h = record {
   met = λ t fs isq e of.
       let same : bit ≡ wanted_bit q x = is ∙ asked-wanted q x run in
       let parts = holds-parts h.model q.solver (wanted_bit q x)
-          (subst (λ b. formula_holds h.model (q.solver ++ claimed b) ≡ true) same h.holds) in
+      (subst (λ b. formula_holds h.model (q.solver ++ claimed b) ≡ true) same h.holds) in
       let there = isq.worlds h.model world parts.0 h.decoded e of in
       met t fs q h.model e x run isq.count about there.fits there.tells parts.1;
 }

@@ -161,12 +161,12 @@ refuting n = (record { clause = []; hints = n ∷ [] }) ∷ []
 -- ---- queries
 
 -- a query over these clauses
-pub record IsMade (b : Blasted) (r : RunFormula) (bank : List Shape) (q : Query) : Type 0 where
+pub record IsMade (b : Blasted) (r : RunFormula) (shapes : List Shape) (q : Query) : Type 0 where
   pub same : q.blasted ≡ b
   pub clauses : q.solver ≡ run_clauses b
   pub number : q.last ≡ length (run_clauses b) + 1
   pub formula : q.formula ≡ r
-  pub bank : q.bank ≡ Some bank
+  pub bank : q.bank ≡ Some shapes
   pub others : q.others ≡ []
 
 -- a bank that has grown since the clauses were made, in which more terms can be made

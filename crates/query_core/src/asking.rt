@@ -31,7 +31,7 @@ fn number_behind_other(number: u32, other: &Other) -> Result<u32, AllocError>
 
 impl Query {
     /// A solver over the query's clauses and those of a literal.
-    fn solver_for(&self, alloc: Global, other: &Other) -> Result<Solver, AskFault>
+    fn solver_for(&self, alloc: Global, other: &Other) -> Result<Solver, AllocError>
         requires whole { IsWhole self.now }
         ensures { IfOk result (λ solver. solver ≡ self.now.solver ++ other.now.more.formula) }
     {
@@ -46,15 +46,16 @@ impl Query {
         &self,
         alloc: Global,
         watch: u32,
-        value: i128,
+        value: &i128,
         index: usize,
         conflicts: u32,
     ) -> Result<Reply, AskFault>
         requires whole { IsWhole self.now }
-        requires found { IsFoundAt self.now.others watch value index }
-        ensures { IfOk result (IsReply self.now (OtherTarget watch value) conflicts) }
+        requires found { IsFoundAt self.now.others watch value.now index }
+        ensures { IfOk result (IsReply self.now (OtherTarget watch value.now) conflicts) }
     {
-        let _ = (watch, value);
+        let _ = watch;
+        let _ = value;
         let other = other_at_index(self.others.as_slice(), index);
         let bit = bit_of_root(&other.more.roots, 0);
         let mut solver = self.solver_for(alloc, other)?;
@@ -103,10 +104,10 @@ impl Query {
         ensures reply { IfOk result (IsReply (replying target self.old self.new) target conflicts) }
         ensures keeps { KeepsFor target self.old self.new }
     {
-        match target {
+        match &target {
             Target::Other { watch, value } => {
-                let index = self.define(alloc, watch, value)?;
-                let reply = self.ask_other(alloc, watch, value, index, conflicts)?;
+                let index = self.define(alloc, *watch, value)?;
+                let reply = self.ask_other(alloc, *watch, value, index, conflicts)?;
                 Ok(reply)
             }
             Target::Fits => {

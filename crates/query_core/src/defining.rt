@@ -29,11 +29,11 @@ impl Query {
 
     /// Makes the literal of a watched variable and a value, which hasn't been made, and answers its index. Where it fails
     /// for want of memory the bank is lost, and so each other literal fails that isn't made yet.
-    fn make(&mut self, alloc: Global, watch: u32, value: i128) -> Result<usize, AskFault>
+    fn make(&mut self, alloc: Global, watch: u32, value: &i128) -> Result<usize, AskFault>
         requires whole { IsWhole self.old }
         requires watch { IsWatched self.old watch }
-        requires new { other_at self.old.others watch value ≡ None }
-        ensures found { IfOk result (IsFoundAt self.new.others watch value) }
+        requires new { other_at self.old.others watch value.now ≡ None }
+        ensures found { IfOk result (IsFoundAt self.new.others watch value.now) }
         ensures keeps { Keeps self.old self.new }
     {
         match mem::replace(&mut self.bank, None) {
@@ -47,10 +47,15 @@ impl Query {
     }
 
     /// The index of the literal of a watched variable and a value, which is made where it hasn't been.
-    pub(crate) fn define(&mut self, alloc: Global, watch: u32, value: i128) -> Result<usize, AskFault>
+    pub(crate) fn define(
+        &mut self,
+        alloc: Global,
+        watch: u32,
+        value: &i128,
+    ) -> Result<usize, AskFault>
         requires whole { IsWhole self.old }
         requires watch { IsWatched self.old watch }
-        ensures found { IfOk result (IsFoundAt self.new.others watch value) }
+        ensures found { IfOk result (IsFoundAt self.new.others watch value.now) }
         ensures keeps { Keeps self.old self.new }
     {
         match index_of(self.others.as_slice(), watch, value) {

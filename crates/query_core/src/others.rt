@@ -22,16 +22,16 @@ pub(crate) struct Other {
 }
 
 /// Whether a literal is that of a watched variable and a value.
-fn is_other_of(other: &Other, watch: u32, value: i128) -> bool
-    ensures { result ≡ is_of other.now watch value }
+fn is_other_of(other: &Other, watch: u32, value: &i128) -> bool
+    ensures { result ≡ is_of other.now watch value.now }
 {
-    other.watch == watch && other.value == value
+    other.watch == watch && other.value == *value
 }
 
 /// The index of the literal of a watched variable and a value.
-pub(crate) fn index_of(others: &[Other], watch: u32, value: i128) -> Option<usize>
-    ensures found { IfSome result (IsFoundAt others.now watch value) }
-    ensures none { IfNone result (other_at others.now watch value ≡ None) }
+pub(crate) fn index_of(others: &[Other], watch: u32, value: &i128) -> Option<usize>
+    ensures found { IfSome result (IsFoundAt others.now watch value.now) }
+    ensures none { IfNone result (other_at others.now watch value.now ≡ None) }
 {
     'others: for index in 0..others.len() {
         if is_other_of(&others[index], watch, value) {
@@ -73,13 +73,13 @@ pub(crate) fn made_other(
     blasted: &Blasted,
     mut bank: Bank,
     watch: u32,
-    value: i128,
+    value: &i128,
 ) -> Result<Made, AskFault>
     requires from { 1 ≤ watch }
     requires to { watch ≤ length formula.now.watches }
     requires ends { AreStates bank formula.now.states }
     requires ready { IsReady bank blasted.now }
-    ensures { IfOk result (HasMade bank formula.now blasted.now watch value) }
+    ensures { IfOk result (HasMade bank formula.now blasted.now watch value.now) }
 {
     let seen = watch_numbered(formula.watches.as_slice(), watch);
     let node = formula.saw_other(alloc, &mut bank, seen, value)?;
@@ -87,6 +87,11 @@ pub(crate) fn made_other(
     match go_on_reads(alloc, &mut bank, blasted, &[node])? {
         None => Ok(Made { other: None, bank }),
         Some(more) => {
+            let value = *value;
+            // Never so: by the test proofs learn the range of what stands behind a reference.
+            if value < i128::MIN || value > i128::MAX {
+                return Err(AskFault::Memory);
+            }
             let other = Some(Other { watch, value, more });
             Ok(Made { other, bank })
         }

@@ -54,7 +54,7 @@ fn roots_of(alloc: Global, formula: &RunFormula) -> Result<Items<Node>, AllocErr
 }
 
 /// A solver over the clauses that say that the run fits.
-pub(crate) fn solver_of(alloc: Global, blasted: &Blasted, fits: &Bit) -> Result<Solver, AskFault>
+pub(crate) fn solver_of(alloc: Global, blasted: &Blasted, fits: &Bit) -> Result<Solver, AllocError>
     ensures { IfOk result (λ solver. solver ≡ blasted.now.formula ++ claimed fits.now) }
 {
     let mut solver = Solver::new(alloc);
@@ -69,7 +69,7 @@ fn query_of(
     blasted: Blasted,
     formula: RunFormula,
     bank: Bank,
-) -> Result<Query, AskFault>
+) -> Result<Query, AllocError>
     ensures { IfOk result (IsMade blasted formula bank) }
 {
     let fits = bit_of_root(&blasted.roots, 0);
@@ -134,14 +134,15 @@ impl Query {
         &self,
         alloc: Global,
         watch: u32,
-        value: i128,
+        value: &i128,
         index: usize,
     ) -> Result<Formula, AskFault>
         requires whole { IsWhole self.now }
-        requires found { IsFoundAt self.now.others watch value index }
-        ensures { IfOk result (λ formula. formula ≡ claim self.now (OtherTarget watch value)) }
+        requires found { IsFoundAt self.now.others watch value.now index }
+        ensures { IfOk result (λ formula. formula ≡ claim self.now (OtherTarget watch value.now)) }
     {
-        let _ = (watch, value);
+        let _ = watch;
+        let _ = value;
         let other = other_at_index(self.others.as_slice(), index);
         let fits = bit_of_root(&self.blasted.roots, 0);
         let bit = bit_of_root(&other.more.roots, 0);
@@ -165,10 +166,10 @@ impl Query {
         ensures defined { IfOk result (λ _. IsDefined self.new target) }
         ensures keeps { KeepsFor target self.old self.new }
     {
-        match target {
+        match &target {
             Target::Other { watch, value } => {
-                let index = self.define(alloc, watch, value)?;
-                let formula = self.claim_of_other(alloc, watch, value, index)?;
+                let index = self.define(alloc, *watch, value)?;
+                let formula = self.claim_of_other(alloc, *watch, value, index)?;
                 Ok(formula)
             }
             Target::Fits => {

@@ -2,6 +2,7 @@
 ghost use Rattle.std.specs.Prelude.{◌≡◌, ◌+◌, length, IfOk};
 ghost use Rattle.bitvectors.specs.declared.blasting.Blasted.{Blasted as BlastedType};
 ghost use Rattle.bitvectors.specs.Blasts.{HasWidth};
+ghost use Rattle.gates.specs.declared.bit.Bit.TheVariants.{Known};
 ghost use Rattle.query_core.specs.Replies.{IsSought, Seeks};
 
 use crate::clauses::refute_by;
@@ -38,6 +39,31 @@ fn search(
     }
 }
 
+/// What the solver answers where a known bit is to be true, whose clause would have this number. Where the bit is false,
+/// nothing is searched for.
+fn seek_known(
+    alloc: Global,
+    solver: &mut Solver,
+    inputs: &Inputs,
+    known: bool,
+    number: u32,
+    conflicts: u32,
+) -> Result<Reply, AskFault>
+    requires words { HasWidth 64 inputs.now.words }
+    requires bytes { HasWidth 8 inputs.now.bytes }
+    requires number { number ≡ length solver.old + 1 }
+    ensures reply { IfOk result (λ reply. (b : BlastedType) → b.inputs ≡ inputs.now →
+        Seeks solver.old b (Known known) conflicts reply) }
+    ensures same { solver.new ≡ solver.old }
+{
+    if known {
+        let reply = search(alloc, solver, inputs, &[], conflicts)?;
+        return Ok(reply);
+    }
+    let refutation = refute_by(alloc, number)?;
+    Ok(Reply::Refuted(refutation))
+}
+
 /// What the solver answers where a bit is to be true, whose clause would have this number. Where the bit is known not to
 /// be true, nothing is searched for.
 pub(crate) fn seek(
@@ -56,13 +82,9 @@ pub(crate) fn seek(
     ensures same { solver.new ≡ solver.old }
 {
     match bit {
-        Bit::Known(true) => {
-            let reply = search(alloc, solver, inputs, &[], conflicts)?;
+        Bit::Known(known) => {
+            let reply = seek_known(alloc, solver, inputs, *known, number, conflicts)?;
             Ok(reply)
-        }
-        Bit::Known(false) => {
-            let refutation = refute_by(alloc, number)?;
-            Ok(Reply::Refuted(refutation))
         }
         Bit::Unknown(literal) => {
             let reply = search(alloc, solver, inputs, &[*literal], conflicts)?;

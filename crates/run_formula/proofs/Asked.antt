@@ -380,10 +380,13 @@ pub print_never : (a : List Shape) (log : List ℕ) (q : Question) (before : Nod
 print_never a log q before printed at seen is none = record {
   grows = stays;
   term = is;
-  is = λ length e v m. (λ g. inl g, λ g. elim g [
-    | inl i ↦ i
-    | inr i ↦ absurd (none _ i)
-  ]);
+  is = λ length e v m. (
+    λ g. inl g,
+    λ g. elim g [
+      | inl i ↦ i
+      | inr i ↦ absurd (none _ i)
+    ],
+  );
 }
 
 -- where the site or the line is another
@@ -392,10 +395,13 @@ pub print_unwatched : (a : List Shape) (log : List ℕ) (w : Watch) (x : ℤ) (b
 print_unwatched a log w x before printed at seen is none = record {
   grows = stays;
   term = is;
-  is = λ length e v m. (λ g. inl g, λ g. elim g [
-    | inl i ↦ i
-    | inr i ↦ absurd (none (i.0, i.1.0))
-  ]);
+  is = λ length e v m. (
+    λ g. inl g,
+    λ g. elim g [
+      | inl i ↦ i
+      | inr i ↦ absurd (none (i.0, i.1.0))
+    ],
+  );
 }
 
 -- where it is watched

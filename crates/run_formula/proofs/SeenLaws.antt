@@ -1,11 +1,14 @@
 -- The numbers that a node has, one at a time.
-use Rattle.std.proofs.Common.{◌≡◌, ◌↔◌, ◌<◌, ◌≤◌, ◌+◌, ◌-◌, ◌^◌, ◌++◌, ◌∷◌, [], ℕ, zero, suc, ℤ, pos, List, Option, Some, None, Bool, true, false, not, cond, length, get_or, nat_eq, refl, sym, ap, subst, ◌∙◌, append-nil, append_assoc, arith}
+use Rattle.std.proofs.Common.{◌≡◌, ◌↔◌, ◌<◌, ◌≤◌, ◌+◌, ◌-◌, ◌^◌, ◌++◌, ◌∷◌, [], ℕ, zero, suc, ℤ, pos, List, Option, Some, None, Bool, true, false, not, cond, length, get_or, nat_eq, FitsSigned, to_z, of_z, refl, sym, ap, subst, ◌∙◌, append-nil, append_assoc, arith}
 use Rattle.std.specs.Prelude.{Ok, slice_get}
 use Rattle.std.specs.Option.{option_map}
 use Rattle.std.proofs.Math.Nat.{mod-eq_of_lt}
+use Rattle.std.specs.Int.{w128}
 use Rattle.std.proofs.lemmas.Bool.Decides.{nat_tests}
+use Rattle.std.proofs.lemmas.Int.{ints, to_z-of_z}
 use Rattle.bit_words.specs.Words.{bits, word, signed}
 use Rattle.bit_words.specs.declared.width.Width.{Width}
+use Rattle.bit_words.specs.declared.width.Width.TheVariants.{W8, W16, W32, W64}
 use Rattle.bit_words.proofs.WordLaws.{word-signed, word_below}
 use Rattle.term_bank.specs.declared.sort.Node.{Node}
 use Rattle.term_bank.specs.declared.sort.Sort.{Sort}
@@ -131,16 +134,31 @@ seen-below b x e v bank h m = (node_sorted b e v (record { index = x.word; sort 
 pub seen-term : (b : List Shape) (x : Seen) → IsSeen b x → IsTerm b (sort.Word x.width) (record { index = x.word; sort = sort.Word x.width })
 seen-term b x h = record { stands = h.stands; same = refl }
 
+number-fits : (s : Bool) (w : Width) (a : ℕ) → a < 2 ^ bits w → FitsSigned w128 (number s w a)
+number-fits true W8 a h = omega (arith, ints)
+number-fits true W16 a h = omega (arith, ints)
+number-fits true W32 a h = omega (arith, ints)
+number-fits true W64 a h = omega (arith, ints)
+number-fits false W8 a h = omega (arith, ints)
+number-fits false W16 a h = omega (arith, ints)
+number-fits false W32 a h = omega (arith, ints)
+number-fits false W64 a h = omega (arith, ints)
+
+-- the word of a number, whatever it went through
+word-passed : (s : Bool) (w : Width) (a : ℕ) (value : ℤ) → a < 2 ^ bits w → number s w a ≡ value → word w (to_z w128 (of_z w128 value)) ≡ a
+word-passed s w a value h is =
+    ap (word w) (to_z-of_z w128 value (subst (λ z. FitsSigned w128 z) is (number-fits s w a h)) ∙ sym is) ∙ word-of s w a h
+
 -- a value that no word of the type is
-pub never-same : (a b : List Shape) (x : Seen) (value : ℤ) (w : ℕ) (n : Node) → IsBank a → IsSeen a x → w ≡ word x.width value
-    → (number x.is_signed x.width w ≡ value → ⊥) → Makes a b (shape.Flag true) (Ok n) → SaysSo a b (λ v. seen_in v x ≡ value → ⊥) n
+pub never-same : (a b : List Shape) (x : Seen) (value : ℤ) (w : ℕ) (n : Node) → IsBank a → IsSeen a x
+    → w ≡ word x.width (to_z w128 (of_z w128 value)) → (number x.is_signed x.width w ≡ value → ⊥) → Makes a b (shape.Flag true) (Ok n)
+    → SaysSo a b (λ v. seen_in v x ≡ value → ⊥) n
 never-same a b x value w n bank h is_w other made = record {
   grows = made.grows;
   term = made.node;
   is = λ e v m. (
     λ g same.
-        let back : word x.width value ≡ (v x.word).word =
-        ap (word x.width) (sym same) ∙ word-of x.is_signed x.width (v x.word).word (seen-below a x e v bank h (weaken made.grows m)) in
+        let back = word-passed x.is_signed x.width (v x.word).word value (seen-below a x e v bank h (weaken made.grows m)) same in
         other (ap (number x.is_signed x.width) (is_w ∙ back) ∙ same),
     λ never. ap (λ (y : Worth). y.truth) (made.value.is e v m),
   );
@@ -154,11 +172,11 @@ nat-self n = grind (arith, nat_tests)
 
 -- a value that one word of the type is
 pub differs-from : (a b c d : List Shape) (x : Seen) (value : ℤ) (w : ℕ) (other equal n : Node) → IsBank a → IsSeen a x
-    → w ≡ word x.width value → number x.is_signed x.width w ≡ value → Makes a b (shape.Constant w x.width) (Ok other)
+    → w < 2 ^ bits x.width → number x.is_signed x.width w ≡ value → Makes a b (shape.Constant w x.width) (Ok other)
     → Makes b c (shape.Test test.Equal x.width x.word other.index) (Ok equal) → Makes c d (shape.Not equal.index) (Ok n)
     → SaysSo a d (λ v. seen_in v x ≡ value → ⊥) n
 unfolding outcome_of
-differs-from a b c d x value w other equal n bank h is_w same made tested turned = record {
+differs-from a b c d x value w other equal n bank h small same made tested turned = record {
   grows = grows_on made.grows (grows_on tested.grows turned.grows);
   term = turned.node;
   is = λ e v m.
@@ -181,7 +199,8 @@ differs-from a b c d x value w other equal n bank h is_w same made tested turned
       )
       split false q = (
         λ g k.
-            let back : y ≡ w = sym (word-of x.is_signed x.width y below) ∙ ap (word x.width) k ∙ sym is_w in
+            let back : y ≡ w =
+            sym (word-of x.is_signed x.width y below) ∙ ap (word x.width) (k ∙ sym same) ∙ word-of x.is_signed x.width w small in
             let wrong : false ≡ true = sym q ∙ ap (λ z. nat_eq z w) back ∙ nat-self w in absurd (cc),
         λ never. is ∙ ap not q,
       )

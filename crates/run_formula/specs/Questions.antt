@@ -113,7 +113,7 @@ pub record OrPrint (a b : List Shape) (log : List ℕ) (q : Question) (before : 
   pub term : IsTerm b Truth n
   pub is : (length : ℕ) (e : Environment) (v : Values) → Models b e v
       → ((v n.index).truth ≡ true) ↔ (((v before.index).truth ≡ true)
-        ⊎ IsSought log q (record { what = happening.Print at length (v seen).numbers; printed = printed }))
+      ⊎ IsSought log q (record { what = happening.Print at length (v seen).numbers; printed = printed }))
 
 -- true where the answer is yes on what a state says of a run
 pub record TellsState (a b : List Shape) (log : List ℕ) (q : Question) (s : State) (n : Node) : Type 0 where

@@ -128,14 +128,14 @@ fn or_other(
     bank: &mut Bank,
     before: Node,
     watch: &Watch,
-    value: i128,
+    value: &i128,
     log: &LogText,
     printed: u64,
     at: u32,
     seen: u32,
 ) -> Result<Node, BankFault>
     requires { IsTerm bank.old Truth before }
-    ensures { IfOk result (OrPrint bank.old bank.new log.now (question.SawOther watch.now value) before printed at seen) }
+    ensures { IfOk result (OrPrint bank.old bank.new log.now (question.SawOther watch.now value.now) before printed at seen) }
 {
     if !is_watched(watch, log, printed, at) {
         return Ok(before);
@@ -166,7 +166,7 @@ fn or_print(
             Ok(node)
         }
         Question::SawOther { watch, value } => {
-            let node = or_other(alloc, bank, before, watch, *value, log, printed, at, seen)?;
+            let node = or_other(alloc, bank, before, watch, value, log, printed, at, seen)?;
             Ok(node)
         }
         Question::Fits => Ok(before),

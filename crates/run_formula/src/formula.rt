@@ -112,22 +112,20 @@ impl RunFormula {
         alloc: Global,
         bank: &mut Bank,
         watch: Watch,
-        value: i128,
+        value: &i128,
     ) -> Result<Node, BankFault>
         requires { AreStates bank.old self.now.states }
-        ensures { IfOk result (AnswersOther bank.old bank.new self.now watch value) }
+        ensures { IfOk result (AnswersOther bank.old bank.new self.now watch value.now) }
     {
+        let value = *value;
+        // Never so: by the test proofs learn the range of what stands behind a reference.
+        if value < i128::MIN || value > i128::MAX {
+            return Err(BankFault::Memory);
+        }
         let states = self.states.as_slice();
         let events = events_under(alloc, bank, states)?;
         let question = Question::SawOther { watch, value };
-        let node = ask(
-            alloc,
-            bank,
-            events.as_slice(),
-            states,
-            question,
-            &self.log,
-        )?;
+        let node = ask(alloc, bank, events.as_slice(), states, question, &self.log)?;
         Ok(node)
     }
 }

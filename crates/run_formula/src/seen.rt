@@ -36,12 +36,14 @@ fn last_of(bank: &Bank, numbers: u32) -> Option<Last>
         Some (shape.NumberBehind l.before l.seen.width l.seen.is_signed l.seen.word)) }
 {
     match bank.shape(numbers) {
-        Some(Shape::NumberBehind {
-            numbers: before,
-            width,
-            is_signed,
-            word,
-        }) => Some(Last {
+        Some(
+            Shape::NumberBehind {
+                numbers: before,
+                width,
+                is_signed,
+                word,
+            },
+        ) => Some(Last {
             seen: Seen {
                 width,
                 is_signed,
@@ -112,23 +114,23 @@ fn number_at(
 }
 
 /// Whether a word is this value in an integer type.
-fn is_value(word: u64, width: Width, is_signed: bool, value: i128) -> bool
+fn is_value(word: u64, width: Width, is_signed: bool, value: &i128) -> bool
     requires { word < 2 ^ bits_of width }
-    ensures { (result ≡ true) ↔ (number is_signed width word ≡ value) }
+    ensures { (result ≡ true) ↔ (number is_signed width word ≡ value.now) }
 {
     if is_signed {
-        return i128::from(to_signed(word, width)) == value;
+        return i128::from(to_signed(word, width)) == *value;
     }
-    i128::from(word) == value
+    i128::from(word) == *value
 }
 
 /// Whether a number is another than this.
-fn is_other(bank: &mut Bank, seen: Seen, value: i128) -> Result<Node, BankFault>
+fn is_other(bank: &mut Bank, seen: Seen, value: &i128) -> Result<Node, BankFault>
     requires { IsSeen bank.old seen }
-    ensures { IfOk result (SaysSo bank.old bank.new (λ v. seen_in v seen ≡ value → ⊥)) }
+    ensures { IfOk result (SaysSo bank.old bank.new (λ v. seen_in v seen ≡ value.now → ⊥)) }
 {
     keeps_bank(bank);
-    let word = wrap(value, seen.width);
+    let word = wrap(*value, seen.width);
     if !is_value(word, seen.width, seen.is_signed, value) {
         let always = bank.truth(true)?;
         return Ok(always);
@@ -149,9 +151,9 @@ pub(crate) fn sees_other(
     bank: &mut Bank,
     numbers: u32,
     place: u32,
-    value: i128,
+    value: &i128,
 ) -> Result<Node, BankFault>
-    ensures { IfOk result (SaysSo bank.old bank.new (λ v. slice_get (v numbers).numbers place ≡ Some value → ⊥)) }
+    ensures { IfOk result (SaysSo bank.old bank.new (λ v. slice_get (v numbers).numbers place ≡ Some value.now → ⊥)) }
 {
     match number_at(alloc, bank, numbers, place)? {
         None => {

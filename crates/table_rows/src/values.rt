@@ -27,19 +27,22 @@ pub struct Asked<'a> {
 }
 
 /// The query over a program's runs, for these facts and watched variables.
-fn query_of(
-    alloc: Global,
-    asked: &Asked<'_>,
-    facts: &Facts,
-    watches: &[Watch],
-) -> Result<Query> {
+fn query_of(alloc: Global, asked: &Asked<'_>, facts: &Facts, watches: &[Watch]) -> Result<Query> {
     let core = &asked.program.core;
     let ends = end_table(alloc, core, asked.log.bytes(), asked.bounds)?;
     let mut bank = Bank::new(alloc);
     let mut walks = 0;
     let facts = facts.facts.as_slice();
     let formula = run_formula(
-        alloc, core, asked.log, asked.bounds, &ends, facts, watches, &mut bank, &mut walks,
+        alloc,
+        core,
+        asked.log,
+        asked.bounds,
+        &ends,
+        facts,
+        watches,
+        &mut bank,
+        &mut walks,
     )?;
     match Query::new(alloc, formula, bank)? {
         Some(query) => Ok(query),
@@ -207,7 +210,14 @@ pub fn put_values(alloc: Global, asked: &Asked<'_>, text: &mut Bytes) -> Result<
     match query.ask(alloc, Target::Fits, CONFLICTS)? {
         Reply::World(world) => {
             let run = replay(alloc, asked.program, &world, asked.bounds)?;
-            put(text, if fits(&run, asked.log) { "fits\n" } else { "wrong\n" })?;
+            put(
+                text,
+                if fits(&run, asked.log) {
+                    "fits\n"
+                } else {
+                    "wrong\n"
+                },
+            )?;
             put_facts(alloc, asked, &mut query, facts.facts.as_slice(), text)?;
             put_watches(alloc, asked, &mut query, &run, watches.as_slice(), text)?;
         }

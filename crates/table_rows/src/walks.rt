@@ -24,7 +24,15 @@ pub fn put_walks(
     let mut bank = Bank::new(alloc);
     let mut walks = 0;
     let _ = run_formula(
-        alloc, core, log, bounds, &ends, &[], &[], &mut bank, &mut walks,
+        alloc,
+        core,
+        log,
+        bounds,
+        &ends,
+        &[],
+        &[],
+        &mut bank,
+        &mut walks,
     )?;
     put_count(text, u128::from(walks))?;
     if has_nodes {

@@ -5,7 +5,7 @@ use Rattle.run_formula.proofs.events.or_print.Goals as goal
 pub returns-in_ok-node-in-Holds : goal.returns-in_ok-node-in-Holds
 returns-in_ok-node-in-Holds c =
     rw c.in-Holds.is
-    (print_meant c.args.bank.now _ c.args.log.now (question.Holds c.in-Holds.fact.now) c.args.before c.in_ok-node-in-Holds.node c.args.printed
+    (print_meant c.args.bank.now _ c.args.log.now (question.Holds c.in-Holds.fact) c.args.before c.in_ok-node-in-Holds.node c.args.printed
     c.args.at c.args.seen c.speaks_of_print-meant.result c.in_ok-node-in-Holds.ensures c.speaks_of_print-meant.ensures)
 
 pub returns-in_ok-node-in-SawOther : goal.returns-in_ok-node-in-SawOther
