@@ -1,6 +1,6 @@
 //! Questions on facts and on what watched variables were, and whether their answers hold.
 
-use crate::text::{put, put_next, put_value};
+use crate::text::{put, put_count, put_next, put_value};
 use acceptance::Accepted;
 use anyhow::{Result, anyhow};
 use bit_words::{Bounds, Bytes, Fact, Facts, Happening, Run};
@@ -199,6 +199,17 @@ fn put_watches(
             put(text, "\n")?;
         }
     }
+    Ok(())
+}
+
+/// Puts how many clauses say that a run fits at the end, in a line.
+pub fn put_clauses(alloc: Global, asked: &Asked<'_>, text: &mut Bytes) -> Result<()> {
+    let facts = facts_of(alloc, &asked.program.core, asked.log, false)?;
+    let watches = watches_of(alloc, &facts)?;
+    let mut query = query_of(alloc, asked, &facts, watches.as_slice())?;
+    let formula = query.claim_formula(alloc, Target::Fits)?;
+    put_count(text, formula.len() as u128)?;
+    put(text, "\n")?;
     Ok(())
 }
 
