@@ -17,5 +17,5 @@ returns-clause-diagnosed c =
       run = c.in_ok-run.ensures.formula ∙ append-nil c.claim_formula.new.self.solver
           ∙ ap (λ r. r.solver) (c.in_ok-run.ensures.keeps ∙ c.in_ok-diagnosis.ensures.same);
       is = subst (λ fs. IsDiagnosis (record { run = λ w. source_run p.externals p.profile w b; log = log; query = q; conflicts = c.args.conflicts })
-          fs c.in_ok-diagnosis.diagnosis) c.as_slice-2.ensures c.in_ok-diagnosis.ensures.diagnosis;
+          fs c.in_ok-diagnosis.diagnosis) c.as_slice-3.ensures c.in_ok-diagnosis.ensures.diagnosis;
     }
