@@ -16,7 +16,7 @@ use log_text::LogText;
 use program_facts::facts_of;
 use query_core::{Query, Target};
 use replayer::unrolled_size;
-use run_formula::{Watch, run_formula, watches_of};
+use run_formula::run_formula;
 use std::alloc::{AllocError, Global};
 use term_bank::Bank;
 
@@ -39,7 +39,6 @@ struct Walked<'a> {
     bounds: &'a Bounds,
     log: &'a LogText,
     facts: &'a [Fact],
-    watches: &'a [Watch],
 }
 
 /// Whether the nodes that a source unrolls to, once for each line of a log and once for its end, are followed.
@@ -73,15 +72,14 @@ fn query_of(alloc: Global, walked: &Walked<'_>) -> Result<Query, DiagnoseFault>
         bounds,
         log,
         facts,
-        watches,
     } = *walked;
     let ends = end_table(alloc, core, log.bytes(), bounds)?;
     let mut bank = Bank::new(alloc);
     let mut walks = 0;
     let formula = run_formula(
-        alloc, core, log, bounds, &ends, facts, watches, &mut bank, &mut walks,
+        alloc, core, log, bounds, &ends, facts, &mut bank, &mut walks,
     )?;
-    match Query::new(alloc, formula, bank)? {
+    match Query::new(alloc, &formula, &mut bank)? {
         Some(query) => Ok(query),
         None => Err(DiagnoseFault::Unwalked),
     }
@@ -108,13 +106,11 @@ pub fn diagnose_source(
         return Err(DiagnoseFault::TooLarge);
     }
     let facts = facts_of(alloc, &program.core, log, by_line)?;
-    let watches = watches_of(alloc, &facts)?;
     let walked = Walked {
         core: &program.core,
         bounds,
         log,
         facts: facts.facts.as_slice(),
-        watches: watches.as_slice(),
     };
     let mut query = query_of(alloc, &walked)?;
     let inquiry = Inquiry {

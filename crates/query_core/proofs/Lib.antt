@@ -1,5 +1,3 @@
 pub mod BitLemmas
 pub mod QueryLemmas
-pub mod KeepLemmas
-pub mod OtherLemmas
 pub mod ReplyLemmas

@@ -1,4 +1,3 @@
-pub mod Watched
 pub mod Starts
 pub mod Settings
 pub mod Whole

@@ -14,8 +14,7 @@ returns-clause-diagnosed c =
       facts = c.in_ok-facts.ensures;
       query = q;
       runs = subst (λ fs. RunsAlong p.core b log fs q) c.as_slice.ensures c.in_ok-query.ensures.query;
-      run = c.in_ok-run.ensures.formula ∙ append-nil c.claim_formula.new.self.solver
-          ∙ ap (λ r. r.solver) (c.in_ok-run.ensures.keeps ∙ c.in_ok-diagnosis.ensures.same);
+      run = c.in_ok-run.ensures ∙ append-nil c.diagnose.new.query.solver ∙ ap (λ r. r.solver) c.in_ok-diagnosis.ensures.same;
       is = subst (λ fs. IsDiagnosis (record { run = λ w. source_run p.externals p.profile w b; log = log; query = q; conflicts = c.args.conflicts })
-          fs c.in_ok-diagnosis.diagnosis) c.as_slice-3.ensures c.in_ok-diagnosis.ensures.diagnosis;
+          fs c.in_ok-diagnosis.diagnosis) c.as_slice-2.ensures c.in_ok-diagnosis.ensures.diagnosis;
     }

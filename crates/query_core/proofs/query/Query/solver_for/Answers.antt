@@ -1,1 +1,0 @@
-use Rattle.query_core.proofs.query.Query.solver_for.Goals as goal
