@@ -1,1 +1,0 @@
-use Rattle.input_tables.proofs.row.copied_rows.Goals as goal
