@@ -39,15 +39,6 @@ impl LogText {
         Ok(LogText { bytes, starts })
     }
 
-    /// The same log, in memory of its own. It fails for want of memory alone.
-    pub fn duplicate(&self, alloc: Global) -> Result<LogText, AllocError>
-        ensures { IfOk result (λ text. text ≡ self.now) }
-    {
-        let bytes = Bytes::from_slice(alloc, self.bytes.as_slice())?;
-        let starts = Items::from_slice(alloc, self.starts.as_slice())?;
-        Ok(LogText { bytes, starts })
-    }
-
     /// The bytes.
     pub fn bytes(&self) -> &[u8]
         ensures value { result.now ≡ self.now }
