@@ -13,8 +13,9 @@
 #     lines:     or a number, and behind it a line, which the log has so often
 #     config:    the configuration c.json, by %b
 #     told:      the status and what is told on standard error
-#     status:    or the status, and behind it the report without its first two lines
-#     prints     or status 0, and behind it all that is printed
+#     status:    or the status, and behind it the report without its first two lines; a line `replayed N` in the place of
+#                its worlds stands for N worlds, whichever they are, whose runs print the log
+#     prints     or status 0, and behind it all that is printed; `prints:` with another status
 set -u
 cd "$(dirname "$0")/.." || exit 2
 program=$(readlink -f "${1:-$(tools/proved.sh sherlog || tools/trial.sh)}") || exit 1
@@ -34,6 +35,27 @@ repeated() {
 clear_row() {
     words='diagnose p.c p.log' body='printf("hi\n"); return 0;' times=1 source='' status='' told='' report='' all='' first=$1
     rm -f "$room"/*
+}
+
+# replays WORLD: whether the run of this world of the report prints the log
+replays() {
+    {
+        echo 'sherlog world 1'
+        sed -n "/^world $1\$/,/^\(world\|end\)/p" "$room/found.out" | grep -v '^world\|^end'
+        echo end
+    } >"$room/w.txt"
+    (cd "$room" && "$program" replay p.c w.txt 2>found.end | cmp -s - p.log)
+}
+
+# In the place of worlds whose runs print the log, how many there are.
+replay_worlds() {
+    local world count
+    count=$(grep -c '^world ' "$room/found.out")
+    for ((world = 1; world <= count; world++)); do
+        replays "$world" || return
+    done
+    sed -i -e "/^world 1\$/,/^end\$/d" "$room/found.out"
+    printf 'replayed %s\nend\n' "$count" >>"$room/found.out"
 }
 
 run_row() {
@@ -56,6 +78,7 @@ run_row() {
     (cd "$room" && exec "$program" "$@" </dev/null >found.out 2>found.err)
     found=$?
     rows=$((rows + 1))
+    ! grep -q '^replayed ' "$room/out" || replay_worlds
     if [ "$found" -ne "$status" ] || ! cmp -s "$room/out" "$room/found.out" ||
         ! cmp -s "$room/err" "$room/found.err"; then
         echo "reports: $first: status $found, and $status is right; what differs:"
@@ -84,6 +107,7 @@ read_rows() {
             for ((k = 0; k < ${line%% *}; k++)); do printf '%s\n' "${line#* }"; done >"$room/p.log" ;;
         'config: '*) printf '%b' "${line#config: }" >"$room/c.json" ;;
         'prints') status=0 all=1 ;;
+        'prints: '*) status=${line#prints: } all=1 ;;
         'told: '*) told=${line#told: } status=${told%% *} ;;
         'status: '*) status=${line#status: } ;;
         *) [ -n "$status" ] || { echo "reports: $1:$number: no row has this line"; failed=1; }
@@ -93,7 +117,7 @@ read_rows() {
     run_row
 }
 
-for table in words.txt faults.txt form.txt reports.txt runs.txt sites.txt; do
+for table in words.txt faults.txt form.txt lines.txt reports.txt runs.txt sites.txt; do
     read_rows "$table"
 done
 [ "$failed" -eq 0 ] && echo "reports: $rows rows agree"

@@ -1,6 +1,7 @@
 #!/usr/bin/env python3
 """Brings the table of crates in docs/MEASURES.md up to date: the lines of src, specs and proofs, and how many must-fail
-edits there are. A crate that crates.txt has and the table doesn't gets a row at the end; what `rt plant` said stays.
+edits there are, those that the gate tries and those that are tried by hand. A crate that crates.txt has and the table
+doesn't gets a row at the end; what `rt plant` said stays.
 
     tools/crate_table.py
 """
@@ -28,8 +29,9 @@ def lines(crate, part, ending):
 def row(crate, planted=' '):
     sizes = ' / '.join(str(lines(crate, part, ending)) for part, ending in
                        (('src', '.rt'), ('specs', '.antt'), ('proofs', '.antt')))
-    edits = len(glob.glob(f'crates/{crate}/must-fail/*.edit'))
-    return f'| `{crate}` | {sizes} |{planted}| {edits or ""} |'
+    tried, kept = (len(glob.glob(f'crates/{crate}/{folder}/*.edit')) for folder in ('must-fail', 'edits'))
+    edits = f'{tried} + {kept}' if kept else tried or ''
+    return f'| `{crate}` | {sizes} |{planted}| {edits} |'
 
 
 def main():

@@ -20,7 +20,7 @@ use Rattle.core_programs.proofs.Programs.{room_is, run_same, size_is}
 use Rattle.core_units.specs.Plans.{numbers_in, program_in}
 use Rattle.core_units.specs.Units.{IsUnitCore}
 use Rattle.acceptance.specs.Refusals.{Judges, judged_in}
-use Rattle.acceptance.specs.Cores.{HasItsRuns}
+use Rattle.accepted.specs.Cores.{HasItsRuns}
 
 -- ---- by whether there is a `main`, and which rule is the least that is broken
 

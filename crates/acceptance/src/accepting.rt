@@ -4,10 +4,10 @@ ghost use Rattle.c_item_notes.specs.Levels.{judged};
 ghost use Rattle.c_program_notes.specs.Wholes.{overview as overview_in};
 ghost use Rattle.c_runs.specs.Units.{IsAcceptedSource};
 ghost use Rattle.acceptance.specs.Refusals.{Judges, Refuses};
-ghost use Rattle.acceptance.specs.Cores.{HasItsRuns};
+ghost use Rattle.accepted.specs.Cores.{HasItsRuns};
 
 use crate::fault::CheckFault;
-use crate::program::Accepted;
+use accepted::Accepted;
 use c_item_notes::Source;
 use c_program_notes::{Overview, Refusal, read_source, why_refused};
 use c_runs::Profile;

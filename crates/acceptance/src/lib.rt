@@ -4,9 +4,7 @@
 
 mod accepting;
 mod fault;
-mod program;
 
 pub use accepting::{accept, check};
 pub use c_program_notes::Refusal;
 pub use fault::CheckFault;
-pub use program::Accepted;

@@ -11,6 +11,3 @@ mod outside;
 
 pub use diagnoses::{Assumption, Filling};
 pub use listing::assumptions;
-
-#[cfg(test)]
-mod tests;

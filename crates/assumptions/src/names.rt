@@ -3,7 +3,7 @@ ghost use Rattle.std.specs.Prelude.{◌≡◌, map, IfOk};
 ghost use Rattle.assumptions.specs.Assumed as spec;
 
 use bit_words::Bytes;
-use c_lexer::Name;
+use c_tokens::Name;
 use plain_data::Shared;
 use std::alloc::{AllocError, Global};
 use std::collections::BTreeSet;

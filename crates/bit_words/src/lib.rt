@@ -19,6 +19,3 @@ pub use words::{
     sub_over, to_signed, udiv, ult, urem, wrap,
 };
 pub use world::{World, WorldFault};
-
-#[cfg(test)]
-mod tests;

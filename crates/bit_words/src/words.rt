@@ -258,6 +258,3 @@ pub fn slt(a: u64, b: u64, width: Width) -> bool
 {
     to_signed(a, width) < to_signed(b, width)
 }
-
-#[cfg(test)]
-mod tests;

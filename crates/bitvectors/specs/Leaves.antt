@@ -6,7 +6,7 @@ use Rattle.cnf_core.specs.Truth.{Valuation}
 use Rattle.gates.specs.declared.bit.Bit.{Bit}
 use Rattle.gates.specs.Nets.{Net, IsModel}
 use Rattle.word_gates.specs.Spelling.{AreBits, spelled}
-use Rattle.input_tables.specs.Tables.{IsEmpty}
+use Rattle.input_tables.specs.Tables.{IsEmpty, IsSettled}
 use Rattle.term_bank.specs.Values.{Environment}
 use Rattle.bitvectors.specs.declared.inputs.Inputs.{Inputs}
 use Rattle.bitvectors.specs.Signals.{AreOf, Extends}
@@ -14,6 +14,11 @@ use Rattle.bitvectors.specs.Signals.{AreOf, Extends}
 pub record IsEmptyInputs (inputs : Inputs) : Type 0 where
   pub words : IsEmpty 64 inputs.words
   pub bytes : IsEmpty 8 inputs.bytes
+
+-- the same words and bytes without conditions
+pub record AreSettled (inputs copy : Inputs) : Type 0 where
+  pub words : IsSettled inputs.words copy.words
+  pub bytes : IsSettled inputs.bytes copy.bytes
 
 -- the word is the environment's at the place, modulo 2^N
 pub record IsWordSignal (old new : Net) (before after : Inputs) (place : List Bit) (w : Width) (word : List Bit) : Type 0 where

@@ -82,15 +82,28 @@ pub record IsSignal (old new : Net) (before after : Inputs) (signals : Signals) 
   pub stands : AreBits new word
   pub means : (v : Valuation) (e : Environment) (values : Values) → IsModel new v → AreOf v after e → IsHonest e → Each (IsSpelled v values signals) (parts shape) → spelled v word ≡ amount (sort_of shape) (worth e values shape)
 
--- the node of this number has bits, which spell its value in each environment that gives the inputs
-pub record IsSignalled (shapes : List Shape) (net : Net) (inputs : Inputs) (signals : Signals) (n : ℕ) : Type 0 where
-  pub word : List Bit
-  pub found : get nat_eq signals n ≡ Some word
+-- the word spells the value of the node of this number in each environment that gives the inputs
+pub record IsWordOf (shapes : List Shape) (net : Net) (inputs : Inputs) (n : ℕ) (word : List Bit) : Type 0 where
   pub sort : Sort
   pub sorted : sort_at shapes n ≡ Some sort
   pub width : length word ≡ size sort
   pub stands : AreBits net word
   pub means : (v : Valuation) (e : Environment) (values : Values) → IsModel net v → AreOf v inputs e → IsHonest e → Models shapes e values → spelled v word ≡ amount sort (values n)
+
+-- the node of this number has bits, which spell its value
+pub record IsSignalled (shapes : List Shape) (net : Net) (inputs : Inputs) (signals : Signals) (n : ℕ) : Type 0 where
+  pub word : List Bit
+  pub found : get nat_eq signals n ≡ Some word
+  pub is : IsWordOf shapes net inputs n word
+
+-- whatever node has bits, they spell its value
+pub record AreKnown (shapes : List Shape) (net : Net) (inputs : Inputs) (signals : Signals) : Type 0 where
+  pub are : (n : ℕ) (word : List Bit) → get nat_eq signals n ≡ Some word → IsWordOf shapes net inputs n word
+
+-- clauses and inputs were added, and the word spells the value of the node of this number
+pub record Spells (shapes : List Shape) (old new : Net) (before after : Inputs) (n : ℕ) (word : List Bit) : Type 0 where
+  pub steps : Extends old new before after
+  pub is : IsWordOf shapes new after n word
 
 -- a node now has bits
 abbrev pub Puts : Signals → Signals → ℕ → List Bit → Type 0

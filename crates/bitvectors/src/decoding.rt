@@ -5,8 +5,10 @@ ghost use Rattle.gates.specs.Nets.{bit_holds};
 ghost use Rattle.word_gates.specs.Spelling.{number, spelled};
 ghost use Rattle.input_tables.specs.Rows.{Member};
 ghost use Rattle.bitvectors.specs.Blasts.{HasWidth, HasWidths, IsBlasted, SetsRows, Shows};
+ghost use Rattle.bitvectors.specs.declared.blasting.Blasted.{Blasted as BlastedType};
 
 use crate::blasting::Blasted;
+use crate::inputs::Inputs;
 use bit_words::World;
 use cnf_core::Assignment;
 use gates::{Bit, BlastFault};
@@ -98,8 +100,27 @@ fn set_bytes(world: &mut World, rows: &[Row], values: &Assignment) -> Result<(),
     Ok(())
 }
 
+impl Inputs {
+    /// The world that a model of a formula with these inputs stands for: on it, whatever the roots are, they have the
+    /// values that their bits spell.
+    pub fn decode(&self, alloc: Global, values: &Assignment) -> Result<World, BlastFault>
+        requires words { HasWidth 64 self.now.words }
+        requires bytes { HasWidth 8 self.now.bytes }
+        ensures { IfOk result (λ world. (blasted : BlastedType) → blasted.inputs ≡ self.now → (shapes : _) → (roots : _) →
+            IsBlasted shapes roots blasted → formula_holds (value_of values.now) blasted.formula ≡ true →
+            Shows shapes roots blasted (value_of values.now) world) }
+    {
+        let mut world = World::new(alloc);
+        set_words(&mut world, self.words.fixed.as_slice(), values)?;
+        set_words(&mut world, self.words.free.as_slice(), values)?;
+        set_bytes(&mut world, self.bytes.fixed.as_slice(), values)?;
+        set_bytes(&mut world, self.bytes.free.as_slice(), values)?;
+        Ok(world)
+    }
+}
+
 impl Blasted {
-    /// The world that a model stands for: on it, whatever the roots are, they have the values that their bits spell.
+    /// The world that a model stands for (`Inputs::decode`).
     pub fn decode(&self, alloc: Global, values: &Assignment) -> Result<World, BlastFault>
         requires words { HasWidth 64 self.now.inputs.words }
         requires bytes { HasWidth 8 self.now.inputs.bytes }
@@ -107,11 +128,7 @@ impl Blasted {
             formula_holds (value_of values.now) self.now.formula ≡ true →
             Shows shapes roots self.now (value_of values.now) world) }
     {
-        let mut world = World::new(alloc);
-        set_words(&mut world, self.inputs.words.fixed.as_slice(), values)?;
-        set_words(&mut world, self.inputs.words.free.as_slice(), values)?;
-        set_bytes(&mut world, self.inputs.bytes.fixed.as_slice(), values)?;
-        set_bytes(&mut world, self.inputs.bytes.free.as_slice(), values)?;
+        let world = self.inputs.decode(alloc, values)?;
         Ok(world)
     }
 }

@@ -2,13 +2,13 @@ ghost use Rattle.std.specs.Prelude.{◌≡◌, ◌≤◌, ◌%◌, ◌^◌, leng
 ghost use Rattle.bit_words.specs.Words.{bits};
 ghost use Rattle.word_gates.specs.Spelling.{AreBits};
 ghost use Rattle.bitvectors.specs.Signals.{AreInputs};
-ghost use Rattle.bitvectors.specs.Leaves.{IsByteSignal, IsEmptyInputs, IsWordSignal};
+ghost use Rattle.bitvectors.specs.Leaves.{AreSettled, IsByteSignal, IsEmptyInputs, IsWordSignal};
 
 use bit_words::Width;
 use gates::{Bit, BlastFault, Gates};
 use input_tables::Table;
 use plain_data::Items;
-use std::alloc::Global;
+use std::alloc::{AllocError, Global};
 use word_gates::resize;
 
 /// What a formula's variables stand for outside: the world's words by place, and its initial bytes by address.
@@ -29,6 +29,15 @@ impl Inputs {
             words: Table::new(alloc, 64),
             bytes: Table::new(alloc, 8),
         }
+    }
+
+    /// The same words and bytes without conditions, for clauses that say that these are true.
+    pub(crate) fn settled(&self, alloc: Global) -> Result<Inputs, AllocError>
+        ensures { IfOk result (AreSettled self.now) }
+    {
+        let words = self.words.settled(alloc)?;
+        let bytes = self.bytes.settled(alloc)?;
+        Ok(Inputs { words, bytes })
     }
 
     /// The world's word of this width at a place.

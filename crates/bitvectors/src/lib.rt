@@ -6,6 +6,7 @@ mod blasting;
 mod decoding;
 mod inputs;
 mod leaves;
+mod more;
 mod operators;
 mod plainness;
 mod reads;
@@ -15,5 +16,6 @@ mod truths;
 
 pub use blasting::{Blasted, blast};
 pub use inputs::Inputs;
+pub use more::More;
 pub use plainness::are_plain;
-pub use reads::blast_reads;
+pub use reads::{blast_reads, go_on_reads};

@@ -3,7 +3,7 @@ ghost use Rattle.bitvectors.specs.Amounts.{bits_at};
 ghost use Rattle.bitvectors.specs.Blasts.{words_of};
 ghost use Rattle.bitvectors.specs.Signals.{Puts};
 
-use gates::Bit;
+use gates::{Bit, BlastFault, Gates};
 use plain_data::{Items, Rows};
 use std::alloc::{AllocError, Global};
 use std::collections::HashMap;
@@ -17,6 +17,15 @@ pub(crate) fn bits_of<'a>(signals: &'a HashMap<u32, Items<Bit>>, number: u32) ->
         Some(word) => word.as_slice(),
         None => &[],
     }
+}
+
+/// The same bits.
+pub(crate) fn copied(gates: &Gates, bits: &[Bit]) -> Result<Items<Bit>, BlastFault>
+    ensures { IfOk result (λ copy. copy ≡ bits.now) }
+{
+    let mut copy = gates.no_bits();
+    copy.extend_from_slice(bits)?;
+    Ok(copy)
 }
 
 /// Lets a node have bits.

@@ -6,8 +6,8 @@ ghost use Rattle.c_checks.specs.Refusals.{least_of};
 ghost use Rattle.c_checks.specs.Rules as spec;
 
 use crate::statements::misplaced_if;
-use c_lexer::Name;
 use c_runs::Breach;
+use c_tokens::Name;
 use std::marker::Model;
 
 /// A label, by the offset of its name.

@@ -5,8 +5,8 @@ ghost use Rattle.c_type_terms.specs.Compatible.{composite};
 ghost use Rattle.c_says.specs.Declarations as spec;
 
 use crate::linkage::has_linkage;
-use c_lexer::Name;
 use c_says::Means;
+use c_tokens::Name;
 use c_type_scope::Scope;
 use c_type_terms::{CType, Tables};
 use plain_data::Shared;

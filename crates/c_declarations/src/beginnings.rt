@@ -14,8 +14,8 @@ use crate::completeness::{complete_fault, completed_by, may_be_initialised, obje
 use crate::declarators::{Declared, declared_lastly, with_definition, with_rule};
 use crate::linkage::{copied, declare, declares_name, means_of, twice_defined};
 use c_declares::{Formed, derived_from, formed_type};
-use c_lexer::Name;
 use c_says::{Fault, Means, Rule};
+use c_tokens::Name;
 use c_tree::StorageClass;
 use c_type_scope::Scope;
 use c_type_terms::CType;

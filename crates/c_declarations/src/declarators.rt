@@ -16,8 +16,8 @@ use crate::beginnings::{
 use crate::completeness::faults_of_rule;
 use c_declares::Formed;
 use c_initials::{Filling, filling_of};
-use c_lexer::Name;
 use c_says::{Entry, Fault, Rule};
+use c_tokens::Name;
 use c_tree::{Initializer, StorageClass};
 use c_type_scope::Scope;
 use c_type_terms::CType;

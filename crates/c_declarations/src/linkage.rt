@@ -5,8 +5,8 @@ ghost use Rattle.std.specs.Option.{option_copied};
 ghost use Rattle.c_says.specs.Scopes as scopes;
 ghost use Rattle.c_says.specs.Declarations as spec;
 
-use c_lexer::Name;
 use c_says::{Duration, Entry, Linkage, Linked, Means};
+use c_tokens::Name;
 use c_tree::StorageClass;
 use c_type_forms::is_function;
 use c_type_scope::Scope;

@@ -7,8 +7,8 @@ ghost use Rattle.c_declares.specs.Views.{counting_in};
 
 use crate::constants::{add_constant, value_of};
 use crate::names::{add_duplicate, declare};
-use c_lexer::Name;
 use c_says::{Fault, Means, Rule, Told};
+use c_tokens::Name;
 use c_type_scope::Scope;
 use c_type_terms::IntegerKind;
 use plain_data::Items;

@@ -5,8 +5,8 @@ ghost use Rattle.std.specs.Option.{option_copied};
 ghost use Rattle.c_says.specs.Scopes as scopes;
 ghost use Rattle.c_says.specs.Declares as spec;
 
-use c_lexer::Name;
 use c_says::{Entry, Fault, Means, Rule};
+use c_tokens::Name;
 use c_type_scope::Scope;
 use plain_data::{Items, Shared};
 use std::alloc::{AllocError, Global};

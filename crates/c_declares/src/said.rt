@@ -8,8 +8,8 @@ ghost use Rattle.c_says.specs.Declares as spec;
 ghost use Rattle.c_declares.specs.Views.{said_in};
 
 use crate::words::type_of_words;
-use c_lexer::Name;
 use c_says::{Fault, Means, Rule};
+use c_tokens::Name;
 use c_tree::{Qualifier, StorageClass, TypeWord};
 use c_type_scope::Scope;
 use c_type_terms::{CType, Qualifiers};

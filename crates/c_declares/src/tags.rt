@@ -10,8 +10,8 @@ ghost use Rattle.c_declares.specs.Views.{said_in, begun_in, laid_in, counting_in
 use crate::enumerations::Counting;
 use crate::members::{Laid, form_of};
 use crate::said::Said;
-use c_lexer::Name;
 use c_says::{Fault, Rule, Tag, TagMeans};
+use c_tokens::Name;
 use c_tree::{AggregateKind, TagName};
 use c_type_scope::Scope;
 use c_type_terms::{Aggregate, AggregateForm, Base, CType, Content, Layout, OpaqueCause};

@@ -1,6 +1,6 @@
 -- The reading of a conditional expression (C99 6.5.15), in two steps.
 use Rattle.std.specs.Prelude.{ℕ, Some}
-use Rattle.c_lexer.specs.declared.token.Punctuator.TheVariants as mark
+use Rattle.c_tokens.specs.declared.token.Punctuator.TheVariants as mark
 use Rattle.c_tree.specs.declared.expr.Expr.{Expr}
 use Rattle.c_tree.specs.declared.expr.Expr.TheVariants as expr
 use Rattle.c_grammar.specs.Parts.{State}

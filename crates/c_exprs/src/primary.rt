@@ -9,10 +9,10 @@ use crate::below::Below;
 use crate::discarding::discard_expr;
 use bit_words::Bytes;
 use c_grammar::{DeclaratorPlace, operand_rank};
-use c_lexer::{Name, Punctuator, Token, TokenKind};
 use c_nodes::{FoundDeclarator, FoundExpr, FoundSpecifier, expr};
 use c_reading::{Cursor, ParseFault};
 use c_scope::FileNames;
+use c_tokens::{Name, Punctuator, Token, TokenKind};
 use plain_data::Shared;
 use std::alloc::Global;
 

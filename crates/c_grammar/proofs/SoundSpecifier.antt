@@ -28,13 +28,13 @@ use Rattle.std.proofs.Common.{
 use Rattle.std.specs.Prelude.{map, option_map, not}
 use Rattle.std.proofs.lemmas.Option.{same_Some}
 use denote.Enum.Bare.{same_true, sameb}
-use Rattle.c_lexer.specs.contracts.token.Keyword.{the_type as keyword_type}
-use Rattle.c_lexer.specs.declared.token.Token.{Token}
-use Rattle.c_lexer.specs.declared.token.TokenKind.{TokenKind}
-use Rattle.c_lexer.specs.declared.token.TokenKind.TheVariants as kind
-use Rattle.c_lexer.specs.declared.token.Keyword.{Keyword}
-use Rattle.c_lexer.specs.declared.token.Keyword.TheVariants as keyword
-use Rattle.c_lexer.specs.declared.token.Punctuator.TheVariants as mark
+use Rattle.c_tokens.specs.contracts.token.Keyword.{the_type as keyword_type}
+use Rattle.c_tokens.specs.declared.token.Token.{Token}
+use Rattle.c_tokens.specs.declared.token.TokenKind.{TokenKind}
+use Rattle.c_tokens.specs.declared.token.TokenKind.TheVariants as kind
+use Rattle.c_tokens.specs.declared.token.Keyword.{Keyword}
+use Rattle.c_tokens.specs.declared.token.Keyword.TheVariants as keyword
+use Rattle.c_tokens.specs.declared.token.Punctuator.TheVariants as mark
 use Rattle.c_tree.specs.declared.expr.AggregateKind.{AggregateKind}
 use Rattle.c_tree.specs.declared.expr.TagName.{TagName}
 use Rattle.c_tree.specs.declared.expr.StorageClass.{StorageClass}

@@ -25,9 +25,9 @@ use Rattle.std.proofs.Common.{
   inr,
 }
 use Rattle.std.proofs.lemmas.Option.{same_Some}
-use Rattle.c_lexer.specs.declared.token.Token.{Token}
-use Rattle.c_lexer.specs.declared.token.TokenKind.TheVariants as kind
-use Rattle.c_lexer.specs.declared.token.Punctuator.TheVariants as mark
+use Rattle.c_tokens.specs.declared.token.Token.{Token}
+use Rattle.c_tokens.specs.declared.token.TokenKind.TheVariants as kind
+use Rattle.c_tokens.specs.declared.token.Punctuator.TheVariants as mark
 use Rattle.c_tree.specs.declared.expr.Specifier.{Specifier}
 use Rattle.c_tree.specs.declared.expr.Declarator.{Declarator}
 use Rattle.c_tree.specs.declared.unit.InitDeclarator.{InitDeclarator}

@@ -1,6 +1,6 @@
 -- What is read of a unit, and of its parts, is what the grammar derives.
 use Rattle.std.proofs.Common.{◌≡◌, ℕ, List, Some}
-use Rattle.c_lexer.specs.declared.token.Token.{Token}
+use Rattle.c_tokens.specs.declared.token.Token.{Token}
 use Rattle.c_tree.specs.declared.unit.Initializer.{Initializer}
 use Rattle.c_tree.specs.declared.unit.Declaration.{Declaration}
 use Rattle.c_tree.specs.declared.unit.Stmt.{Stmt}

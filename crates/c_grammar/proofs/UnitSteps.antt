@@ -21,11 +21,11 @@ use Rattle.std.proofs.Common.{
 }
 use Rattle.std.proofs.lemmas.Option.{same_Some}
 use denote.Enum.Bare.{sameb}
-use Rattle.c_lexer.specs.declared.token.Token.{Token}
-use Rattle.c_lexer.specs.declared.token.TokenKind.{TokenKind}
-use Rattle.c_lexer.specs.declared.token.TokenKind.TheVariants as kind
-use Rattle.c_lexer.specs.declared.token.Keyword.{Keyword}
-use Rattle.c_lexer.specs.contracts.token.Keyword.{the_type as keyword_type}
+use Rattle.c_tokens.specs.declared.token.Token.{Token}
+use Rattle.c_tokens.specs.declared.token.TokenKind.{TokenKind}
+use Rattle.c_tokens.specs.declared.token.TokenKind.TheVariants as kind
+use Rattle.c_tokens.specs.declared.token.Keyword.{Keyword}
+use Rattle.c_tokens.specs.contracts.token.Keyword.{the_type as keyword_type}
 use Rattle.c_tree.specs.declared.expr.Expr.{Expr}
 use Rattle.c_tree.specs.declared.expr.Specifier.{Specifier}
 use Rattle.c_tree.specs.declared.expr.Declarator.{Declarator}

@@ -19,13 +19,13 @@ use Rattle.std.specs.Prelude.{
   None,
   map,
 }
-use Rattle.c_lexer.specs.declared.token.Token.{Token}
-use Rattle.c_lexer.specs.declared.token.TokenKind.{TokenKind}
-use Rattle.c_lexer.specs.declared.token.TokenKind.TheVariants as kind
-use Rattle.c_lexer.specs.declared.token.Keyword.{Keyword}
-use Rattle.c_lexer.specs.declared.token.Keyword.TheVariants as keyword
-use Rattle.c_lexer.specs.declared.token.Punctuator.{Punctuator}
-use Rattle.c_lexer.specs.declared.token.Punctuator.TheVariants as mark
+use Rattle.c_tokens.specs.declared.token.Token.{Token}
+use Rattle.c_tokens.specs.declared.token.TokenKind.{TokenKind}
+use Rattle.c_tokens.specs.declared.token.TokenKind.TheVariants as kind
+use Rattle.c_tokens.specs.declared.token.Keyword.{Keyword}
+use Rattle.c_tokens.specs.declared.token.Keyword.TheVariants as keyword
+use Rattle.c_tokens.specs.declared.token.Punctuator.{Punctuator}
+use Rattle.c_tokens.specs.declared.token.Punctuator.TheVariants as mark
 use Rattle.c_tree.specs.declared.expr.BinaryOperator.{BinaryOperator}
 use Rattle.c_tree.specs.declared.expr.Qualifier.{Qualifier}
 use Rattle.c_tree.specs.declared.expr.ArrayWord.{ArrayWord}

@@ -1,11 +1,11 @@
 -- Which operator or word a token is: the spelling, read backwards.
 use Rattle.std.specs.Prelude.{ℕ, Option, Some, None, cond}
 use denote.Enum.Bare.{sameb}
-use Rattle.c_lexer.specs.contracts.token.Keyword.{the_type as keyword_type}
-use Rattle.c_lexer.specs.declared.token.Keyword.{Keyword}
-use Rattle.c_lexer.specs.declared.token.Keyword.TheVariants as keyword
-use Rattle.c_lexer.specs.declared.token.Punctuator.{Punctuator}
-use Rattle.c_lexer.specs.declared.token.Punctuator.TheVariants as mark
+use Rattle.c_tokens.specs.contracts.token.Keyword.{the_type as keyword_type}
+use Rattle.c_tokens.specs.declared.token.Keyword.{Keyword}
+use Rattle.c_tokens.specs.declared.token.Keyword.TheVariants as keyword
+use Rattle.c_tokens.specs.declared.token.Punctuator.{Punctuator}
+use Rattle.c_tokens.specs.declared.token.Punctuator.TheVariants as mark
 use Rattle.c_tree.specs.declared.expr.UnaryOperator.{UnaryOperator}
 use Rattle.c_tree.specs.declared.expr.UnaryOperator.TheVariants as unary
 use Rattle.c_tree.specs.declared.expr.BinaryOperator.TheVariants as binary

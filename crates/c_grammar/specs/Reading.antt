@@ -22,15 +22,15 @@ use Rattle.std.specs.Prelude.{
   None,
 }
 use denote.Enum.Bare.{sameb}
-use Rattle.c_lexer.specs.declared.token.Token.{Token}
-use Rattle.c_lexer.specs.declared.token.TokenKind.{TokenKind}
-use Rattle.c_lexer.specs.declared.token.TokenKind.TheVariants as kind
-use Rattle.c_lexer.specs.declared.token.Keyword.{Keyword}
-use Rattle.c_lexer.specs.declared.token.Keyword.TheVariants as keyword
-use Rattle.c_lexer.specs.declared.token.Punctuator.{Punctuator}
-use Rattle.c_lexer.specs.declared.token.Punctuator.TheVariants as mark
-use Rattle.c_lexer.specs.contracts.token.Keyword.{the_type as keyword_type}
-use Rattle.c_lexer.specs.contracts.token.Punctuator.{the_type as punctuator_type}
+use Rattle.c_tokens.specs.declared.token.Token.{Token}
+use Rattle.c_tokens.specs.declared.token.TokenKind.{TokenKind}
+use Rattle.c_tokens.specs.declared.token.TokenKind.TheVariants as kind
+use Rattle.c_tokens.specs.declared.token.Keyword.{Keyword}
+use Rattle.c_tokens.specs.declared.token.Keyword.TheVariants as keyword
+use Rattle.c_tokens.specs.declared.token.Punctuator.{Punctuator}
+use Rattle.c_tokens.specs.declared.token.Punctuator.TheVariants as mark
+use Rattle.c_tokens.specs.contracts.token.Keyword.{the_type as keyword_type}
+use Rattle.c_tokens.specs.contracts.token.Punctuator.{the_type as punctuator_type}
 use Rattle.c_tree.specs.declared.expr.UnaryOperator.{UnaryOperator}
 use Rattle.c_tree.specs.declared.expr.PostfixOperator.TheVariants as postfix
 use Rattle.c_tree.specs.declared.expr.BinaryOperator.{BinaryOperator}

@@ -12,6 +12,3 @@ pub use operators::{
     rank_of, type_word_of, unary_of, word_specifier,
 };
 pub use type_words::{TypeKind, TypeWords};
-
-#[cfg(test)]
-mod tests;

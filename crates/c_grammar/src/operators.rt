@@ -3,7 +3,7 @@ ghost use Rattle.std.specs.Prelude.{◌≡◌, ◌≤◌, ◌<◌};
 ghost use Rattle.c_grammar.specs.Operators as spec;
 ghost use Rattle.c_grammar.specs.Spelling.{rank_of as rank_spec, operand_rank as operand_rank_spec};
 
-use c_lexer::{Keyword, Punctuator};
+use c_tokens::{Keyword, Punctuator};
 use c_tree::{
     AggregateKind, ArrayWord, BinaryOperator, Qualifier, Specifier, StorageClass, TypeWord,
     UnaryOperator,

@@ -1,7 +1,7 @@
 -- The height of each kind of node, in terms of the heights of the nodes in it.
 use Rattle.std.proofs.Common.{◌≡◌, ℕ, ℤ, suc, List, Option, Bool, ap, ◌∙◌}
 use Rattle.std.specs.Prelude.{map, max, option_map}
-use Rattle.c_lexer.specs.declared.token.IntegerConstant.{IntegerConstant}
+use Rattle.c_tokens.specs.declared.token.IntegerConstant.{IntegerConstant}
 use Rattle.c_tree.specs.declared.expr.UnaryOperator.{UnaryOperator}
 use Rattle.c_tree.specs.declared.expr.PostfixOperator.{PostfixOperator}
 use Rattle.c_tree.specs.declared.expr.BinaryOperator.{BinaryOperator}

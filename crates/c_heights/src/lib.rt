@@ -9,6 +9,3 @@ pub use expr::{declarator_height, expr_height, highest_specifier};
 pub use unit::{
     declaration_height, external_height, highest_external, initializer_height, stmt_height,
 };
-
-#[cfg(test)]
-mod tests;

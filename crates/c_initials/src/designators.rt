@@ -12,8 +12,8 @@ ghost use Rattle.c_initials.specs.Filled.{filling_in, below, element_in, value_n
 use crate::filling::Filling;
 use crate::frames::{Frame, Frames};
 use crate::parts::{part_at, sized_members};
-use c_lexer::Name;
 use c_says::{Fault, LayoutRule, Rule, Shown, Told};
+use c_tokens::Name;
 use c_tree::Designator;
 use c_type_forms::one_fault;
 use c_type_scope::Scope;

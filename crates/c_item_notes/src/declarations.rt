@@ -26,8 +26,8 @@ use c_declarations::{
 };
 use c_declares::{Formed, Said};
 use c_initials::Filling;
-use c_lexer::Name;
 use c_says::{Duration, Entry, Linkage, Means};
+use c_tokens::Name;
 use c_tree::{Declaration, InitDeclarator, Initializer, StorageClass};
 use c_type_scope::Scope;
 use c_type_terms::{CType, Tables};

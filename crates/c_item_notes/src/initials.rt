@@ -16,10 +16,10 @@ use c_initials::{
     Filling, Opened, Part, designated_by, fills_value, list_alone, list_begun, list_closed,
     value_alone, with_part_left,
 };
-use c_lexer::Name;
 use c_notes::{CallNote, ExprNotes, NotedExpr, is_static};
 use c_runs::{Breach, BrokenRule};
 use c_says::{LayoutRule, Rule, Told};
+use c_tokens::Name;
 use c_tree::{Initializer, InitializerItem};
 use c_type_scope::Scope;
 use c_type_terms::CType;

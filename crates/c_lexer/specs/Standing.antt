@@ -1,10 +1,10 @@
 -- Where the tokens and the fault of a source stand in it.
-use Rattle.std.specs.Prelude.{◌≡◌, ℕ, ◌<◌, ◌≤◌, List, [], ◌∷◌, Option, Some, None, slice_get, ⊤}
+use Rattle.std.specs.Prelude.{◌≡◌, ℕ, List, Option, Some, None, slice_get}
 use Rattle.c_lexer.specs.Class.{Text}
 use Rattle.c_lexer.specs.Places.{located}
 use Rattle.c_lexer.specs.declared.fault.LexFault.{LexFault}
 use Rattle.c_lexer.specs.declared.fault.LexFault.TheVariants as fault
-use Rattle.c_lexer.specs.declared.token.Token.{Token}
+use Rattle.c_tokens.specs.declared.token.Token.{Token}
 
 -- A token's place is where its first byte stands in the source: the file by its number among these names, the line
 -- and the column.
@@ -12,12 +12,6 @@ pub record IsPlaced (name bytes : Text) (files : List Text) (token : Token) : Ty
   pub file : slice_get files token.place.file ≡ Some (located name bytes token.start).file
   pub line : token.place.line ≡ (located name bytes token.start).line
   pub column : token.place.column ≡ (located name bytes token.start).column
-
--- Tokens stand one behind another between two bytes of a source, and each takes a byte at least. So no two begin at one
--- byte.
-abbrev pub StandInOrder : ℕ → ℕ → List Token → Type 0
-StandInOrder from end [] = ⊤
-StandInOrder from end (t ∷ ts) = (from ≤ t.start) × (t.start < t.end) × (t.end ≤ end) × StandInOrder t.end end ts
 
 -- the byte at which a fault stands: want of memory stands nowhere
 abbrev pub fault_byte : LexFault → Option ℕ

@@ -13,15 +13,8 @@ mod meaning;
 mod number;
 mod piece;
 mod table;
-mod token;
 mod walk;
 mod words;
 
 pub use fault::LexFault;
 pub use lexer::{lex, locate};
-pub use token::{
-    IntegerConstant, IntegerType, Keyword, Name, Place, Punctuator, Spot, Token, TokenKind, Tokens,
-};
-
-#[cfg(test)]
-mod tests;

@@ -11,8 +11,8 @@ use crate::fault::LexFault;
 use crate::literal::unescape;
 use crate::number::{NumberFault, Numeric, number};
 use crate::piece::{Lexeme, Stray};
-use crate::token::TokenKind;
 use crate::words::Words;
+use c_tokens::TokenKind;
 use plain_data::{Items, Shared};
 use std::alloc::Global;
 

@@ -1,6 +1,6 @@
 //! How keywords, punctuators, suffixes and escapes are spelled.
 
-use crate::token::{Keyword, Punctuator};
+use c_tokens::{Keyword, Punctuator};
 
 /// What a word means that isn't an identifier.
 #[derive(Clone, Copy, Debug, PartialEq, Eq)]

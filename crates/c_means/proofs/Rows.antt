@@ -4,7 +4,7 @@ use Rattle.bit_words.specs.declared.run.Finish.TheVariants as finish
 use Rattle.bit_words.specs.declared.run.Happening.TheVariants as happening
 use Rattle.bit_words.specs.declared.run.Side.TheVariants as side
 use Rattle.bit_words.specs.declared.run.Undefined.TheVariants as undefined
-use Rattle.c_lexer.specs.declared.token.IntegerType.TheVariants as i
+use Rattle.c_tokens.specs.declared.token.IntegerType.TheVariants as i
 use Rattle.c_tree.specs.declared.expr.AggregateKind.TheVariants as aggregate_kind
 use Rattle.c_tree.specs.declared.expr.BinaryOperator.TheVariants as o
 use Rattle.c_tree.specs.declared.expr.TagName.{TagName}

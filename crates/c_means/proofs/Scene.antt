@@ -8,7 +8,7 @@ use Rattle.bit_words.specs.declared.run.Event.{Event}
 use Rattle.bit_words.specs.declared.run.Finish.TheVariants as finish
 use Rattle.bit_words.specs.declared.run.Happening.{Happening}
 use Rattle.bit_words.specs.declared.run.Undefined.{Undefined}
-use Rattle.c_lexer.specs.declared.token.IntegerType.TheVariants as i
+use Rattle.c_tokens.specs.declared.token.IntegerType.TheVariants as i
 use Rattle.c_tree.specs.declared.expr.AggregateKind.TheVariants as kind_
 use Rattle.c_tree.specs.declared.expr.BinaryOperator.{BinaryOperator}
 use Rattle.c_tree.specs.declared.expr.PostfixOperator.TheVariants as postfix_

@@ -4,7 +4,7 @@ use Rattle.std.specs.Prelude.{Some, None, Ok, Err, slice_get, unwrap_or, unsigne
 use Rattle.bit_words.specs.declared.run.Undefined.TheVariants.{MissingValue}
 use Rattle.bit_words.specs.declared.run.Side.TheVariants as side
 use Rattle.bit_words.specs.declared.run.Happening.TheVariants as happening
-use Rattle.c_lexer.specs.declared.token.IntegerConstant.{IntegerConstant}
+use Rattle.c_tokens.specs.declared.token.IntegerConstant.{IntegerConstant}
 use Rattle.c_tree.specs.declared.expr.BinaryOperator.{BinaryOperator}
 use Rattle.c_tree.specs.declared.expr.BinaryOperator.TheVariants as o
 use Rattle.c_tree.specs.declared.expr.PostfixOperator.{PostfixOperator}

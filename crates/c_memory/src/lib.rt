@@ -6,6 +6,3 @@ mod memory;
 
 pub use cell::Cell;
 pub use memory::Memory;
-
-#[cfg(test)]
-mod tests;

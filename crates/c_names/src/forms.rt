@@ -10,7 +10,7 @@ use crate::parting::{bind, leave_out_declared};
 use crate::stack::Stack;
 use crate::words::{Binding, Literal, Word, ordinary, tagged};
 use bit_words::Bytes;
-use c_lexer::Name;
+use c_tokens::Name;
 use c_tree::TagName;
 use std::alloc::{AllocError, Global};
 use std::mem::replace;

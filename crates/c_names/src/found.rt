@@ -7,7 +7,7 @@ ghost use Rattle.c_names.specs.Trees as trees;
 use crate::offsets::Offsets;
 use crate::stack::Stack;
 use crate::words::{Binding, Literal, Word};
-use c_lexer::Name;
+use c_tokens::Name;
 use std::alloc::Global;
 use std::marker::Model;
 use std::mem::replace;

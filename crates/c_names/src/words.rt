@@ -5,7 +5,7 @@ ghost use Rattle.c_runs.specs.Programs as programs;
 ghost use Rattle.c_runs.specs.Names as names;
 
 use bit_words::Bytes;
-use c_lexer::Name;
+use c_tokens::Name;
 use std::alloc::AllocError;
 use std::marker::Model;
 

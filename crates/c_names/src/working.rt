@@ -13,7 +13,7 @@ use crate::found::{Found, nothing};
 use crate::stack::Stack;
 use crate::words::{ordinary, tagged};
 use bit_words::Bytes;
-use c_lexer::Name;
+use c_tokens::Name;
 use c_tree::TagName;
 use plain_data::Shared;
 use std::alloc::{AllocError, Global};

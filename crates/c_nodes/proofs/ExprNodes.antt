@@ -1,7 +1,7 @@
 -- The ranks and heights of expressions that are made.
 use Rattle.std.proofs.Common.{◌≡◌, ℕ, ℤ, suc, List, Option, refl, sym, ap, ◌∙◌, arith, ◌+◌}
 use Rattle.std.specs.Prelude.{max, map}
-use Rattle.c_lexer.specs.declared.token.IntegerConstant.{IntegerConstant}
+use Rattle.c_tokens.specs.declared.token.IntegerConstant.{IntegerConstant}
 use Rattle.c_tree.specs.declared.expr.BinaryOperator.{BinaryOperator}
 use Rattle.c_tree.specs.declared.expr.PostfixOperator.{PostfixOperator}
 use Rattle.c_tree.specs.declared.expr.UnaryOperator.{UnaryOperator}

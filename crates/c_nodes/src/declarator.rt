@@ -6,7 +6,7 @@ use crate::expr::most;
 use crate::found::{
     FoundDeclarator, FoundOptional, FoundParameter, FoundParameters, FoundSpecifiers,
 };
-use c_lexer::Name;
+use c_tokens::Name;
 use c_tree::{ArrayWord, Declarator, Parameter, Qualifier};
 use plain_data::{Items, Shared};
 use std::alloc::{AllocError, Global};

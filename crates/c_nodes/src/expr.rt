@@ -6,7 +6,7 @@ ghost use Rattle.c_tree.specs.declared.expr.Expr.TheVariants as expr;
 use crate::found::{FoundExpr, FoundOptional, FoundType};
 use bit_words::Bytes;
 use c_grammar::rank_of;
-use c_lexer::{IntegerConstant, Name};
+use c_tokens::{IntegerConstant, Name};
 use c_tree::{BinaryOperator, Expr, PostfixOperator, UnaryOperator};
 use plain_data::{Items, Shared};
 use std::alloc::{AllocError, Global};

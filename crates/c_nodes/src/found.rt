@@ -6,7 +6,7 @@ ghost use Rattle.c_grammar.specs.Reading.{kind_of};
 ghost use Rattle.c_grammar.specs.TypeWords.{none, words_from};
 
 use c_grammar::{TypeKind, TypeWords};
-use c_lexer::Name;
+use c_tokens::Name;
 use c_tree::{
     Declarator, Enumerator, Expr, Field, MemberDeclaration, Parameter, Specifier, TypeName,
 };

@@ -7,7 +7,7 @@ use crate::found::{
     FoundDeclarator, FoundEnumerator, FoundExpr, FoundField, FoundFieldName, FoundFields,
     FoundMember, FoundMembers, FoundOptional, FoundSpecifiers,
 };
-use c_lexer::Name;
+use c_tokens::Name;
 use c_tree::{Enumerator, Field, MemberDeclaration};
 use plain_data::{Items, Shared};
 use std::alloc::{AllocError, Global};

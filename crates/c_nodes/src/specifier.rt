@@ -7,7 +7,7 @@ ghost use Rattle.c_tree.specs.declared.expr.Specifier.TheVariants as specifier;
 use crate::expr::most;
 use crate::found::{FoundDeclarator, FoundSpecifier, FoundSpecifiers, FoundType};
 use c_grammar::{TypeKind, TypeWords};
-use c_lexer::Name;
+use c_tokens::Name;
 use c_tree::{
     AggregateKind, Enumerator, MemberDeclaration, Qualifier, Specifier, StorageClass, TagName,
     TypeName, TypeWord,

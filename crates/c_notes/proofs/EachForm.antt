@@ -1,6 +1,6 @@
 -- What is noted of each kind of expression, from what the code has found of its parts: one lemma a constructor.
 use Rattle.std.proofs.Common.{◌≡◌, ℕ, ℤ, List, [], ◌++◌, Option, Some, None, Bool, true, false, refl, sym, ap, subst, ◌∙◌}
-use Rattle.c_lexer.specs.declared.token.IntegerConstant.{IntegerConstant}
+use Rattle.c_tokens.specs.declared.token.IntegerConstant.{IntegerConstant}
 use Rattle.c_tree.specs.declared.expr.UnaryOperator.{UnaryOperator}
 use Rattle.c_tree.specs.declared.expr.UnaryOperator.TheVariants as u_
 use Rattle.c_tree.specs.declared.expr.PostfixOperator.{PostfixOperator}

@@ -11,9 +11,9 @@ use c_checks::{
     body_call, filling_call, filling_function, identity_call, identity_index, is_library_function,
     log_call, log_function,
 };
-use c_lexer::Name;
 use c_runs::{Breach, LogText, Profile};
 use c_says::Entry;
+use c_tokens::Name;
 use c_type_terms::{CType, Tables};
 use std::alloc::{AllocError, Global};
 

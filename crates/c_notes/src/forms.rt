@@ -13,8 +13,8 @@ use crate::notes::{
 };
 use bit_words::Bytes;
 use c_declares::TypeSaid;
-use c_lexer::Name;
 use c_says::{Duration, Means, Told};
+use c_tokens::Name;
 use c_tree::{BinaryOperator, UnaryOperator};
 use c_type_scope::Scope;
 use c_typing as forms;

@@ -7,8 +7,8 @@ ghost use Rattle.c_notes.specs.Tellings as spec;
 
 use crate::calls::CallNote;
 use bit_words::Bytes;
-use c_lexer::Name;
 use c_says::{Shown, Told};
+use c_tokens::Name;
 use c_type_forms::{is_array, is_function};
 use c_type_terms::Class;
 use plain_data::Items;

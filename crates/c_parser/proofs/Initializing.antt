@@ -1,6 +1,6 @@
 -- Lists of designators, and the items of a braced list.
 use Rattle.std.proofs.Common.{◌≡◌, ℕ, suc, List, [], ◌∷◌, ◌++◌, Some, None, Bool, true, false, refl, ap, ◌∙◌}
-use Rattle.c_lexer.specs.declared.token.Punctuator.TheVariants as mark
+use Rattle.c_tokens.specs.declared.token.Punctuator.TheVariants as mark
 use Rattle.c_tree.specs.declared.unit.Designator.{Designator}
 use Rattle.c_tree.specs.declared.unit.InitializerItem.{InitializerItem}
 use Rattle.c_grammar.specs.Parts.{State}

@@ -1,6 +1,6 @@
 -- The reading of statements of several parts, in two steps.
 use Rattle.std.specs.Prelude.{Option, Some}
-use Rattle.c_lexer.specs.declared.token.Punctuator.TheVariants as mark
+use Rattle.c_tokens.specs.declared.token.Punctuator.TheVariants as mark
 use Rattle.c_tree.specs.declared.expr.Expr.{Expr}
 use Rattle.c_tree.specs.declared.unit.ForStart.{ForStart}
 use Rattle.c_tree.specs.declared.unit.Stmt.{Stmt}

@@ -1,6 +1,6 @@
 -- What a parse says of the tokens.
 use Rattle.std.specs.Prelude.{◌≡◌, List}
-use Rattle.c_lexer.specs.declared.token.Token.{Token}
+use Rattle.c_tokens.specs.declared.token.Token.{Token}
 use Rattle.c_tree.specs.declared.unit.External.{External}
 use Rattle.c_grammar.specs.Units.{derives}
 use Rattle.c_reading.specs.declared.fault.ParseFault.{ParseFault}

@@ -6,8 +6,8 @@ ghost use Rattle.c_reading.specs.Reads.{Reads};
 
 use crate::shared::expr;
 use c_exprs::Trees;
-use c_lexer::Punctuator;
 use c_reading::{Cursor, ParseFault, Source};
+use c_tokens::Punctuator;
 use c_tree::{Expr, Stmt};
 use plain_data::Shared;
 

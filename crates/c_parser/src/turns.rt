@@ -6,9 +6,9 @@ ghost use Rattle.c_reading.specs.Reads.{Reads};
 ghost use Rattle.c_parser.specs.Turns.{ReachesStatement};
 
 use c_exprs::Trees;
-use c_lexer::Token;
 use c_reading::{Cursor, ParseFault};
 use c_scope::FileNames;
+use c_tokens::Token;
 use c_tree::Stmt;
 use std::alloc::Global;
 

@@ -1,6 +1,6 @@
 -- Trees made by steps, a node behind its parts.
 use Rattle.std.specs.Prelude.{ℕ, ◌+◌, ◌^◌, pos, Bool, true, false, List, [], ◌∷◌, ◌++◌, Option, Some, None}
-use Rattle.c_lexer.specs.declared.token.IntegerType.TheVariants as integer_type
+use Rattle.c_tokens.specs.declared.token.IntegerType.TheVariants as integer_type
 use Rattle.c_tree.specs.declared.expr.Declarator.{Declarator}
 use Rattle.c_tree.specs.declared.expr.Declarator.TheVariants as declarator
 use Rattle.c_tree.specs.declared.expr.Expr.{Expr}

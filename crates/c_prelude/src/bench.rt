@@ -6,7 +6,7 @@ ghost use Rattle.c_prelude.specs.declared.step.Step.TheVariants as step;
 
 use crate::stack::Stack;
 use bit_words::Bytes;
-use c_lexer::{IntegerConstant, IntegerType, Name};
+use c_tokens::{IntegerConstant, IntegerType, Name};
 use c_tree::{
     BinaryOperator, Declaration, Declarator, Expr, ForStart, InitDeclarator, Initializer,
     Parameter, PostfixOperator, Qualifier, Specifier, Stmt, TypeName, TypeWord, UnaryOperator,

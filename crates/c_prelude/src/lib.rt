@@ -11,6 +11,3 @@ mod stack;
 mod step;
 
 pub use functions::prelude;
-
-#[cfg(test)]
-mod tests;

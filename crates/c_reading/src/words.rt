@@ -8,7 +8,7 @@ use crate::cursor::{Cursor, Source};
 use crate::fault::ParseFault;
 use bit_words::Bytes;
 use c_grammar::{array_word_of, qualifier_of};
-use c_lexer::TokenKind;
+use c_tokens::TokenKind;
 use c_tree::{ArrayWord, Qualifier};
 use plain_data::{Items, Shared};
 use std::alloc::{AllocError, Global};

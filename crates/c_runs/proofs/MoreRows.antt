@@ -3,7 +3,7 @@ use Rattle.std.proofs.Common.{◌≡◌, ℕ, pos, negsuc, List, [], ◌∷◌, 
 use Rattle.std.specs.Prelude.{nat_eq}
 use Rattle.bit_words.specs.declared.run.Finish.TheVariants as finish
 use Rattle.bit_words.specs.declared.run.Undefined.TheVariants as undefined
-use Rattle.c_lexer.specs.declared.token.IntegerType.TheVariants as integer_type
+use Rattle.c_tokens.specs.declared.token.IntegerType.TheVariants as integer_type
 use Rattle.c_tree.specs.declared.expr.TypeWord.TheVariants as w
 use Rattle.c_tree.specs.declared.expr.UnaryOperator.TheVariants as u
 use Rattle.c_type_terms.specs.Integers.{converted}

@@ -1,7 +1,7 @@
 -- Programs of the worked rows: each tree is written once, beside what it is worth.
 use Rattle.std.proofs.Common.{◌≡◌, ℕ, List, [], ◌∷◌, false, Option, Some, None, ap, ◌∙◌}
 use Rattle.std.specs.Prelude.{map, option_map}
-use Rattle.c_lexer.specs.declared.token.IntegerType.TheVariants as integer_type
+use Rattle.c_tokens.specs.declared.token.IntegerType.TheVariants as integer_type
 use Rattle.c_tree.specs.declared.expr.BinaryOperator.{BinaryOperator}
 use Rattle.c_tree.specs.declared.expr.PostfixOperator.TheVariants as postfix_
 use Rattle.c_tree.specs.declared.expr.StorageClass.TheVariants as class

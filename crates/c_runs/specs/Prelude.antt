@@ -1,7 +1,7 @@
 -- Functions of the C library that have a body (C99 7.21, 7.20.1.2), as trees: each stands behind its text. The trees
 -- are those of the nine lines as one file, and each offset is 2^31 more than there, so that it is none of a source.
 use Rattle.std.specs.Prelude.{ℕ, ◌+◌, ◌^◌, pos, false, List, [], ◌∷◌, ◌++◌, Option, Some, None}
-use Rattle.c_lexer.specs.declared.token.IntegerType.TheVariants as integer_type
+use Rattle.c_tokens.specs.declared.token.IntegerType.TheVariants as integer_type
 use Rattle.c_tree.specs.declared.expr.BinaryOperator.{BinaryOperator}
 use Rattle.c_tree.specs.declared.expr.BinaryOperator.TheVariants as o
 use Rattle.c_tree.specs.declared.expr.Declarator.{Declarator}

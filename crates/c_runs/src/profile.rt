@@ -1,7 +1,7 @@
 //! What is known of functions besides their source.
 
 use bit_words::Bytes;
-use c_lexer::Name;
+use c_tokens::Name;
 use plain_data::Items;
 
 /// Where a log function's format is.

@@ -1,7 +1,7 @@
 -- What each kind of tree says, in terms of what the trees in it say.
 use Rattle.std.proofs.Common.{◌≡◌, ℕ, ℤ, List, Option, Bool}
 use Rattle.std.specs.Prelude.{map, option_map}
-use Rattle.c_lexer.specs.declared.token.IntegerConstant.{IntegerConstant}
+use Rattle.c_tokens.specs.declared.token.IntegerConstant.{IntegerConstant}
 use Rattle.c_tree.specs.declared.expr.UnaryOperator.{UnaryOperator}
 use Rattle.c_tree.specs.declared.expr.PostfixOperator.{PostfixOperator}
 use Rattle.c_tree.specs.declared.expr.BinaryOperator.{BinaryOperator}

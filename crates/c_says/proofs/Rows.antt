@@ -20,7 +20,7 @@ use Rattle.std.proofs.Common.{
   refl,
   ap,
 }
-use Rattle.c_lexer.specs.declared.token.IntegerType.TheVariants as i
+use Rattle.c_tokens.specs.declared.token.IntegerType.TheVariants as i
 use Rattle.c_tree.specs.declared.expr.AggregateKind.TheVariants as kind
 use Rattle.c_tree.specs.declared.expr.BinaryOperator.TheVariants as o
 use Rattle.c_tree.specs.declared.expr.UnaryOperator.TheVariants as u

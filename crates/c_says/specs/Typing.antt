@@ -34,7 +34,7 @@ use Rattle.std.specs.Prelude.{
   slice_get,
 }
 use Rattle.bit_words.specs.declared.run.Undefined.{Undefined}
-use Rattle.c_lexer.specs.declared.token.IntegerConstant.{IntegerConstant}
+use Rattle.c_tokens.specs.declared.token.IntegerConstant.{IntegerConstant}
 use Rattle.c_tree.specs.declared.expr.BinaryOperator.{BinaryOperator}
 use Rattle.c_tree.specs.declared.expr.BinaryOperator.TheVariants as o
 use Rattle.c_tree.specs.declared.expr.UnaryOperator.{UnaryOperator}

@@ -1,6 +1,6 @@
 //! The names in force (C99 6.2.1 to 6.2.4), and the rules that a tree may break.
 
-use c_lexer::Name;
+use c_tokens::Name;
 use c_type_terms::CType;
 use plain_data::Shared;
 

@@ -10,6 +10,3 @@ mod names;
 
 pub use file::FileNames;
 pub use names::Names;
-
-#[cfg(test)]
-mod tests;

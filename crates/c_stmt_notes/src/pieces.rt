@@ -16,10 +16,10 @@ use c_checks::{
     least_fault, misplaced_if, return_value, switch_value,
 };
 use c_item_notes::{ItemNotes, Source, declaration_notes, heard, nothing_noted};
-use c_lexer::Name;
 use c_notes::NotedExpr;
 use c_runs::Breach;
 use c_says::Told;
+use c_tokens::Name;
 use c_tree::{Declaration, Expr, ForStart};
 use c_type_scope::Scope;
 use c_type_terms::CType;

@@ -1,7 +1,7 @@
 -- What a fold says of each kind of tree, in terms of what it says of the trees in it.
 use Rattle.std.proofs.Common.{◌≡◌, ℕ, ℤ, List, Option, Some, None, Bool, sym, ap, ◌∙◌}
 use Rattle.std.specs.Prelude.{map, option_map}
-use Rattle.c_lexer.specs.declared.token.IntegerConstant.{IntegerConstant}
+use Rattle.c_tokens.specs.declared.token.IntegerConstant.{IntegerConstant}
 use Rattle.c_tree.specs.declared.expr.UnaryOperator.{UnaryOperator}
 use Rattle.c_tree.specs.declared.expr.PostfixOperator.{PostfixOperator}
 use Rattle.c_tree.specs.declared.expr.BinaryOperator.{BinaryOperator}

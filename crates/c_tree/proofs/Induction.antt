@@ -2,7 +2,7 @@
 use Rattle.std.proofs.Common.{ℕ, List, [], ◌∷◌, Option, Some, None, Bool, sym, subst}
 use Rattle.std.specs.Prelude.{ℤ, map}
 use denote.Hole.Holds.{Such}
-use Rattle.c_lexer.specs.declared.token.IntegerConstant.{IntegerConstant}
+use Rattle.c_tokens.specs.declared.token.IntegerConstant.{IntegerConstant}
 use Rattle.c_tree.specs.declared.expr.UnaryOperator.{UnaryOperator}
 use Rattle.c_tree.specs.declared.expr.PostfixOperator.{PostfixOperator}
 use Rattle.c_tree.specs.declared.expr.BinaryOperator.{BinaryOperator}

@@ -8,9 +8,9 @@ use Rattle.std.specs.Map.{lookup}
 use Rattle.std.specs.Ordering.{nat_cmp, is_eq, match_ordering}
 use Rattle.std.specs.declared.cmp.Ordering.TheVariants.{Less, Equal, Greater}
 use Rattle.std.specs.BTreeMap.{is_at, insert_entry}
-use Rattle.c_lexer.specs.declared.token.Place.{Place}
-use Rattle.c_lexer.specs.declared.token.Token.{Token}
-use Rattle.c_lexer.specs.Standing.{StandInOrder}
+use Rattle.c_tokens.specs.declared.token.Place.{Place}
+use Rattle.c_tokens.specs.declared.token.Token.{Token}
+use Rattle.c_tokens.specs.Standing.{StandInOrder}
 use Rattle.c_tree.specs.PlaceTables.{places_of, place_at, nowhere, AreFound}
 
 abbrev Table : Type 0

@@ -4,8 +4,8 @@ use Rattle.std.specs.List.{All}
 use Rattle.std.specs.Map.{lookup}
 use Rattle.std.specs.Ordering.{nat_cmp}
 use Rattle.std.specs.BTreeMap.{is_at, insert_entry}
-use Rattle.c_lexer.specs.declared.token.Place.{Place}
-use Rattle.c_lexer.specs.declared.token.Token.{Token}
+use Rattle.c_tokens.specs.declared.token.Place.{Place}
+use Rattle.c_tokens.specs.declared.token.Token.{Token}
 
 -- places by byte offset, and the names of the files that they speak of
 pub record PlaceTable : Type 0 where

@@ -1,7 +1,7 @@
 //! Expressions (C99 6.5), and the types that stand in them (C99 6.7).
 
 use bit_words::Bytes;
-use c_lexer::{IntegerConstant, Name};
+use c_tokens::{IntegerConstant, Name};
 use plain_data::{Items, Shared};
 
 /// A unary operator (C99 6.5.3).

@@ -1,8 +1,8 @@
 ghost use Rattle.std.specs.Prelude.{◌≡◌, IfOk};
-ghost use Rattle.c_lexer.specs.Standing.{StandInOrder};
+ghost use Rattle.c_tokens.specs.Standing.{StandInOrder};
 ghost use Rattle.c_tree.specs.PlaceTables.{places_of, place_at, file_at, AreFound};
 
-use c_lexer::{Name, Place, Token, Tokens};
+use c_tokens::{Name, Place, Token, Tokens};
 use plain_data::Items;
 use std::alloc::{AllocError, Global};
 use std::collections::BTreeMap;

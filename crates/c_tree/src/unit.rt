@@ -6,7 +6,7 @@ ghost use Rattle.c_tree.specs.PlaceTables.{place_at, file_at};
 use crate::expr::{Declarator, Expr, Specifier};
 use crate::places::Places;
 use bit_words::Bytes;
-use c_lexer::{Name, Place};
+use c_tokens::{Name, Place};
 use plain_data::{Items, Shared};
 use std::alloc::AllocError;
 

@@ -8,8 +8,8 @@ ghost use Rattle.c_says.specs.Typing as spec;
 use crate::operators::addition;
 use crate::turning::indirection;
 use crate::values::{INCOMPLETE, an_object};
-use c_lexer::Name;
 use c_says::{Rule, Shown};
+use c_tokens::Name;
 use c_type_terms::{Content, Member, OpaqueCause, Qualifiers, Tables};
 use std::alloc::{AllocError, Global};
 

@@ -8,6 +8,3 @@ mod tables;
 
 pub use names::{HasName, Named};
 pub use scope::{Block, Scope};
-
-#[cfg(test)]
-mod tests;

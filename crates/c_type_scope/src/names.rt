@@ -5,8 +5,8 @@ ghost use Rattle.std.specs.Option.{option_copied};
 ghost use Rattle.std.specs.Str.{bytes_eq};
 ghost use Rattle.c_says.specs.Scopes.{last_where};
 
-use c_lexer::Name;
 use c_says::{Entry, Linked, Tag};
+use c_tokens::Name;
 use plain_data::Shared;
 use std::alloc::{AllocError, Global};
 use std::collections::HashMap;

@@ -6,8 +6,8 @@ ghost use Rattle.c_says.specs.Scopes as spec;
 
 use crate::copies::copied_tables;
 use crate::names::Named;
-use c_lexer::Name;
 use c_says::{Entry, Linked, Tag};
+use c_tokens::Name;
 use c_type_terms::Tables;
 use plain_data::{Items, Shared};
 use std::alloc::{AllocError, Global};

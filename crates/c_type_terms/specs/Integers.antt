@@ -4,8 +4,8 @@ use Rattle.std.specs.Prelude.{ℕ, zero, suc, ◌-◌, ◌^◌, ℤ, pos, negsuc
 use Rattle.bit_words.specs.declared.width.Width.{Width}
 use Rattle.bit_words.specs.declared.width.Width.TheVariants as w
 use Rattle.bit_words.specs.Words.{bits, word, signed}
-use Rattle.c_lexer.specs.declared.token.IntegerType.{IntegerType}
-use Rattle.c_lexer.specs.declared.token.IntegerType.TheVariants as t
+use Rattle.c_tokens.specs.declared.token.IntegerType.{IntegerType}
+use Rattle.c_tokens.specs.declared.token.IntegerType.TheVariants as t
 use Rattle.c_type_terms.specs.declared.ctype.IntegerKind.{IntegerKind}
 use Rattle.c_type_terms.specs.declared.ctype.IntegerKind.TheVariants as k
 

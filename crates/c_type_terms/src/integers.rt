@@ -5,7 +5,7 @@ ghost use Rattle.c_type_terms.specs.Integers as spec;
 
 use crate::ctype::IntegerKind;
 use bit_words::{Width, to_signed, wrap};
-use c_lexer::IntegerType;
+use c_tokens::IntegerType;
 
 impl IntegerKind {
     /// The width of an object of the type (C99 6.2.6.2).

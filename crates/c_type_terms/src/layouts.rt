@@ -7,7 +7,7 @@ ghost use Rattle.c_type_terms.specs.Layouts as spec;
 
 use crate::ctype::{Base, CType, Derivation, Domain, FloatingKind, IntegerKind, RealKind};
 use crate::tables::{AggregateForm, Content, Layout, Member, Tables};
-use c_lexer::Name;
+use c_tokens::Name;
 use plain_data::Items;
 use std::alloc::{AllocError, Global};
 

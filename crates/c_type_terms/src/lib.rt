@@ -16,6 +16,3 @@ pub use tables::{
     Aggregate, AggregateForm, Content, Enumeration, Layout, Member, OpaqueCause, Prototype,
     Signature, Tables,
 };
-
-#[cfg(test)]
-mod tests;

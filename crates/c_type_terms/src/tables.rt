@@ -1,7 +1,7 @@
 //! What a scope knows of the types that numbers name.
 
 use crate::ctype::CType;
-use c_lexer::Name;
+use c_tokens::Name;
 use plain_data::Items;
 
 /// How the members of a type lie (C99 6.2.5p20): one behind another, or all at the beginning.

@@ -12,6 +12,7 @@ use Rattle.cdcl.specs.declared.assigned.Assigned.{Assigned}
 use Rattle.cdcl.specs.declared.assigned.Reading.{Reading}
 use Rattle.cdcl.specs.declared.assigned.Reading.TheVariants.{Satisfied, Falsified, Implied, Undecided}
 use Rattle.cdcl.specs.declared.search.Search.{Search}
+use Rattle.cdcl.specs.declared.choosing.Choice.{Choice}
 use Rattle.cdcl.specs.declared.watching.Watches.{Watches}
 use Rattle.cdcl.specs.Sources.{named}
 use Rattle.cdcl.specs.Known.{known, Member, IsOpen, Reads}
@@ -44,7 +45,7 @@ clash entries l i j d at opposite =
     apart l one
 
 -- the conflict's clause has a literal of the top level
-pub has-top : (s : Search) (id : ClauseId) → IsReady s → AreSettled s → 1 ≤ s.trail.level → IsConflict 1 s.clauses s.trail.entries.items id → HasTop s.clauses s.trail id
+pub has-top : (s : Search) (id : ClauseId) → IsReady s → AreSettled s → 2 ≤ s.trail.level → IsConflict 1 s.clauses s.trail.entries.items id → HasTop s.clauses s.trail id
 has-top s id ready settled one (c, is, falsified) =
     let entries = s.trail.entries.items in
     let d = ready.begun one in
@@ -62,6 +63,10 @@ has-top s id ready settled one (c, is, falsified) =
                 record { clause = c; is = is; literal = t.one; member = t.one_in; at = record { place = f.0; entry = r.0; from = omega arith; at = r.1; negates = r.2; of_level = omega arith } }
           ]
     ]
+
+-- the choice alone is another one
+pub ready-chosen : (s : Search) (choice : Choice) → IsReady s → IsReady (record { clauses = s.clauses; trail = s.trail; choice = choice; watches = s.watches; followed = s.followed })
+ready-chosen s choice r = record { learnt = r.learnt; trail = r.trail; fits = r.fits; learnt_fit = r.learnt_fit; assumed_fit = r.assumed_fit; holds = r.holds; begun = r.begun }
 
 -- the literals of a clause learnt are false
 member-false : (entries : List Entry) (top level : ℕ) (clause : List Literal) (l : Literal) → IsJump entries top clause level → Member l clause → FalseBelow entries top l
@@ -97,7 +102,7 @@ member-before s level clause l j p d h at top m = go (let P : List Literal → T
     ]
 
 -- no clause is within the one learnt
-pub contains-none : (s : Search) (clause : List Literal) (level : ℕ) → IsReady s → AreSettled s → 1 ≤ s.trail.level → IsJump s.trail.entries.items s.trail.level clause level → ContainsNone s.clauses clause
+pub contains-none : (s : Search) (clause : List Literal) (level : ℕ) → IsReady s → AreSettled s → 2 ≤ s.trail.level → IsJump s.trail.entries.items s.trail.level clause level → ContainsNone s.clauses clause
 contains-none s clause level ready settled one j id c is within =
     let entries = s.trail.entries.items in
     let d = ready.begun one in
@@ -125,7 +130,7 @@ jump-fits entries top level room clause r j l m =
 
 pub jump-level : (entries : List Entry) (top level : ℕ) (clause : List Literal) → IsJump entries top clause level → IsLevel level entries
 jump-level entries top level clause j = elim j.below [
-  | inl (none, z) ↦ inl z
+  | inl (none, z) ↦ inl (omega arith)
   | inr s ↦ let f = s.at in inr (f.place, f.entry, f.at, f.of_level)
 ]
 
@@ -136,7 +141,7 @@ jump-below entries top level clause one j = elim j.below [
 ]
 
 -- where entries were taken back, the first literal is open and the others are false
-pub asserting : (a : Search) (t : Assigned) (clauses : Clauses) (clause : List Literal) (level : ℕ) → IsReady a → IsTrailOf clauses t → 1 ≤ a.trail.level → IsJump a.trail.entries.items a.trail.level clause level → IsCut level a.trail.entries.items t.entries.items → t.level ≡ level → IsAsserting t clause
+pub asserting : (a : Search) (t : Assigned) (clauses : Clauses) (clause : List Literal) (level : ℕ) → IsReady a → IsTrailOf clauses t → 2 ≤ a.trail.level → IsJump a.trail.entries.items a.trail.level clause level → IsCut level a.trail.entries.items t.entries.items → t.level ≡ level → IsAsserting t clause
 asserting a t clauses clause level ready trail one j cut at = record {
   first = j.first;
   rest = j.rest;
@@ -158,7 +163,7 @@ asserting a t clauses clause level ready trail one j cut at = record {
 }
   where
     less : level < a.trail.level
-    less = jump-below a.trail.entries.items a.trail.level level clause one j
+    less = jump-below a.trail.entries.items a.trail.level level clause (omega arith) j
 
     fresh : known t.taken.items j.first ≡ true → ⊥
     fresh k =
@@ -184,7 +189,7 @@ abbrev pub with_clauses : Search → Clauses → Search
 with_clauses s c = record { clauses = c; trail = s.trail; choice = s.choice; watches = s.watches; followed = s.followed }
 
 -- the state in which the clause learnt is known, and waits nowhere yet
-pub guards-but : (a b d : Search) (clause : List Literal) (level : ℕ) → IsReady a → IsReady b → 1 ≤ a.trail.level → IsJump a.trail.entries.items a.trail.level clause level → IsCut level a.trail.entries.items b.trail.entries.items → b.trail.level ≡ level → b.followed ≡ length b.trail.entries.items
+pub guards-but : (a b d : Search) (clause : List Literal) (level : ℕ) → IsReady a → IsReady b → 2 ≤ a.trail.level → IsJump a.trail.entries.items a.trail.level clause level → IsCut level a.trail.entries.items b.trail.entries.items → b.trail.level ≡ level → b.followed ≡ length b.trail.entries.items
     → Guards (length b.clauses.given) b.followed b → d ≡ with_clauses b d.clauses → ((from : ℕ) (id : ClauseId) (c : List Literal) → named from b.clauses id ≡ Some c → named from d.clauses id ≡ Some c) → OneMore b.clauses d.clauses clause → length d.clauses.learnt ≡ length b.clauses.learnt + 1 → d.clauses.given ≡ b.clauses.given → GuardsBut d clause
 guards-but a b d clause level ready now one j cut at whole g rest names more count given =
     let P : Search → Type 0 = λ t. GuardsBut t clause in

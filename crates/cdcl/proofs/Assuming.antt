@@ -1,12 +1,11 @@
 -- Assumptions, rooms and the assignment that a search ends in.
 use Rattle.std.proofs.Common.{◌≡◌, ◌<◌, ◌≤◌, ◌+◌, ◌*◌, ◌++◌, ◌∷◌, [], ℕ, zero, suc, List, Some, Bool, true, false, refl, sym, ap, ◌∙◌, inl, inr, subst, arith, length, vec_len, get_or, take, take_all}
-use Rattle.std.specs.List.{slice_get, flat_map, list_any}
+use Rattle.std.specs.List.{slice_get, list_any}
 use Rattle.std.specs.Option.{option_map}
 use Rattle.std.proofs.lemmas.Bool.{cases_eq, both_ways, false_from_ne_true, and_from, or_left, or_right}
 use Rattle.std.proofs.lemmas.List.{take_more}
 use Rattle.std.proofs.lemmas.List.Folds.{list_all-append}
 use Rattle.std.proofs.lemmas.Option.{slice_get_within, slice_get-get_or}
-use Rattle.proof_check.proofs.ClauseLemmas.{slice_get-left, slice_get-right}
 use Rattle.cnf_core.specs.Literal.{Literal, negated}
 use Rattle.cnf_core.specs.Truth.{Valuation, value_of, literal_holds, clause_holds, formula_holds}
 use Rattle.cdcl.specs.declared.clauses.ClauseId.{ClauseId}
@@ -16,29 +15,29 @@ use Rattle.cdcl.specs.declared.assigned.Entry.{Entry}
 use Rattle.cdcl.specs.declared.assigned.Assigned.{Assigned}
 use Rattle.cdcl.specs.Sources.{named}
 use Rattle.cdcl.specs.Known.{known, Member, HasTrue}
-use Rattle.cdcl.specs.Fits.{Fits, AllFit}
+use Rattle.cdcl.specs.Fits.{Fits}
 use Rattle.cdcl.specs.Tidy.{units}
-use Rattle.cdcl.specs.Trails.{literal_at, PlacedBelow, IsConflict, Implies, ArePlaced, AreDistinct, HasRoom, HaveLevels}
+use Rattle.cdcl.specs.Trails.{literal_at, PlacedBelow, IsConflict, IsSource, Implies, ArePlaced, AreDistinct, HasRoom, HaveLevels}
 use Rattle.cdcl.specs.Searches.{AreHeld}
 use Rattle.cdcl.proofs.Readings.{slice-cases, slice-last}
 
 -- assumptions
 abbrev pub Stands : Literal → List Entry → Type 0
-Stands a entries = (i : ℕ) × (e : Entry) × (slice_get entries i ≡ Some e) × (e.literal ≡ a) × (e.level ≡ 0)
+Stands a entries = (i : ℕ) × (e : Entry) × (slice_get entries i ≡ Some e) × (e.literal ≡ a) × (e.level ≤ 1)
 
 entry-of : (entries : List Entry) (i : ℕ) (l : Literal) → literal_at entries i ≡ Some l → (e : Entry) × (slice_get entries i ≡ Some e) × (e.literal ≡ l)
 entry-of [] i l at = absurd (cc)
 entry-of (x ∷ xs) zero l at = (x, refl, cc)
 entry-of (x ∷ xs) (suc i) l at = entry-of xs i l at
 
-pub known-stands : (entries : List Entry) (taken : List Bool) (level : ℕ) (a : Literal) → ArePlaced entries taken → HaveLevels level entries → level ≡ 0 → known taken a ≡ true → Stands a entries
-known-stands entries taken level a p h zero_level k =
+pub known-stands : (entries : List Entry) (taken : List Bool) (level : ℕ) (a : Literal) → ArePlaced entries taken → HaveLevels level entries → level ≤ 1 → known taken a ≡ true → Stands a entries
+known-stands entries taken level a p h root k =
     let b = p.placed a k in
     let r = entry-of entries b.0 a b.2 in
     let w = h.within b.0 r.0 r.1 in
     (b.0, r.0, r.1, r.2, omega arith)
 
-pub last-stands : (entries next : List Entry) (e : Entry) → next ≡ entries ++ e ∷ [] → e.level ≡ 0 → Stands e.literal next
+pub last-stands : (entries next : List Entry) (e : Entry) → next ≡ entries ++ e ∷ [] → e.level ≤ 1 → Stands e.literal next
 last-stands entries next e n z = rw n (length entries, e, slice-last entries e, refl, z)
 
 pub held-next : (n : ℕ) (assumed : List Literal) (entries : List Entry) (a : Literal) → AreHeld n assumed entries → slice_get assumed n ≡ Some a → Stands a entries → AreHeld (n + 1) assumed entries
@@ -74,13 +73,15 @@ fits-whole room clause i h f = rw (take_all i clause h) at f
 pub fits-wider : (room next : ℕ) (clause : List Literal) → room ≤ next → Fits room clause → Fits next clause
 fits-wider room next clause h f l m = let w = f l m in omega arith
 
-pub fits-all : (room : ℕ) (clauses : List (List Literal)) → Fits room (flat_map (λ c. c) clauses) → AllFit room clauses
-fits-all room [] f i c at = absurd (cc)
-fits-all room (x ∷ xs) f zero c at = λ l m.
-    let s : x ≡ c = cc in
-    let n : slice_get x m.0 ≡ Some l = ap (λ t. slice_get t m.0) s ∙ m.1 in
-    f l (m.0, slice_get-left x (flat_map (λ c. c) xs) m.0 (slice_get_within x m.0 l n) ∙ n)
-fits-all room (x ∷ xs) f (suc i) c at = fits-all room xs (λ l m. f l (length x + m.0, slice_get-right x (flat_map (λ c. c) xs) (length x + m.0) m.0 refl ∙ m.1)) i c at
+-- one clause more has room
+pub room-more : (clauses : List (List Literal)) (start index room next : ℕ) (clause : List Literal) → slice_get clauses index ≡ Some clause → room ≤ next → Fits next clause → ((i : ℕ) (c : List Literal) → start ≤ i → i < index → slice_get clauses i ≡ Some c → Fits room c) → (i : ℕ) (c : List Literal) → start ≤ i → i < index + 1 → slice_get clauses i ≡ Some c → Fits next c
+room-more clauses start index room next clause is le now before i c from less at = elim (cases_eq i index) [
+  | inl e ↦
+      let here : slice_get clauses index ≡ Some c = ap (λ k. slice_get clauses k) (sym e) ∙ at in
+      let one : clause ≡ c = cc in
+      let P : List Literal → Type 0 = λ t. Fits next t in subst P one now
+  | inr ne ↦ fits-wider room next c le (before i c from (omega arith) at)
+]
 
 -- the assignment
 pub values-more : (values next taken : List Bool) (size i : ℕ) (b : Bool) → size ≡ i → size ≡ length values → next ≡ values ++ b ∷ [] → b ≡ get_or taken (2 * i) false → ((v : ℕ) → v < i → get_or values v false ≡ get_or taken (2 * v) false) → (v : ℕ) → v < i + 1 → get_or next v false ≡ get_or taken (2 * v) false
@@ -154,12 +155,12 @@ satisfied t values given assumed w true_all held =
 pub literal-read : (xs ys : List Literal) (i : ℕ) (a : Literal) → ys ≡ xs → i < length xs → a ≡ get_or ys i a → slice_get xs i ≡ Some a
 literal-read xs ys i a e h at = slice_get-get_or xs i a h ∙ ap (λ t. Some t) (sym (at ∙ ap (λ t. get_or t i a) e))
 
-pub assumed-reason : (clauses : Clauses) (entries : List Entry) (i level : ℕ) (a : Literal) → slice_get clauses.assumed i ≡ Some a → level ≡ 0 → (id : ClauseId) → Some (Assumed i) ≡ Some id → (c : List Literal) × (named level clauses id ≡ Some c) × Implies entries (length entries) a c
-assumed-reason clauses entries i level a at z id same =
+pub assumed-reason : (clauses : Clauses) (entries : List Entry) (i level : ℕ) (a : Literal) → slice_get clauses.assumed i ≡ Some a → level ≡ 1 → (id : ClauseId) → Some (Assumed i) ≡ Some id → (c : List Literal) × IsSource level clauses id c × Implies entries (length entries) a c
+assumed-reason clauses entries i level a at first id same =
     let e : Assumed i ≡ id = cc in
     let named_at : named 0 clauses (Assumed i) ≡ Some (a ∷ []) = ap (λ o. option_map (λ l. l ∷ []) o) at in
     let named_id : named 0 clauses id ≡ Some (a ∷ []) = ap (λ t. named 0 clauses t) (sym e) ∙ named_at in
-    (a ∷ [], ap (λ n. named n clauses id) z ∙ named_id, record { has = (0, refl); others = λ l m. inl (only l m.0 m.1) })
+    (a ∷ [], (named_id, inl first), record { has = (0, refl); others = λ l m. inl (only l m.0 m.1) })
   where
     only : (l : Literal) (j : ℕ) → slice_get (a ∷ []) j ≡ Some l → l ≡ a
     only l zero e = let s : a ≡ l = cc in sym s

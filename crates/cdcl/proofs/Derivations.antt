@@ -197,7 +197,7 @@ conflict-read from clauses entries id read (c, is, f) found =
 pub reason-read : (from : ℕ) (clauses : Clauses) (entries : List Entry) (i : ℕ) (e : Entry) (id : ClauseId) (read : List Literal) → HaveReasons clauses entries → slice_get entries i ≡ Some e → e.reason ≡ Some id → IsCiteable from clauses id → named 0 clauses id ≡ Some read → (named from clauses id ≡ Some read) × Implies entries i e.literal read
 reason-read from clauses entries i e id read reasons at why may found =
     let t = reasons i e id at why in
-    let wide : named 0 clauses id ≡ Some t.0 = named-lower e.level 0 clauses id t.0 (omega arith) t.1 in
+    let wide : named 0 clauses id ≡ Some t.0 = t.1.0 in
     let same_one : t.0 ≡ read = cc in
     let P : List Literal → Type 0 = λ u. Implies entries i e.literal u in (
       elim may [

@@ -1,5 +1,5 @@
 -- What watches guard, as entries come and are followed.
-use Rattle.std.proofs.Common.{◌≡◌, ◌<◌, ◌≤◌, ◌⊎◌, ◌+◌, ◌*◌, ◌++◌, ◌∷◌, [], ℕ, zero, suc, List, Some, None, Bool, true, false, not, refl, sym, ap, ◌∙◌, inl, inr, subst, arith, length, vec_len, get_or, min}
+use Rattle.std.proofs.Common.{◌≡◌, ◌<◌, ◌≤◌, ◌⊎◌, ◌+◌, ◌++◌, ◌∷◌, [], ℕ, zero, suc, List, Some, None, Bool, true, false, not, refl, sym, ap, ◌∙◌, inl, inr, subst, arith, length, vec_len, get_or, min}
 use Rattle.std.specs.List.{slice_get}
 use Rattle.std.specs.Option.{option_map}
 use Rattle.std.proofs.lemmas.Bool.{cases_eq, cases_Bool, both_ways}
@@ -12,8 +12,6 @@ use Rattle.cdcl.specs.declared.assigned.Entry.{Entry}
 use Rattle.cdcl.specs.declared.assigned.Assigned.{Assigned}
 use Rattle.cdcl.specs.declared.search.Search.{Search}
 use Rattle.cdcl.specs.declared.watching.Watches.{Watches}
-use Rattle.cdcl.specs.declared.watching.Watch.{Watch}
-use Rattle.proof_check.specs.Steps.{Step, clause_of}
 use Rattle.cdcl.specs.Sources.{named}
 use Rattle.cdcl.specs.Known.{known, Member, IsOpen, Reads}
 use Rattle.cdcl.specs.declared.choosing.Choice.{Choice}
@@ -190,24 +188,25 @@ watches-more clauses id p q v w c more is p_in q_in all k j x at = elim (more.fr
       ]
 ]
 
-pub entered-true : (i : ℕ) (s : Search) → ((c : List Literal) → named 1 s.clauses (Given i) ≡ Some c → HasTrueAt 0 s.trail.entries.items c) → Guards i 0 s → Guards (i + 1) 0 s
-entered-true i s now g = record {
+pub entered-true : (i n : ℕ) (s : Search) → ((c : List Literal) → named 1 s.clauses (Given i) ≡ Some c → HasTrueAt 0 s.trail.entries.items c) → Guards i n s → Guards (i + 1) n s
+entered-true i n s now g = record {
   sound = g.sound;
   ahead = g.ahead;
   guarded = go;
   settled = g.settled;
 }
   where
-    go : AreGuarded (AtRest 0 s.trail.entries.items s.watches) (i + 1) s
+    go : AreGuarded (AtRest n s.trail.entries.items s.watches) (i + 1) s
     go (Given k) c en is = elim (cases_eq k i) [
       | inl e ↦ inl (now c (ap (λ t. named 1 s.clauses (Given t)) (sym e) ∙ is))
-      | inr n ↦ g.guarded (Given k) c (omega arith) is
+      | inr ne ↦ g.guarded (Given k) c (omega arith) is
     ]
     go (Assumed k) c en is = absurd (cc)
     go (Learnt k) c en is = g.guarded (Learnt k) c tt is
 
-pub entered-waits : (i : ℕ) (s : Search) (p q : Literal) (w : Watches) (c : List Literal) → named 1 s.clauses (Given i) ≡ Some c → Member p c → Member q c → (p ≡ q → ⊥) → IsWaiting (Given i) p q s.watches w → Guards i 0 s → Guards (i + 1) 0 (record { clauses = s.clauses; trail = s.trail; choice = s.choice; watches = w; followed = s.followed })
-entered-waits i s p q w c is p_in q_in apart more g = record {
+pub entered-waits : (i n : ℕ) (s : Search) (p q : Literal) (w : Watches) (c : List Literal) → named 1 s.clauses (Given i) ≡ Some c → Member p c → Member q c → (p ≡ q → ⊥) → (PlacedBelow (length s.trail.entries.items) s.trail.entries.items (negated p) → ⊥) → (PlacedBelow (length s.trail.entries.items) s.trail.entries.items (negated q) → ⊥)
+    → IsWaiting (Given i) p q s.watches w → Guards i n s → Guards (i + 1) n (record { clauses = s.clauses; trail = s.trail; choice = s.choice; watches = w; followed = s.followed })
+entered-waits i n s p q w c is p_in q_in apart p_left q_left more g = record {
   sound = record {
     lists = more.sizes.lists ∙ g.sound.lists;
     given = more.sizes.given ∙ g.sound.given;
@@ -222,31 +221,31 @@ entered-waits i s p q w c is p_in q_in apart more g = record {
     entries : List Entry
     entries = s.trail.entries.items
 
-    still : (other : ClauseId) (t : List Literal) → (other ≡ Given i → ⊥) → IsEntered i other → named 1 s.clauses other ≡ Some t → HasTrueAt 0 entries t ⊎ Waits (AtRest 0 entries w other t) w other t
+    still : (other : ClauseId) (t : List Literal) → (other ≡ Given i → ⊥) → IsEntered i other → named 1 s.clauses other ≡ Some t → HasTrueAt 0 entries t ⊎ Waits (AtRest n entries w other t) w other t
     still other t ne en at = elim (g.guarded other t en at) [
       | inl h ↦ inl h
-      | inr h ↦ inr (waits-more 0 entries (Given i) other p q s.watches w t more ne h)
+      | inr h ↦ inr (waits-more n entries (Given i) other p q s.watches w t more ne h)
     ]
 
-    new : (t : List Literal) → c ≡ t → Waits (AtRest 0 entries w (Given i) t) w (Given i) t
-    new t e = let P : List Literal → Type 0 = λ k. Waits (AtRest 0 entries w (Given i) k) w (Given i) k in subst P e (record {
+    new : (t : List Literal) → c ≡ t → Waits (AtRest n entries w (Given i) t) w (Given i) t
+    new t e = let P : List Literal → Type 0 = λ k. Waits (AtRest n entries w (Given i) k) w (Given i) k in subst P e (record {
       pair = record { first = p; second = q };
       is = more.pair;
       first_in = p_in;
       second_in = q_in;
       apart = apart;
-      first = (more.first_in, λ k x at l less. absurd (omega arith));
-      second = (more.second_in, λ k x at l less. absurd (omega arith));
+      first = (more.first_in, heeded-left n entries c p p_left);
+      second = (more.second_in, heeded-left n entries c q q_left);
     })
 
-    go : (id : ClauseId) (t : List Literal) → IsEntered (i + 1) id → named 1 s.clauses id ≡ Some t → HasTrueAt 0 entries t ⊎ Waits (AtRest 0 entries w id t) w id t
+    go : (id : ClauseId) (t : List Literal) → IsEntered (i + 1) id → named 1 s.clauses id ≡ Some t → HasTrueAt 0 entries t ⊎ Waits (AtRest n entries w id t) w id t
     go (Given k) t en at = elim (cases_eq k i) [
       | inl e ↦
           let here : named 1 s.clauses (Given i) ≡ Some t = ap (λ m. named 1 s.clauses (Given m)) (sym e) ∙ at in
           let one : c ≡ t = cc in
-          let P : ℕ → Type 0 = λ m. HasTrueAt 0 entries t ⊎ Waits (AtRest 0 entries w (Given m) t) w (Given m) t in
+          let P : ℕ → Type 0 = λ m. HasTrueAt 0 entries t ⊎ Waits (AtRest n entries w (Given m) t) w (Given m) t in
           subst P (sym e) (inr (new t one))
-      | inr n ↦ still (Given k) t (λ e. n (ap index-of e)) (omega arith) at
+      | inr ne ↦ still (Given k) t (λ e. ne (ap index-of e)) (omega arith) at
     ]
     go (Assumed k) t en at = absurd (cc)
     go (Learnt k) t en at = still (Learnt k) t (λ e. cc) tt at
@@ -290,20 +289,27 @@ said-implied old new c l r is says = let P : Reading → Type 0 = λ t. Says old
 pub code-fits : (s : Search) (id : ClauseId) (c : List Literal) (l : Literal) → IsReady s → AreSound s → named 1 s.clauses id ≡ Some c → Member l c → code_of l < vec_len s.watches.lists
 code-fits s id c l r sound is m = code-within l (vec_len s.trail.levels) (vec_len s.watches.lists) (named-fits (vec_len s.trail.levels) s.clauses id c r.fits r.learnt_fit is l m) sound.lists
 
+goes-guards : (entered : ℕ) (a b : Search) → Goes a b → b.watches ≡ a.watches → Guards entered a.followed a → Guards entered b.followed b
+goes-guards entered a b g w guards = let P : ℕ → Type 0 = λ n. Guards entered n b in subst P (sym g.followed) (guards-goes entered a.followed a b g w guards)
+
+-- a search goes on at the same level
+pub guards-on : (a b : Search) → Goes a b → b.watches ≡ a.watches → Guards (length a.clauses.given) a.followed a → Guards (length b.clauses.given) b.followed b
+guards-on a b g w guards = let P : ℕ → Type 0 = λ n. Guards n b.followed b in subst P (ap (λ t. length t.given) (sym g.same)) (goes-guards (length a.clauses.given) a b g w guards)
+
 -- a clause given is true at level 0, or waits at two literals
-pub enters-true : (i : ℕ) (a b : Search) (l : Literal) → IsReady b → Goes a b → b.watches ≡ a.watches → a.trail.level ≡ 0 → ((t : List Literal) → named 1 a.clauses (Given i) ≡ Some t → Member l t × (known b.trail.taken.items l ≡ true)) → Guards i 0 a → Guards (i + 1) 0 b
+pub enters-true : (i : ℕ) (a b : Search) (l : Literal) → IsReady b → Goes a b → b.watches ≡ a.watches → a.trail.level ≡ 0 → ((t : List Literal) → named 1 a.clauses (Given i) ≡ Some t → Member l t × (known b.trail.taken.items l ≡ true)) → Guards i a.followed a → Guards (i + 1) b.followed b
 enters-true i a b l ready g w root says guards =
-    entered-true i b
+    entered-true i b.followed b
     (λ t is.
     let m = says t (ap (λ k. named 1 k (Given i)) (sym g.same) ∙ is) in
     let h = true-now b.trail.entries.items b.trail.level t ready.trail.have_levels (true-placed b.trail t l ready.trail.are_placed m.0 m.1) in
     let zero_level : b.trail.level ≡ 0 = g.level ∙ root in
-    let P : ℕ → Type 0 = λ n. HasTrueAt n b.trail.entries.items t in subst P zero_level h)
-    (guards-goes i 0 a b g w guards)
+    let P : ℕ → Type 0 = λ m. HasTrueAt m b.trail.entries.items t in subst P zero_level h)
+    (goes-guards i a b g w guards)
 
-pub enters-waits : (i : ℕ) (a b : Search) (p q : Literal) (v : Watches) (t : List Literal) → named 1 a.clauses (Given i) ≡ Some t → Goes a b → b.watches ≡ a.watches → Reads (known b.trail.taken.items) t (Undecided p q) → IsWaiting (Given i) p q b.watches v → Guards i 0 a → Guards (i + 1) 0 (record { clauses = b.clauses; trail = b.trail; choice = b.choice; watches = v; followed = b.followed })
-enters-waits i a b p q v t is g w (p_in, p_open, q_in, q_open, apart) more guards =
-    entered-waits i b p q v t (ap (λ k. named 1 k (Given i)) g.same ∙ is) p_in q_in apart more (guards-goes i 0 a b g w guards)
+pub enters-waits : (i : ℕ) (a b : Search) (p q : Literal) (v : Watches) (t : List Literal) → IsReady b → named 1 a.clauses (Given i) ≡ Some t → Goes a b → b.watches ≡ a.watches → Reads (known b.trail.taken.items) t (Undecided p q) → IsWaiting (Given i) p q b.watches v → Guards i a.followed a → Guards (i + 1) b.followed (record { clauses = b.clauses; trail = b.trail; choice = b.choice; watches = v; followed = b.followed })
+enters-waits i a b p q v t ready is g w (p_in, p_open, q_in, q_open, apart) more guards =
+    entered-waits i b.followed b p q v t (ap (λ k. named 1 k (Given i)) g.same ∙ is) p_in q_in apart (open-left b.trail p ready.trail.are_placed p_open) (open-left b.trail q ready.trail.are_placed q_open) more (goes-guards i a b g w guards)
 
 pub guards-followed : (entered n : ℕ) (s : Search) → Guards entered n s → Guards entered n (record { clauses = s.clauses; trail = s.trail; choice = s.choice; watches = s.watches; followed = n })
 guards-followed entered n s g = record {
@@ -414,9 +420,9 @@ guards-chosen entered n a choice g = record {
 }
 
 -- entries were taken back
-pub guards-cut : (level : ℕ) (a b : Search) → IsReady a → IsCut level a.trail.entries.items b.trail.entries.items → b.trail.level ≡ level → b.clauses ≡ a.clauses → b.watches ≡ a.watches → vec_len b.trail.levels ≡ vec_len a.trail.levels
+pub guards-cut : (level : ℕ) (a b : Search) → IsCut level a.trail.entries.items b.trail.entries.items → b.trail.level ≡ level → b.clauses ≡ a.clauses → b.watches ≡ a.watches → vec_len b.trail.levels ≡ vec_len a.trail.levels
     → level ≤ a.trail.level → b.followed ≡ min a.followed (length b.trail.entries.items) → Guards (length a.clauses.given) a.followed a → Guards (length b.clauses.given) b.followed b
-guards-cut level a b ready cut at clauses watches room within-level followed g = record {
+guards-cut level a b cut at clauses watches room within-level followed g = record {
   sound = record {
     lists = let l : vec_len b.watches.lists ≡ vec_len a.watches.lists = ap (λ t. vec_len t.lists) watches in omega (arith, g.sound.lists);
     given = ap (λ t. vec_len t.given) watches ∙ g.sound.given ∙ ap (λ t. length t.given) (sym clauses);
@@ -480,13 +486,7 @@ guards-cut level a b ready cut at clauses watches room within-level followed g =
       })
     ]
 
-pub level-within : (level : ℕ) (s : Search) → IsReady s → IsLevel level s.trail.entries.items → level ≤ s.trail.level
-level-within level s ready is = elim is [
-  | inl z ↦ omega arith
-  | inr (i, e, at, l) ↦ let h = ready.trail.have_levels.within i e at in omega arith
-]
-
-pub begun-cut : (level top : ℕ) (old new : List Entry) → HaveLevels top old → IsLevel level old → IsCut level old new → 1 ≤ level → HasDecision level new
+pub begun-cut : (level top : ℕ) (old new : List Entry) → HaveLevels top old → IsLevel level old → IsCut level old new → 2 ≤ level → HasDecision level new
 begun-cut level top old new h is cut one = elim is [
   | inl z ↦ absurd (omega arith)
   | inr (i, e, at, l) ↦
@@ -509,26 +509,3 @@ cut-whole level a new n ahead cut less is = elim (le-cases (length new) a.follow
   where
     none : Entry
     none = record { literal = record { variable = 0; positive = true }; reason = None; level = 0 }
-
--- at the begin nothing waits, and nothing is taken as true
-pub guards-none : (s : Search) → s.trail.entries.items ≡ [] → s.followed ≡ 0 → vec_len s.watches.lists ≡ 2 * vec_len s.trail.levels → vec_len s.watches.given ≡ length s.clauses.given → vec_len s.watches.learnt ≡ 0 → s.clauses.learnt ≡ [] → ((k : ℕ) → waiting s.watches k ≡ []) → Guards 0 0 s
-guards-none s entries followed lists given learnt none empty = record {
-  sound = record {
-    lists = lists;
-    given = given;
-    learnt = learnt ∙ ap length (sym none);
-    watches = λ k j w at. let z : slice_get {X = Watch} [] j ≡ Some w = ap (λ t. slice_get t j) (sym (empty k)) ∙ at in absurd (cc);
-  };
-  ahead = record {
-    followed = omega (arith, followed);
-    within = omega arith;
-    ahead = λ i e from at. let z : slice_get {X = Entry} [] i ≡ Some e = ap (λ t. slice_get t i) (sym entries) ∙ at in absurd (cc);
-  };
-  guarded = go;
-  settled = λ p d at no id c is. let z : slice_get {X = Entry} [] p ≡ Some d = ap (λ t. slice_get t p) (sym entries) ∙ at in absurd (cc);
-}
-  where
-    go : AreGuarded (AtRest 0 s.trail.entries.items s.watches) 0 s
-    go (Given i) c en is = absurd (omega arith)
-    go (Assumed i) c en is = absurd (cc)
-    go (Learnt i) c en is = let z : option_map clause_of (slice_get {X = Step} [] i) ≡ Some c = ap (λ t. option_map clause_of (slice_get t i)) (sym none) ∙ is in absurd (cc)

@@ -230,7 +230,7 @@ pub weighs-true : (entries : List Entry) (level i : ℕ) (seen : List Bool) (b :
 weighs-true entries level i seen b is w = let P : Bool → Type 0 = λ t. Weighs entries level i seen t in subst P is w
 
 -- at the top level an entry that is kept is the last one marked, since it would have a reason else
-pub weighs-false : (clauses : Clauses) (t : Assigned) (i : ℕ) (seen : List Bool) (b : Bool) (e : Entry) → IsTrailOf clauses t → 1 ≤ t.level → slice_get t.entries.items i ≡ Some e → e.level ≡ t.level
+pub weighs-false : (clauses : Clauses) (t : Assigned) (i : ℕ) (seen : List Bool) (b : Bool) (e : Entry) → IsTrailOf clauses t → 2 ≤ t.level → slice_get t.entries.items i ≡ Some e → e.level ≡ t.level
     → (b ≡ true → (id : ClauseId) → e.reason ≡ Some id → named 1 clauses id ≡ None) → Weighs t.entries.items t.level i seen b → NoneMarked t.entries.items t.level i seen
 weighs-false clauses t i seen b e trail one at l uncited w = elim (cases_Bool b) [
   | inr f ↦ let P : Bool → Type 0 = λ k. Weighs t.entries.items t.level i seen k in subst P f w
@@ -244,6 +244,6 @@ weighs-false clauses t i seen b e trail one at l uncited w = elim (cases_Bool b)
     reasons None is tr m = not-decided t.entries.items t.level i seen e trail.have_levels at l m is
     reasons (Some id) is tr m =
         let r = trail.reasons i e id at is in
-        let wide = named-lower e.level 1 clauses id r.0 (omega (arith, l)) r.1 in
+        let wide : named 1 clauses id ≡ Some r.0 = elim r.1.1 [ inl root ↦ absurd (omega (arith, l)) | inr w ↦ w ] in
         let none = uncited tr id is in
         cc

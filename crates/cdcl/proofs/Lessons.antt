@@ -1,9 +1,9 @@
 -- Clauses learnt, one more at a time, and the refutation that they end in.
-use Rattle.std.proofs.Common.{◌≡◌, ◌<◌, ◌+◌, ◌++◌, ◌∷◌, [], ℕ, zero, suc, List, Option, Some, None, true, map, length, refl, sym, ap, ◌∙◌, arith, subst, length-append, append-nil, append_assoc, get_or, ◌-◌, inl, inr, ◌⊎◌, Contains}
+use Rattle.std.proofs.Common.{◌≡◌, ◌<◌, ◌+◌, ◌++◌, ◌∷◌, [], ℕ, zero, suc, List, Option, Some, None, true, map, length, refl, sym, ap, ◌∙◌, arith, subst, length-append, append-nil, append_assoc, get_or, ◌-◌, inl, inr, ◌⊎◌, Contains, take, drop, ◌≤◌}
 use Rattle.std.specs.List.{slice_get, All, flat_map}
 use Rattle.std.specs.Option.{option_map}
 use Rattle.std.proofs.lemmas.Option.{slice_get_within, get_or_from_slice_get}
-use Rattle.std.proofs.lemmas.List.{map-append, length-map}
+use Rattle.std.proofs.lemmas.List.{map-append, length-map, length-drop, length-take-le, take-append-drop}
 use Rattle.std.proofs.lemmas.List.Elements.{All-append, Contains-append_left}
 use Rattle.std.proofs.lemmas.Grind.{flat_map-append}
 use Rattle.cnf_core.specs.Literal.{Literal}
@@ -22,7 +22,7 @@ use Rattle.cdcl.specs.Trails.{follows, IsTrailOf}
 use Rattle.cdcl.specs.Derives.{NamesWithin}
 use Rattle.cdcl.specs.Fits.{Fits, AllFit}
 use Rattle.cdcl.specs.Tidy.{AreApart, IsTidy, AreTidy, units}
-use Rattle.cdcl.specs.Searches.{AreLearnt, IsWithin, ContainsNone, AreFresh, OneMore}
+use Rattle.cdcl.specs.Searches.{AreLearnt, IsWithin, ContainsNone, AreFresh, OneMore, Appends}
 use Rattle.proof_check.proofs.ClauseLemmas.{slice_get-left, slice_get-right}
 use Rattle.std.proofs.lemmas.Option.{slice_get-map}
 use Rattle.cdcl.proofs.Readings.{slice-cases, slice-last}
@@ -36,11 +36,6 @@ All-one P x p (suc k) d h = absurd (omega arith)
 All-none : {X : Type 0} (P : X → Type 0) → All P []
 All-none P k d h = absurd (omega arith)
 
--- a step that no earlier clause is within
-fresh-push : (clauses : List (List Literal)) (steps : List Step) (step : Step) → AreFresh clauses steps → ((i : ℕ) (c : List Literal) → slice_get (clauses ++ map clause_of steps) i ≡ Some c → IsWithin c step.clause → ⊥) → AreFresh clauses (steps ++ step ∷ [])
-fresh-push clauses [] step f none = ((λ i c at. none i c (ap (λ t. slice_get t i) (append-nil clauses) ∙ at)), tt)
-fresh-push clauses (s ∷ steps) step (now, f) none = (now, fresh-push (clauses ++ s.clause ∷ []) steps step f (λ i c at. none i c (ap (λ t. slice_get t i) (sym (append_assoc clauses (s.clause ∷ []) (map clause_of steps))) ∙ at)))
-
 -- the clauses in order are those that have a name
 fresh-of : (clauses : Clauses) (clause : List Literal) → ContainsNone clauses clause → (i : ℕ) (c : List Literal) → slice_get (clauses.given ++ map clause_of clauses.learnt) i ≡ Some c → IsWithin c clause → ⊥
 fresh-of clauses clause none i c at within = elim (le-cases (length clauses.given) i) [
@@ -51,15 +46,62 @@ fresh-of clauses clause none i c at within = elim (le-cases (length clauses.give
       none (Learnt k) c (sym (slice_get-map clause_of clauses.learnt k) ∙ sym (slice_get-right clauses.given (map clause_of clauses.learnt) i k e) ∙ at) within
 ]
 
-pub learnt-push : (clauses : Clauses) (clause : List Literal) (ids : List ClauseId) (step : Step) (next : List Step) → AreLearnt clauses → length clauses.given + length clauses.assumed + length clauses.learnt + 1 < 4294967296 → step.clause ≡ clause → step.hints ≡ map (numbered (length clauses.given) 0) ids → follows (named 1 clauses) (negations clause) ids ≡ true → AreApart clause → Within (variables_of clauses.given) clause → ContainsNone clauses clause → next ≡ clauses.learnt ++ step ∷ [] → AreLearnt (record { given = clauses.given; assumed = clauses.assumed; learnt = next })
-learnt-push clauses clause ids step next l room c h f a w new n =
+pub learnt-push : (clauses : Clauses) (clause : List Literal) (ids : List ClauseId) (step : Step) (next : List Step) → AreLearnt clauses → length clauses.given + length clauses.assumed + length clauses.learnt + 1 < 4294967296 → step.clause ≡ clause → step.hints ≡ map (numbered (length clauses.given) 0) ids → follows (named 1 clauses) (negations clause) ids ≡ true → AreApart clause → Within (variables_of clauses.given) clause → next ≡ clauses.learnt ++ step ∷ [] → AreLearnt (record { given = clauses.given; assumed = clauses.assumed; learnt = next })
+learnt-push clauses clause ids step next l room c h f a w n =
     let valid = follows-numbered (named 1 clauses) (clauses.given ++ map clause_of clauses.learnt) (numbered (length clauses.given) 0) (numbered-at clauses l.few) (negations clause) ids f in
     record {
-      fresh = rw n (fresh-push clauses.given clauses.learnt step l.fresh (λ i t at within. fresh-of clauses clause new i t at (let P : List Literal → Type 0 = λ k. IsWithin t k in subst P c within)));
       valid = rw n (valid-push clauses.given clauses.learnt step l.valid (rw (c, h) valid));
       tidy = rw n (All-append (λ s. IsTidy clauses.given s.clause) clauses.learnt (step ∷ []) l.tidy (All-one (λ s. IsTidy clauses.given s.clause) step (rw c (record { apart = a; occurs = w }))));
       few = rw n (omega (arith, room, length-append clauses.learnt (step ∷ [])));
     }
+
+-- steps over the first of some clauses, as steps over all of them
+pub renumbered : (given : List (List Literal)) (before added : ℕ) (steps moved : List Step) → before ≤ length given → added ≡ length given - before → length given + length steps < 4294967296 → moved ≡ map (shifted_step before added) steps → AreValid (take before given) steps → AreValid given moved
+renumbered given before added steps moved le is few m v =
+    let front = take before given in
+    let back = drop before given in
+    let size : length front ≡ before = length-take-le before given le in
+    let rest : added ≡ length back = is ∙ sym (length-drop before given) in
+    let start : AreValid (front ++ []) steps = rw (append-nil front) v in
+    let all = shifted-valid front back [] added steps rest (omega arith) start in
+    let whole : front ++ back ≡ given = take-append-drop before given in
+    rw m (rw (append-nil (front ++ back), whole, size) at all)
+
+-- clauses learnt behind others
+pub appends-none : (old new : Clauses) → new ≡ old → Appends old new
+appends-none old new e = let P : Clauses → Type 0 = λ t. Appends old t in subst P (sym e) (record {
+  given = refl;
+  assumed = refl;
+  more = [];
+  learnt = sym (append-nil old.learnt);
+  fresh = tt;
+})
+
+pub appends-step : (old : Clauses) (clause : List Literal) (step : Step) (next : List Step) → step.clause ≡ clause → next ≡ old.learnt ++ step ∷ [] → ContainsNone old clause → Appends old (record { given = old.given; assumed = old.assumed; learnt = next })
+appends-step old clause step next c n none = record {
+  given = refl;
+  assumed = refl;
+  more = step ∷ [];
+  learnt = n;
+  fresh = ((λ i t at within. fresh-of old clause none i t at (let P : List Literal → Type 0 = λ k. IsWithin t k in subst P c within)), tt);
+}
+
+fresh-append : (clauses : List (List Literal)) (a b : List Step) → AreFresh clauses a → AreFresh (clauses ++ map clause_of a) b → AreFresh clauses (a ++ b)
+fresh-append clauses [] b f g = rw (append-nil clauses) at g
+fresh-append clauses (s ∷ a) b (now, f) g = (now, fresh-append (clauses ++ s.clause ∷ []) a b f (rw (sym (append_assoc clauses (s.clause ∷ []) (map clause_of a))) at g))
+
+pub appends-then : (a b c : Clauses) → Appends a b → Appends b c → Appends a c
+appends-then a b c f g = record {
+  given = g.given ∙ f.given;
+  assumed = g.assumed ∙ f.assumed;
+  more = f.more ++ g.more;
+  learnt = g.learnt ∙ ap (λ t. t ++ g.more) f.learnt ∙ append_assoc a.learnt f.more g.more;
+  fresh = fresh-append (a.given ++ map clause_of a.learnt) f.more g.more f.fresh
+      (rw (append_assoc a.given (map clause_of a.learnt) (map clause_of f.more), sym (map-append clause_of a.learnt f.more), sym f.learnt, sym f.given) g.fresh);
+}
+
+pub appends-more : (a b c d : Clauses) → Appends a b → c ≡ b → Appends c d → Appends a d
+appends-more a b c d f e g = let P : Clauses → Type 0 = λ t. Appends a t in appends-then a c d (subst P (sym e) f) g
 
 clause-left : (xs : List Step) (s : Step) (i : ℕ) (c : List Literal) → option_map clause_of (slice_get xs i) ≡ Some c → option_map clause_of (slice_get (xs ++ s ∷ []) i) ≡ Some c
 clause-left [] s i c e = absurd (cc)
@@ -74,7 +116,7 @@ names-push clauses step next n level (Learnt i) c e = rw n (clause-left clauses.
 pub trail-grown : (old new : Clauses) (t : Assigned) → ((level : ℕ) (id : ClauseId) (c : List Literal) → named level old id ≡ Some c → named level new id ≡ Some c) → IsTrailOf old t → IsTrailOf new t
 trail-grown old new t names is = record {
   distinct = is.distinct;
-  reasons = λ i e id at why. let r = is.reasons i e id at why in (r.0, names e.level id r.0 r.1, r.2);
+  reasons = λ i e id at why. let r = is.reasons i e id at why in (r.0, (names 0 id r.0 r.1.0, elim r.1.1 [ inl root ↦ inl root | inr w ↦ inr (names 1 id r.0 w) ]), r.2);
   in_room = is.in_room;
   have_levels = is.have_levels;
   are_placed = is.are_placed;
@@ -107,7 +149,7 @@ names-within clauses l (Learnt i) c e = learnt-named clauses.given clauses.learn
 variables-append : (xs ys : List (List Literal)) → variables_of (xs ++ ys) ≡ variables_of xs ++ variables_of ys
 variables-append xs ys = ap (map (λ (l : Literal). l.variable)) (flat_map-append (λ (c : List Literal). c) xs ys) ∙ map-append (λ (l : Literal). l.variable) (flat_map (λ (c : List Literal). c) xs) (flat_map (λ (c : List Literal). c) ys)
 
-tidy-more : (formula more : List (List Literal)) (c : List Literal) → IsTidy formula c → IsTidy (formula ++ more) c
+pub tidy-more : (formula more : List (List Literal)) (c : List Literal) → IsTidy formula c → IsTidy (formula ++ more) c
 tidy-more formula more c t = record {
   apart = t.apart;
   occurs = λ k d h. rw (variables-append formula more) (Contains-append_left (variables_of formula) (variables_of more) (get_or c k d).variable (t.occurs k d h));
@@ -150,9 +192,6 @@ refuted-tidy clauses r f =
     rw (f.whole, f.moved_is) (All-append (λ s. IsTidy formula s.clause) (map (shifted_step (length clauses.given) (length clauses.assumed)) clauses.learnt) (f.final ∷ [])
     (tidy-shifted clauses.given (units clauses.assumed) (length clauses.given) (length clauses.assumed) clauses.learnt f.learnt.tidy)
     (All-one (λ s. IsTidy formula s.clause) f.final last))
-
-pub learnt-none : (given : List (List Literal)) (assumed : List Literal) (learnt : List Step) → learnt ≡ [] → length given + length assumed < 4294967296 → AreLearnt (record { given = given; assumed = assumed; learnt = learnt })
-learnt-none given assumed learnt e h = rw e (record { fresh = tt; valid = tt; tidy = All-none (λ s. IsTidy given s.clause); few = omega arith })
 
 pub one-more : (clauses : Clauses) (step : Step) (clause : List Literal) (next : List Step) → step.clause ≡ clause → next ≡ clauses.learnt ++ step ∷ [] → OneMore clauses (record { given = clauses.given; assumed = clauses.assumed; learnt = next }) clause
 one-more clauses step clause next c n = rw n (record {

@@ -16,3 +16,5 @@ pub mod Turning
 pub mod Numbering
 pub mod Lessons
 pub mod Assuming
+pub mod Resting
+pub mod Spending

@@ -1,5 +1,5 @@
 -- Lists of watches that grow by one.
-use Rattle.std.proofs.Common.{◌≡◌, ◌<◌, ◌⊎◌, ◌+◌, ◌++◌, ◌∷◌, [], ℕ, zero, suc, List, Some, refl, sym, ap, ◌∙◌, inl, inr, subst, arith, length, vec_len}
+use Rattle.std.proofs.Common.{◌≡◌, ◌<◌, ◌≤◌, ◌⊎◌, ◌+◌, ◌++◌, ◌∷◌, [], ℕ, zero, suc, List, Some, refl, sym, ap, ◌∙◌, inl, inr, subst, arith, length, vec_len, take, take_all}
 use Rattle.std.specs.Global.{Vec}
 use Rattle.std.specs.List.{slice_get}
 use Rattle.std.proofs.lemmas.Bool.{cases_eq}
@@ -7,6 +7,7 @@ use Rattle.cnf_core.specs.Literal.{Literal, code_of}
 use Rattle.cdcl.specs.declared.clauses.ClauseId.{ClauseId}
 use Rattle.cdcl.specs.declared.clauses.ClauseId.TheVariants.{Given, Assumed, Learnt}
 use Rattle.cdcl.specs.declared.watching.Watch.{Watch}
+use Rattle.cdcl.specs.declared.watching.Pair.{Pair}
 use Rattle.cdcl.specs.declared.watching.Watches.{Watches}
 use Rattle.cdcl.specs.Watches.{list_of, waiting, pair_of, IsIn, IsMore, OtherPairs, SameSizes, IsWaiting, WaitsLast}
 use Rattle.cdcl.proofs.Readings.{slice-cases, slice-left, slice-last}
@@ -68,15 +69,23 @@ waits-two id first second a b c d here others lists sizes m cg cl n dg dl =
       sizes = sizes-then a b d sizes (sizes-then b c d m.sizes n.sizes);
     }
 
--- lists without watches
-pub empty-more : (lists : List (Vec Watch)) (v : Vec Watch) → v.items ≡ [] → ((k : ℕ) → list_of (slice_get lists k) ≡ []) → (k : ℕ) → list_of (slice_get (lists ++ v ∷ []) k) ≡ []
-empty-more lists v none before k = go lists k before
+-- a list without watches more
+pub list-more : (lists : List (Vec Watch)) (v : Vec Watch) → v.items ≡ [] → (k : ℕ) → list_of (slice_get (lists ++ v ∷ []) k) ≡ list_of (slice_get lists k)
+list-more [] v none zero = none
+list-more [] v none (suc k) = refl
+list-more (x ∷ xs) v none zero = refl
+list-more (x ∷ xs) v none (suc k) = list-more xs v none k
+
+-- places for more pairs
+pub pairs-more : (old new more : List Pair) (n : ℕ) → length old ≤ n → new ≡ take n old ++ more → (i : ℕ) (p : Pair) → slice_get old i ≡ Some p → slice_get new i ≡ Some p
+pairs-more old new more n h is i p at =
+    let e : new ≡ old ++ more = is ∙ ap (λ t. t ++ more) (take_all n old h) in
+    ap (λ t. slice_get t i) e ∙ pair-left old more i p at
   where
-    go : (xs : List (Vec Watch)) (k : ℕ) → ((k : ℕ) → list_of (slice_get xs k) ≡ []) → list_of (slice_get (xs ++ v ∷ []) k) ≡ []
-    go [] zero all = none
-    go [] (suc k) all = refl
-    go (x ∷ xs) zero all = all 0
-    go (x ∷ xs) (suc k) all = go xs k (λ j. all (suc j))
+    pair-left : (xs ys : List Pair) (i : ℕ) (p : Pair) → slice_get xs i ≡ Some p → slice_get (xs ++ ys) i ≡ Some p
+    pair-left [] ys i p at = absurd (cc)
+    pair-left (x ∷ xs) ys zero p at = at
+    pair-left (x ∷ xs) ys (suc i) p at = pair-left xs ys i p at
 
 -- the next clause learnt waits nowhere
 pub last-nowhere : (clause : List Literal) (a b : Watches) → vec_len b.learnt ≡ vec_len a.learnt + 1 → OtherPairs (Learnt (vec_len a.learnt)) a b → b.lists ≡ a.lists → b.given ≡ a.given → length clause < 2 → WaitsLast clause a b

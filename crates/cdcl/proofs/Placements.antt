@@ -12,9 +12,8 @@ use Rattle.proof_check.specs.Propagation.{taking}
 use Rattle.cdcl.specs.declared.clauses.ClauseId.{ClauseId}
 use Rattle.cdcl.specs.declared.clauses.Clauses.{Clauses}
 use Rattle.cdcl.specs.declared.assigned.Entry.{Entry}
-use Rattle.cdcl.specs.Sources.{named}
 use Rattle.cdcl.specs.Known.{known, open_count, IsOpen}
-use Rattle.cdcl.specs.Trails.{literal_at, PlacedBelow, Implies, AreDistinct, HaveReasons, HasRoom, HaveLevels, ArePlaced, HasDecision, IsCut, level_of, top_level}
+use Rattle.cdcl.specs.Trails.{literal_at, PlacedBelow, Implies, AreDistinct, IsSource, HaveReasons, HasRoom, HaveLevels, ArePlaced, HasDecision, IsCut, level_of, top_level}
 use Rattle.cdcl.proofs.Readings.{slice-cases, slice-left, slice-last}
 
 -- literals and their numbers
@@ -133,13 +132,13 @@ implies-push entries e i p clause is = record {
 moved : (entries : List Entry) (e : Entry) (i : ℕ) (x : Entry) (clause : List Literal) → i ≡ length entries → x ≡ e → Implies (entries ++ e ∷ []) (length entries) e.literal clause → Implies (entries ++ e ∷ []) i x.literal clause
 moved entries e i x clause h u t = rw (h, u) t
 
-pub reasons-push : (clauses : Clauses) (entries : List Entry) (e : Entry) → HaveReasons clauses entries → ((id : ClauseId) → e.reason ≡ Some id → (c : List Literal) × (named e.level clauses id ≡ Some c) × Implies entries (length entries) e.literal c) → HaveReasons clauses (entries ++ e ∷ [])
+pub reasons-push : (clauses : Clauses) (entries : List Entry) (e : Entry) → HaveReasons clauses entries → ((id : ClauseId) → e.reason ≡ Some id → (c : List Literal) × IsSource e.level clauses id c × Implies entries (length entries) e.literal c) → HaveReasons clauses (entries ++ e ∷ [])
 reasons-push clauses entries e r why i x id at is =
     elim (slice-cases entries e x i at) [
       | inl h ↦ let t = r i x id h is in (t.0, t.1, implies-push entries e i x.literal t.0 t.2)
       | inr h ↦
           let t = why id (sym (ap (λ y. y.reason) h.1) ∙ is) in
-          (t.0, ap (λ y. named y.level clauses id) h.1 ∙ t.1, moved entries e i x t.0 h.0 h.1 (implies-push entries e (length entries) e.literal t.0 t.2))
+          (t.0, (let P : Entry → Type 0 = λ y. IsSource y.level clauses id t.0 in subst P (sym h.1) t.1), moved entries e i x t.0 h.0 h.1 (implies-push entries e (length entries) e.literal t.0 t.2))
     ]
 
 pub room-push : (room : ℕ) (entries : List Entry) (e : Entry) → HasRoom room entries → e.literal.variable < room → HasRoom room (entries ++ e ∷ [])
@@ -152,8 +151,8 @@ pub begun-left : (entries : List Entry) (e : Entry) (level : ℕ) → HasDecisio
 begun-left entries e level d = (d.0, d.1, slice-left entries e d.1 d.0 d.2, d.3, d.4)
 
 -- the level stays, or is one more where the entry is a decision
-pub levels-push : (entries : List Entry) (e : Entry) (level : ℕ) → HaveLevels level entries → level ≤ e.level → (e.reason ≡ None → level < e.level) → (1 ≤ e.level → (e.reason ≡ None) ⊎ HasDecision e.level entries) → HaveLevels e.level (entries ++ e ∷ [])
-levels-push entries e level h more d begun = record {
+pub levels-push : (entries : List Entry) (e : Entry) (level : ℕ) → HaveLevels level entries → level ≤ e.level → (e.reason ≡ None → level < e.level) → (e.reason ≡ None → 1 ≤ level) → (2 ≤ e.level → (e.reason ≡ None) ⊎ HasDecision e.level entries) → HaveLevels e.level (entries ++ e ∷ [])
+levels-push entries e level h more d above begun = record {
   rising = λ i j a b at_i at_j le. elim (slice-cases entries e a i at_i) [
     | inl f ↦ elim (slice-cases entries e b j at_j) [
       | inl g ↦ h.rising i j a b f g le
@@ -167,7 +166,7 @@ levels-push entries e level h more d begun = record {
   within = λ i x at. elim (slice-cases entries e x i at) [ inl f ↦ let w = h.within i x f in omega arith | inr f ↦ let t : x.level ≡ e.level = ap (λ y. y.level) f.1 in omega arith ];
   decided = λ i x at none. elim (slice-cases entries e x i at) [
     | inl f ↦ h.decided i x f none
-    | inr f ↦ let t : x.level ≡ e.level = ap (λ y. y.level) f.1 in let r = d (sym (ap (λ y. y.reason) f.1) ∙ none) in omega arith
+    | inr f ↦ let t : x.level ≡ e.level = ap (λ y. y.level) f.1 in let r = d (sym (ap (λ y. y.reason) f.1) ∙ none) in let low = above (sym (ap (λ y. y.reason) f.1) ∙ none) in omega arith
   ];
   first = λ i j a b at_i at_j none less. elim (slice-cases entries e b j at_j) [
     | inl g ↦

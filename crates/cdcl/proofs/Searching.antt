@@ -1,5 +1,5 @@
 -- The steps of a search.
-use Rattle.std.proofs.Common.{◌≡◌, ◌<◌, ◌≤◌, ◌⊎◌, ◌+◌, ◌++◌, ◌∷◌, [], ℕ, zero, suc, List, Some, None, Bool, true, refl, sym, ap, ◌∙◌, inl, inr, subst, arith, length, vec_len, get_or, map}
+use Rattle.std.proofs.Common.{◌≡◌, ◌<◌, ◌≤◌, ◌⊎◌, ◌+◌, ◌++◌, ◌∷◌, [], ℕ, zero, suc, List, Option, Some, None, Bool, true, refl, sym, ap, ◌∙◌, inl, inr, subst, arith, length, vec_len, get_or, map}
 use Rattle.std.specs.List.{slice_get}
 use Rattle.std.proofs.lemmas.Bool.{cases_eq}
 use Rattle.std.proofs.lemmas.Option.{slice_get_within, slice_get-get_or}
@@ -15,8 +15,9 @@ use Rattle.std.proofs.lemmas.Option.{slice_get-map}
 use Rattle.cdcl.specs.declared.clauses.ClauseId.TheVariants.{Given, Assumed, Learnt}
 use Rattle.cdcl.specs.declared.assigned.Reading.{Reading}
 use Rattle.cdcl.specs.Fits.{Fits, AllFit}
-use Rattle.cdcl.specs.Trails.{IsNext, HasDecision, literal_at, Implies, ArePlaced, HaveLevels, AllReasoned, IsCut}
-use Rattle.cdcl.specs.Searches.{AreHeld, Extends, Goes, Says, IsSearch, IsReady}
+use Rattle.cdcl.specs.Trails.{IsNext, IsSource, HasDecision, literal_at, Implies, ArePlaced, HaveLevels, AllReasoned, IsConflict, IsCut}
+use Rattle.std.specs.Prelude.{IfSome}
+use Rattle.cdcl.specs.Searches.{AreHeld, Extends, Goes, Says, IsSearch, IsReady, IsMet}
 use Rattle.std.proofs.lemmas.List.{length_push}
 use Rattle.cdcl.proofs.Readings.{slice-cases, slice-left}
 use Rattle.cdcl.proofs.Placements.{literal-last}
@@ -38,8 +39,8 @@ le-cases (suc m) (suc i) = elim (le-cases m i) [ inl h ↦ inl (omega arith) | i
 pub held-more : (n : ℕ) (assumed : List Literal) (old new : List Entry) → Extends old new → AreHeld n assumed old → AreHeld n assumed new
 held-more n assumed old new extends held k a at h = let r = held k a at h in (r.0, r.1, extends r.0 r.1 r.2, r.3, r.4)
 
-pub held-cut : (n : ℕ) (assumed : List Literal) (level : ℕ) (old new : List Entry) → IsCut level old new → AreHeld n assumed old → AreHeld n assumed new
-held-cut n assumed level old new cut held k a at h = let r = held k a at h in (r.0, r.1, cut.keeps r.0 r.1 r.2 (omega (arith, r.4)), r.3, r.4)
+pub held-cut : (n : ℕ) (assumed : List Literal) (level : ℕ) (old new : List Entry) → 1 ≤ level → IsCut level old new → AreHeld n assumed old → AreHeld n assumed new
+held-cut n assumed level old new one cut held k a at h = let r = held k a at h in (r.0, r.1, cut.keeps r.0 r.1 r.2 (omega (arith, r.4)), r.3, r.4)
 
 -- the clause that implies a literal is its reason
 pub unit-reason : (clauses : Clauses) (entries : List Entry) (taken : List Bool) (level : ℕ) (id : ClauseId) (p : Literal) (clause : List Literal) → ArePlaced entries taken → ((c : List Literal) × (named 1 clauses id ≡ Some c)) → named 0 clauses id ≡ Some clause → IsUnit (known taken) p clause → (other : ClauseId) → Some id ≡ Some other → (c : List Literal) × (named level clauses other ≡ Some c) × Implies entries (length entries) p c
@@ -100,9 +101,9 @@ true-more known given i clause at h before j c less is = elim (cases_eq j i) [
   | inr n ↦ before j c (omega arith) is
 ]
 
--- at level 0 each entry has a reason
-pub reasoned-root : (entries : List Entry) (level : ℕ) → HaveLevels level entries → level ≡ 0 → AllReasoned entries
-reasoned-root entries level h zero_level i e at none = let w = h.within i e at in let d = h.decided i e at none in omega arith
+-- up to level 1 each entry has a reason
+pub reasoned-root : (entries : List Entry) (level : ℕ) → HaveLevels level entries → level ≤ 1 → AllReasoned entries
+reasoned-root entries level h root i e at none = let w = h.within i e at in let d = h.decided i e at none in omega arith
 
 pub ready-from : (s : Search) (n : ℕ) (clauses : Clauses) → s.clauses ≡ clauses → n ≡ length clauses.assumed → IsSearch n s → IsReady s
 ready-from s n clauses same is r =
@@ -139,7 +140,7 @@ implied-next s id c e r (t, is) at u reason level =
       reason = reason;
       level = level;
       begun = r.begun;
-      is_named = named-any e.level s.clauses id c (is ∙ ap (λ k. Some k) one);
+      source = (at, inr (is ∙ ap (λ k. Some k) one));
       implies = record { has = u.has; others = λ l m. elim (u.others l m) [ inl s' ↦ inl s' | inr k ↦ inr (r.trail.are_placed.placed (negated l) k) ] };
     })
 
@@ -157,6 +158,26 @@ said a id c r at says t is = let P : List Literal → Type 0 = λ k. Says a.trai
 pub item-read : {X : Type 0} (xs : List X) (i : ℕ) (x : X) → i < length xs → x ≡ get_or xs i x → slice_get xs i ≡ Some x
 item-read xs i x h at = slice_get-get_or xs i x h ∙ ap (λ t. Some t) (sym at)
 
--- an assumption may be taken at level 0
-pub assumed-next : (s : Search) (i : ℕ) (e : Entry) → (1 ≤ s.trail.level → HasDecision s.trail.level s.trail.entries.items) → e.reason ≡ Some (Assumed i) → e.level ≡ s.trail.level → ((c : List Literal) × (named e.level s.clauses (Assumed i) ≡ Some c) × Implies s.trail.entries.items (length s.trail.entries.items) e.literal c) → IsNext s.clauses s.trail e
-assumed-next s i e begun reason level why = inr (record { id = Assumed i; clause = why.0; reason = reason; level = level; begun = begun; is_named = why.1; implies = why.2 })
+-- an assumption may be taken at level 1
+pub assumed-next : (s : Search) (i : ℕ) (e : Entry) → (2 ≤ s.trail.level → HasDecision s.trail.level s.trail.entries.items) → e.reason ≡ Some (Assumed i) → e.level ≡ s.trail.level → ((c : List Literal) × IsSource e.level s.clauses (Assumed i) c × Implies s.trail.entries.items (length s.trail.entries.items) e.literal c) → IsNext s.clauses s.trail e
+assumed-next s i e begun reason level why = inr (record { id = Assumed i; clause = why.0; reason = reason; level = level; begun = begun; source = why.1; implies = why.2 })
+
+-- a false clause that a step may cite
+pub met-above : (s : Search) (id : ClauseId) → IsReady s → IsConflict 1 s.clauses s.trail.entries.items id → IsMet s id
+met-above s id ready (c, is, f) = record {
+  conflict = (c, named-lower 1 0 s.clauses id c (omega arith) is, f);
+  ready = λ _. ready;
+  above = λ _. (c, is, f);
+}
+
+pub met-found : (s : Search) (o : Option ClauseId) → IsReady s → IfSome o (IsConflict 1 s.clauses s.trail.entries.items) → IfSome o (IsMet s)
+met-found s None ready found = tt
+met-found s (Some id) ready found = met-above s id ready found
+
+-- one that is an assumption
+pub met-below : (s : Search) (id : ClauseId) → s.trail.level ≡ 1 → IsConflict 0 s.clauses s.trail.entries.items id → IsMet s id
+met-below s id level conflict = record {
+  conflict = conflict;
+  ready = λ two. absurd (omega arith);
+  above = λ two. absurd (omega arith);
+}

@@ -8,4 +8,5 @@ pub mod Searches
 pub mod Jumps
 pub mod Watches
 pub mod Guards
+pub mod Resting
 pub mod Answers

@@ -23,9 +23,9 @@ use Rattle.proof_check.specs.Steps.{Step, clause_of}
 use Rattle.cdcl.specs.Tidy.{AreTidy}
 use Rattle.cdcl.specs.Fits.{Fits, AllFit}
 
--- the first assumptions stand among the entries of level 0
+-- the first assumptions stand among the entries of levels 0 and 1
 abbrev pub AreHeld : ℕ → List Literal → List Entry → Type 0
-AreHeld n assumed entries = (k : ℕ) (a : Literal) → slice_get assumed k ≡ Some a → k < n → (i : ℕ) × (e : Entry) × (slice_get entries i ≡ Some e) × (e.literal ≡ a) × (e.level ≡ 0)
+AreHeld n assumed entries = (k : ℕ) (a : Literal) → slice_get assumed k ≡ Some a → k < n → (i : ℕ) × (e : Entry) × (slice_get entries i ≡ Some e) × (e.literal ≡ a) × (e.level ≤ 1)
 
 -- all literals of the first clause are ones of the second
 abbrev pub IsWithin : List Literal → List Literal → Type 0
@@ -45,26 +45,37 @@ pub record OneMore (old new : Clauses) (clause : List Literal) : Type 0 where
   pub last : named 1 new (Learnt (length old.learnt)) ≡ Some clause
   pub others : (id : ClauseId) (c : List Literal) → named 1 new id ≡ Some c → (named 1 old id ≡ Some c) ⊎ ((id ≡ Learnt (length old.learnt)) × (c ≡ clause))
 
--- the learnt clauses are steps of a trail, and each clause has a number
+-- the learnt clauses are valid steps, and each clause has a number
 pub record AreLearnt (clauses : Clauses) : Type 0 where
-  pub fresh : AreFresh clauses.given clauses.learnt
   pub valid : AreValid clauses.given clauses.learnt
   pub tidy : AreTidy clauses.given clauses.learnt
   pub few : length clauses.given + length clauses.assumed + length clauses.learnt < 2 ^ 32
 
--- and the first assumptions hold
+-- more clauses were learnt, behind the others, none of which contains an earlier one
+pub record Appends (old new : Clauses) : Type 0 where
+  pub given : new.given ≡ old.given
+  pub assumed : new.assumed ≡ old.assumed
+  pub more : List Step
+  pub learnt : new.learnt ≡ old.learnt ++ more
+  pub fresh : AreFresh (old.given ++ map clause_of old.learnt) more
+
+-- and the first assumptions hold above level 0
 pub record IsSearch (held : ℕ) (s : Search) : Type 0 where
   pub learnt : AreLearnt s.clauses
   pub trail : IsTrailOf s.clauses s.trail
   pub fits : AllFit (vec_len s.trail.levels) s.clauses.given
   pub learnt_fit : AllFit (vec_len s.trail.levels) (map clause_of s.clauses.learnt)
   pub assumed_fit : Fits (vec_len s.trail.levels) s.clauses.assumed
-  pub holds : AreHeld held s.clauses.assumed s.trail.entries.items
-  pub begun : 1 ≤ s.trail.level → HasDecision s.trail.level s.trail.entries.items
+  pub holds : 1 ≤ s.trail.level → AreHeld held s.clauses.assumed s.trail.entries.items
+  pub begun : 2 ≤ s.trail.level → HasDecision s.trail.level s.trail.entries.items
 
--- all assumptions hold
+-- all assumptions hold above level 0
 abbrev pub IsReady : Search → Type 0
 IsReady s = IsSearch (length s.clauses.assumed) s
+
+-- some of them do
+abbrev pub IsSearching : Search → Type 0
+IsSearching s = (held : ℕ) × IsSearch held s
 
 -- the first entries stay
 abbrev pub Extends : List Entry → List Entry → Type 0
@@ -97,16 +108,21 @@ IsNext s (Decide l) = (l.variable < vec_len s.trail.levels) × IsOpen (known s.t
 IsNext s (NextConflict id) = IsConflict 1 s.clauses s.trail.entries.items id
 IsNext s NextSatisfied = AllTrue s
 
-abbrev pub IsEvent : Search → Event → Type 0
-IsEvent s (Conflict id) = IsConflict 1 s.clauses s.trail.entries.items id
-IsEvent s EventSatisfied = AllTrue s
-
--- a conflict at level 0, which refutes the clauses with the assumptions
-pub record CanRefute (s : Search) (id : ClauseId) : Type 0 where
-  pub learnt : AreLearnt s.clauses
-  pub trail : IsTrailOf s.clauses s.trail
-  pub root : s.trail.level ≡ 0
+-- the named clause is false, and above level 1 a clause may be learnt from it
+pub record IsMet (s : Search) (id : ClauseId) : Type 0 where
   pub conflict : IsConflict 0 s.clauses s.trail.entries.items id
+  pub ready : 2 ≤ s.trail.level → IsReady s
+  pub above : 2 ≤ s.trail.level → IsConflict 1 s.clauses s.trail.entries.items id
+
+-- each clause given has a true literal, and all assumptions hold
+pub record IsModel (s : Search) : Type 0 where
+  pub ready : IsReady s
+  pub above : 1 ≤ s.trail.level
+  pub satisfied : AllTrue s
+
+abbrev pub IsEvent : Search → Event → Type 0
+IsEvent s (Conflict id) = IsMet s id
+IsEvent s EventSatisfied = IsModel s
 
 abbrev pub IfFalsified : Type 0 → Reading → Type 0
 IfFalsified P Falsified = P

@@ -10,18 +10,18 @@ use Rattle.cdcl.specs.declared.clauses.Clauses.{Clauses}
 abbrev pub Lookup : Type 0
 Lookup = ClauseId → Option (List Literal)
 
--- an assumption stands for its unit clause, which nothing above level 0 may cite
+-- an assumption stands for its unit clause, which no clause learnt may cite
 abbrev pub assumed_at : ℕ → List Literal → ℕ → Option (List Literal)
 assumed_at zero assumed i = option_map (λ l. l ∷ []) (slice_get assumed i)
 assumed_at (suc level) assumed i = None
 
--- the clause that a step at this level may cite under a name
+-- the clause that a name stands for: from 0, where assumptions may be cited, or from 1, where they may not
 abbrev pub named : ℕ → Clauses → ClauseId → Option (List Literal)
 named level clauses (Given i) = slice_get clauses.given i
 named level clauses (Assumed i) = assumed_at level clauses.assumed i
 named level clauses (Learnt i) = option_map clause_of (slice_get clauses.learnt i)
 
--- a step at this level may cite the name, as each may at level 0
+-- the name may be cited, as each may from 0
 abbrev pub IsCiteable : ℕ → Clauses → ClauseId → Type 0
 IsCiteable from clauses id = (from ≡ 0) ⊎ ((c : List Literal) × (named 1 clauses id ≡ Some c))
 

@@ -55,9 +55,13 @@ Falsifies entries i clause = (l : Literal) → Member l clause → PlacedBelow i
 abbrev pub AreDistinct : List Entry → Type 0
 AreDistinct entries = (i j : ℕ) (p q : Literal) → literal_at entries i ≡ Some p → literal_at entries j ≡ Some q → p.variable ≡ q.variable → i ≡ j
 
--- each reason is a clause that implies its entry and that a step at the entry's level may cite
+-- a clause by this name, which is an assumption at level 1 alone, where the assumptions stand
+abbrev pub IsSource : ℕ → Clauses → ClauseId → List Literal → Type 0
+IsSource level clauses id clause = (named 0 clauses id ≡ Some clause) × ((level ≡ 1) ⊎ (named 1 clauses id ≡ Some clause))
+
+-- each reason is a clause that implies its entry
 abbrev pub HaveReasons : Clauses → List Entry → Type 0
-HaveReasons clauses entries = (i : ℕ) (e : Entry) (id : ClauseId) → slice_get entries i ≡ Some e → e.reason ≡ Some id → (clause : List Literal) × (named e.level clauses id ≡ Some clause) × Implies entries i e.literal clause
+HaveReasons clauses entries = (i : ℕ) (e : Entry) (id : ClauseId) → slice_get entries i ≡ Some e → e.reason ≡ Some id → (clause : List Literal) × IsSource e.level clauses id clause × Implies entries i e.literal clause
 
 -- each variable is below the room
 abbrev pub HasRoom : ℕ → List Entry → Type 0
@@ -75,13 +79,13 @@ top_level entries = level_of (slice_get entries (length entries - 1))
 abbrev pub HasDecision : ℕ → List Entry → Type 0
 HasDecision level entries = (j : ℕ) × (d : Entry) × (slice_get entries j ≡ Some d) × (d.reason ≡ None) × (d.level ≡ level)
 
--- levels never fall, and none is above this one; an entry without a reason stands above level 0, and is the first of its level, as each level above 0 has one
+-- levels never fall, and none is above this one; an entry without a reason stands above level 1, and is the first of its level, as each level above 1 has one
 pub record HaveLevels (level : ℕ) (entries : List Entry) : Type 0 where
   pub rising : (i j : ℕ) (a b : Entry) → slice_get entries i ≡ Some a → slice_get entries j ≡ Some b → i ≤ j → a.level ≤ b.level
   pub within : (i : ℕ) (e : Entry) → slice_get entries i ≡ Some e → e.level ≤ level
-  pub decided : (i : ℕ) (e : Entry) → slice_get entries i ≡ Some e → e.reason ≡ None → 1 ≤ e.level
+  pub decided : (i : ℕ) (e : Entry) → slice_get entries i ≡ Some e → e.reason ≡ None → 2 ≤ e.level
   pub first : (i j : ℕ) (a d : Entry) → slice_get entries i ≡ Some a → slice_get entries j ≡ Some d → d.reason ≡ None → i < j → a.level < d.level
-  pub begun : (i : ℕ) (e : Entry) → slice_get entries i ≡ Some e → 1 ≤ e.level → HasDecision e.level entries
+  pub begun : (i : ℕ) (e : Entry) → slice_get entries i ≡ Some e → 2 ≤ e.level → HasDecision e.level entries
 
 -- the literals taken as true are those of the entries
 pub record ArePlaced (entries : List Entry) (taken : List Bool) : Type 0 where
@@ -112,23 +116,24 @@ pub record IsCut (level : ℕ) (old new : List Entry) : Type 0 where
   pub first : (i : ℕ) (e : Entry) → slice_get new i ≡ Some e → slice_get old i ≡ Some e
   pub below : (i : ℕ) (e : Entry) → slice_get new i ≡ Some e → e.level ≤ level
 
--- level 0, or that of an entry
+-- level 0 or 1, or that of an entry
 abbrev pub IsLevel : ℕ → List Entry → Type 0
-IsLevel level entries = (level ≡ 0) ⊎ ((i : ℕ) × (e : Entry) × (slice_get entries i ≡ Some e) × (e.level ≡ level))
+IsLevel level entries = (level ≤ 1) ⊎ ((i : ℕ) × (e : Entry) × (slice_get entries i ≡ Some e) × (e.level ≡ level))
 
 -- a literal that is decided, one level up
 pub record IsDecided (t : Assigned) (e : Entry) : Type 0 where
   pub reason : e.reason ≡ None
   pub level : e.level ≡ t.level + 1
+  pub above : 1 ≤ t.level
 
--- a literal that a clause implies, which a step at this level may cite
+-- a literal that a clause or an assumption implies
 pub record IsImplied (clauses : Clauses) (t : Assigned) (e : Entry) : Type 0 where
   pub id : ClauseId
   pub clause : List Literal
   pub reason : e.reason ≡ Some id
   pub level : e.level ≡ t.level
-  pub begun : 1 ≤ t.level → HasDecision t.level t.entries.items
-  pub is_named : named e.level clauses id ≡ Some clause
+  pub begun : 2 ≤ t.level → HasDecision t.level t.entries.items
+  pub source : IsSource e.level clauses id clause
   pub implies : Implies t.entries.items (length t.entries.items) e.literal clause
 
 -- why a literal may be taken as true

@@ -161,7 +161,7 @@ impl Work {
             return self.is_another(trail, index);
         }
         if entry.level == 0 {
-            return clauses.assumed.is_empty();
+            return true;
         }
         self.is_covered(clauses, trail, entry)
     }
@@ -217,7 +217,7 @@ impl Work {
         ensures kept { OnOk result (from ≡ 0 → AllReasoned trail.now.entries.items → self.new.kept.items ≡ self.old.kept.items) }
         ensures occurs { OnOk result ((vars : List ℕ) → NamesWithin vars (named from clauses.now) → WorkWithin vars self.old.seen.items self.old.kept.items → WorkWithin vars self.new.seen.items self.new.kept.items) }
         ensures derives { OnOk result (Derives (named from clauses.now) trail.now.entries.items index self.new.seen.items self.new.kept.items (reverse self.new.hints.items)) }
-        ensures stage { OnOk result (from ≡ 1 → 1 ≤ trail.now.level → IsStage trail.now.entries.items trail.now.level (index + 1) self.old.seen.items self.old.kept.items self.old.level → IsStage trail.now.entries.items trail.now.level index self.new.seen.items self.new.kept.items self.new.level) }
+        ensures stage { OnOk result (from ≡ 1 → 2 ≤ trail.now.level → IsStage trail.now.entries.items trail.now.level (index + 1) self.old.seen.items self.old.kept.items self.old.level → IsStage trail.now.entries.items trail.now.level index self.new.seen.items self.new.kept.items self.new.level) }
     {
         let entry = &trail.entries[index];
         if !is_marked(&self.seen, entry.literal) {
@@ -244,7 +244,7 @@ impl Work {
         ensures kept { OnOk result (from ≡ 0 → AllReasoned trail.now.entries.items → self.new.kept.items ≡ self.old.kept.items) }
         ensures occurs { OnOk result ((vars : List ℕ) → NamesWithin vars (named from clauses.now) → WorkWithin vars self.old.seen.items self.old.kept.items → WorkWithin vars self.new.seen.items self.new.kept.items) }
         ensures derives { OnOk result (Derives (named from clauses.now) trail.now.entries.items 0 self.new.seen.items self.new.kept.items (reverse self.new.hints.items)) }
-        ensures stage { OnOk result (from ≡ 1 → 1 ≤ trail.now.level → IsStage trail.now.entries.items trail.now.level (length trail.now.entries.items) self.old.seen.items self.old.kept.items self.old.level → IsStage trail.now.entries.items trail.now.level 0 self.new.seen.items self.new.kept.items self.new.level) }
+        ensures stage { OnOk result (from ≡ 1 → 2 ≤ trail.now.level → IsStage trail.now.entries.items trail.now.level (length trail.now.entries.items) self.old.seen.items self.old.kept.items self.old.level → IsStage trail.now.entries.items trail.now.level 0 self.new.seen.items self.new.kept.items self.new.level) }
     {
         let mut index = trail.entries.len();
         'entries: while index > 0 {
@@ -269,7 +269,7 @@ pub fn analyze(
     ensures empty { IfOk result (λ lesson. from ≡ 0 → AllReasoned trail.now.entries.items → lesson.clause.items ≡ []) }
     ensures apart { IfOk result (λ lesson. AreApart lesson.clause.items) }
     ensures occurs { IfOk result (λ lesson. (vars : List ℕ) → NamesWithin vars (named from clauses.now) → Within vars lesson.clause.items) }
-    ensures jump { IfOk result (λ lesson. from ≡ 1 → 1 ≤ trail.now.level → HasTop clauses.now trail.now conflict → IsJump trail.now.entries.items trail.now.level lesson.clause.items lesson.level) }
+    ensures jump { IfOk result (λ lesson. from ≡ 1 → 2 ≤ trail.now.level → HasTop clauses.now trail.now conflict → IsJump trail.now.entries.items trail.now.level lesson.clause.items lesson.level) }
     ensures valid { IfOk result (λ lesson. follows (named from clauses.now) (negations lesson.clause.items) lesson.hints.items ≡ true) }
 {
     let mut work = Work::begin(alloc, clauses, trail, conflict, from)?;

@@ -11,7 +11,8 @@ use crate::order::Order;
 use cnf_core::Lit;
 use std::alloc::{AllocError, Global};
 
-/// A literal that is taken as true: a decision, or implied by a clause. Assumptions stand at level 0.
+/// A literal that is taken as true: a decision, or implied by a clause. Level 0 has what the clauses imply, level 1 the
+/// assumptions and what these imply; decisions stand above.
 #[derive(Clone, Copy, Debug)]
 pub struct Entry {
     pub literal: Lit,
@@ -44,7 +45,12 @@ pub struct Assigned {
 
 impl Assigned {
     /// No literals, over no variables. It takes no memory.
-    pub fn new(alloc: Global) -> Assigned {
+    pub fn new(alloc: Global) -> Assigned
+        ensures trail { (clauses : ClausesValue) → IsTrailOf clauses result }
+        ensures entries { result.entries.items ≡ [] }
+        ensures room { vec_len result.levels ≡ 0 }
+        ensures level { result.level ≡ 0 }
+    {
         Assigned {
             entries: Vec::new(alloc),
             taken: Vec::new(alloc),
@@ -53,22 +59,19 @@ impl Assigned {
         }
     }
 
-    /// No literals, over variables below `room`.
-    pub fn with_room(alloc: Global, room: usize) -> Result<Assigned, AllocError>
-        requires { room ≤ 2 ^ 31 }
-        ensures room { IfOk result (λ t. vec_len t.levels ≡ room) }
-        ensures level { IfOk result (λ t. t.level ≡ 0) }
-        ensures entries { IfOk result (λ t. t.entries.items ≡ []) }
-        ensures trail { IfOk result (λ t. (clauses : ClausesValue) → IsTrailOf clauses t) }
+    /// Makes room for variables below `room`.
+    pub fn grow(&mut self, room: usize) -> Result<(), AllocError>
+        requires small { room ≤ 2 ^ 31 }
+        requires least { vec_len self.old.levels ≤ room }
+        requires paired { vec_len self.old.taken ≡ 2 * vec_len self.old.levels }
+        ensures trail { OnOk result ((clauses : ClausesValue) → IsTrailOf clauses self.old → IsTrailOf clauses self.new) }
+        ensures room { OnOk result (vec_len self.new.levels ≡ room) }
+        ensures entries { self.new.entries ≡ self.old.entries }
+        ensures level { self.new.level ≡ self.old.level }
     {
-        let taken = vec![in alloc; false; 2 * room]?;
-        let levels = vec![in alloc; 0; room]?;
-        Ok(Assigned {
-            entries: Vec::new(alloc),
-            taken,
-            levels,
-            level: 0,
-        })
+        self.taken.resize(2 * room, false)?;
+        self.levels.resize(room, 0)?;
+        Ok(())
     }
 
     /// Whether the literal is taken as true.

@@ -28,17 +28,12 @@ impl Choice {
         }
     }
 
-    /// No conflicts yet, over variables below `room`.
-    pub fn with_room(alloc: Global, room: usize) -> Result<Choice, AllocError> {
-        let order = Order::with_room(alloc, room)?;
-        let signs = vec![in alloc; false; room]?;
-        let marked = vec![in alloc; 0; room]?;
-        Ok(Choice {
-            order,
-            signs,
-            marked,
-            conflict: 0,
-        })
+    /// Makes room for variables below `room`.
+    pub fn grow(&mut self, room: usize) -> Result<(), AllocError> {
+        self.order.grow(room)?;
+        self.signs.resize(room, false)?;
+        self.marked.resize(room, 0)?;
+        Ok(())
     }
 
     /// Notes the sign of a literal that is taken as true.

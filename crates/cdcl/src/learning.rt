@@ -1,11 +1,12 @@
-ghost use Rattle.std.specs.Prelude.{◌≡◌, ◌<◌, ◌+◌, ◌^◌, ◌++◌, ◌≤◌, ℕ, Some, true, map, length, vec_len, IfOk, OnOk};
+ghost use Rattle.std.specs.Prelude.{◌≡◌, ◌<◌, ◌+◌, ◌^◌, ◌++◌, ◌≤◌, ℕ, Some, true, map, length, take, vec_len, IfOk, OnOk};
 ghost use Rattle.proof_check.specs.Propagation.{negations};
 ghost use Rattle.proof_check.specs.Room.{Within, variables_of};
-ghost use Rattle.proof_check.specs.Refutations.{IsRefutation};
+ghost use Rattle.proof_check.specs.Steps.{clause_of};
+ghost use Rattle.proof_check.specs.Refutations.{AreValid, IsRefutation};
 ghost use Rattle.cdcl.specs.Sources.{named, numbered, shifted, shifted_step};
 ghost use Rattle.cdcl.specs.Trails.{follows, IsTrailOf, IsConflict};
 ghost use Rattle.cdcl.specs.Tidy.{AreApart, AreTidy, units};
-ghost use Rattle.cdcl.specs.Searches.{AreLearnt, IsReady, ContainsNone, OneMore};
+ghost use Rattle.cdcl.specs.Searches.{AreLearnt, IsReady, ContainsNone, OneMore, Appends};
 ghost use Rattle.cdcl.specs.Guards.{Guards, GuardsBut};
 ghost use Rattle.cdcl.specs.Fits.{Fits};
 
@@ -93,6 +94,23 @@ fn shifted_steps(
 }
 
 impl Clauses {
+    /// Numbers the clauses that the steps learnt cite anew, where so many had been given and more are now.
+    pub fn renumber(&mut self, alloc: Global, before: usize) -> Result<(), AllocError>
+        requires before { before ≤ length self.old.given }
+        requires few { length self.old.given + length self.old.learnt < 2 ^ 32 }
+        ensures valid { OnOk result (AreValid (take before self.old.given) self.old.learnt → AreValid self.new.given self.new.learnt) }
+        ensures clauses { OnOk result (map clause_of self.new.learnt ≡ map clause_of self.old.learnt) }
+        ensures given { self.new.given ≡ self.old.given }
+        ensures assumed { self.new.assumed ≡ self.old.assumed }
+    {
+        let added = self.given.len() - before;
+        if added == 0 {
+            return Ok(());
+        }
+        self.learnt = shifted_steps(alloc, &self.learnt, before, added)?;
+        Ok(())
+    }
+
     /// Puts a lesson at the end of the clauses learnt.
     fn learn(&mut self, alloc: Global, lesson: &Lesson) -> Result<(), AllocError>
         requires learnt { AreLearnt self.old }
@@ -102,6 +120,7 @@ impl Clauses {
         requires occurs { Within (variables_of self.old.given) lesson.now.clause.items }
         requires fresh { ContainsNone self.old lesson.now.clause.items }
         ensures learnt { OnOk result (AreLearnt self.new) }
+        ensures appends { OnOk result (Appends self.old self.new) }
         ensures more { OnOk result (length self.new.learnt ≡ length self.old.learnt + 1) }
         ensures names { (level : ℕ) (id : _) (c : _) → named level self.old id ≡ Some c → named level self.new id ≡ Some c }
         ensures last { OnOk result (OneMore self.old self.new lesson.now.clause.items) }
@@ -128,6 +147,7 @@ impl Search {
         requires fresh { ContainsNone self.old.clauses lesson.now.clause.items }
         requires fits { Fits (vec_len self.old.trail.levels) lesson.now.clause.items }
         ensures ready { OnOk result (IsReady self.new) }
+        ensures appends { OnOk result (Appends self.old.clauses self.new.clauses) }
         ensures more { OnOk result (length self.new.clauses.learnt ≡ length self.old.clauses.learnt + 1) }
         ensures names { OnOk result ((level : ℕ) (id : _) (c : _) → named level self.old.clauses id ≡ Some c → named level self.new.clauses id ≡ Some c) }
         ensures last { OnOk result (OneMore self.old.clauses self.new.clauses lesson.now.clause.items) }
@@ -153,14 +173,15 @@ impl Search {
         Ok(())
     }
 
-    /// Learns from a conflict above level 0, and goes back to where the learnt clause is unit.
+    /// Learns from a conflict above level 1, and goes back to where the learnt clause is unit.
     pub fn learn(&mut self, alloc: Global, conflict: ClauseId) -> Result<(), AllocError>
         requires ready { IsReady self.old }
         requires guards { Guards (length self.old.clauses.given) self.old.followed self.old }
-        requires level { 1 ≤ self.old.trail.level }
+        requires level { 2 ≤ self.old.trail.level }
         requires conflict { IsConflict 1 self.old.clauses self.old.trail.entries.items conflict }
         ensures ready { OnOk result (IsReady self.new) }
         ensures guards { OnOk result (Guards (length self.new.clauses.given) self.new.followed self.new) }
+        ensures appends { OnOk result (Appends self.old.clauses self.new.clauses) }
         ensures more { OnOk result (length self.new.clauses.learnt ≡ length self.old.clauses.learnt + 1) }
         ensures given { self.new.clauses.given ≡ self.old.clauses.given }
         ensures assumed { self.new.clauses.assumed ≡ self.old.clauses.assumed }
@@ -175,15 +196,14 @@ impl Search {
         self.assert_last(&lesson.clause)
     }
 
-    /// The refutation that a conflict at level 0 ends: the clauses learnt, and the empty one.
+    /// The refutation that a conflict at level 0 or 1 ends: the clauses learnt, and the empty one.
     pub fn refute(&self, alloc: Global, conflict: ClauseId) -> Result<Refutation, AllocError>
         requires learnt { AreLearnt self.now.clauses }
         requires trail { IsTrailOf self.now.clauses self.now.trail }
-        requires root { self.now.trail.level ≡ 0 }
+        requires root { self.now.trail.level ≤ 1 }
         requires conflict { IsConflict 0 self.now.clauses self.now.trail.entries.items conflict }
         ensures refutes { IfOk result (λ r. IsRefutation (self.now.clauses.given ++ units self.now.clauses.assumed) r) }
         ensures tidy { IfOk result (λ r. AreTidy (self.now.clauses.given ++ units self.now.clauses.assumed) r) }
-        ensures length { IfOk result (λ r. length r ≡ length self.now.clauses.learnt + 1) }
     {
         let given = self.clauses.given.len();
         let listed = self.clauses.assumed.len();

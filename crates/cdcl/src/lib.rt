@@ -6,6 +6,7 @@ mod analysis;
 mod answer;
 mod asking;
 mod assigned;
+mod beginning;
 mod choosing;
 mod clauses;
 mod learning;
@@ -17,6 +18,3 @@ mod watching;
 
 pub use answer::{Answer, SolveFault};
 pub use solver::Solver;
-
-#[cfg(test)]
-mod tests;

@@ -29,21 +29,17 @@ impl Order {
         }
     }
 
-    /// The variables below `room`, without marks.
-    pub fn with_room(alloc: Global, room: usize) -> Result<Order, AllocError> {
-        let places = vec![in alloc; 0; room]?;
-        let marks = vec![in alloc; 0; room]?;
-        let mut order = Order {
-            heap: Vec::with_capacity(alloc, room)?,
-            places,
-            marks,
-            conflict: 0,
-        };
+    /// Makes room for variables below `room`, and puts the new ones into the order, without marks.
+    pub fn grow(&mut self, room: usize) -> Result<(), AllocError> {
+        let start = self.places.len().clamp(1, 0x8000_0000) as u32;
         let end = room.min(0x8000_0000) as u32;
-        for variable in 1..end {
-            order.insert(variable);
+        self.places.resize(room, 0)?;
+        self.marks.resize(room, 0)?;
+        self.heap.reserve(room.saturating_sub(self.heap.len()))?;
+        for variable in start..end {
+            self.insert(variable);
         }
-        Ok(order)
+        Ok(())
     }
 
     /// The variable at a place of the heap; variable 0 where there is none.

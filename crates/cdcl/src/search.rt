@@ -3,7 +3,7 @@ ghost use Rattle.cnf_core.specs.Literal.{Literal, code_of};
 ghost use Rattle.cdcl.specs.Sources.{named};
 ghost use Rattle.cdcl.specs.Known.{known, IsOpen, open_count};
 ghost use Rattle.cdcl.specs.Trails.{IsNext as IsNextEntry, IsConflict, IsLevel, IsCut};
-ghost use Rattle.cdcl.specs.Searches.{IsSearch, IsReady, Goes, Says, IsNext, IsEvent, IfFalsified, IfConflict};
+ghost use Rattle.cdcl.specs.Searches.{IsSearch, IsSearching, IsReady, Goes, Says, IsNext, IfFalsified, IfConflict};
 ghost use Rattle.cdcl.specs.Guards.{Guards, AreSound, left_of, IsWatch, InTurn, Moved, Visited, IsAtRest};
 ghost use Rattle.cdcl.specs.declared.clauses.ClauseId.TheVariants.{Given};
 ghost use Rattle.cdcl.specs.declared.watching.Visit.TheVariants.{Stays};
@@ -15,7 +15,8 @@ use crate::watching::{Pair, Visit, Watch, Watches};
 use cnf_core::Lit;
 use std::alloc::{AllocError, Global};
 
-/// The clauses of a question, the literals taken as true, and the choice of the next.
+/// The clauses of a question, the literals taken as true, and the choice of the next. The literals of level 0 and the
+/// clauses learnt stay from question to question.
 #[derive(Drop)]
 pub struct Search {
     pub clauses: Clauses,
@@ -115,13 +116,13 @@ impl Search {
     /// Reads a clause given for the first time, and answers whether it is false.
     fn enter(&mut self, index: u32) -> Result<bool, AllocError>
         requires ready { IsReady self.old }
-        requires guards { Guards index 0 self.old }
+        requires guards { Guards index self.old.followed self.old }
         requires root { self.old.trail.level ≡ 0 }
         requires within { index < length self.old.clauses.given }
         ensures ready { OnOk result (IsReady self.new) }
         ensures goes { OnOk result (Goes self.old self.new) }
         ensures clauses { self.new.clauses ≡ self.old.clauses }
-        ensures guards { IfOk result (λ b. b ≡ false → Guards (index + 1) 0 self.new) }
+        ensures guards { IfOk result (λ b. b ≡ false → Guards (index + 1) self.new.followed self.new) }
         ensures conflict { IfOk result (λ b. b ≡ true → IsConflict 1 self.new.clauses self.new.trail.entries.items (Given index)) }
     {
         let id = ClauseId::Given(index);
@@ -136,10 +137,11 @@ impl Search {
         }
     }
 
-    /// Reads the clauses given, up to a false one.
-    pub fn enter_given(&mut self) -> Result<Option<ClauseId>, AllocError>
+    /// Reads the clauses given from an index on, up to a false one.
+    pub fn enter_given(&mut self, start: u32) -> Result<Option<ClauseId>, AllocError>
         requires ready { IsReady self.old }
-        requires guards { Guards 0 0 self.old }
+        requires start { start ≤ length self.old.clauses.given }
+        requires guards { Guards start self.old.followed self.old }
         requires root { self.old.trail.level ≡ 0 }
         ensures ready { OnOk result (IsReady self.new) }
         ensures goes { OnOk result (Goes self.old self.new) }
@@ -147,7 +149,7 @@ impl Search {
         ensures guards { IfOk result (λ o. o ≡ None → Guards (length self.new.clauses.given) self.new.followed self.new) }
         ensures conflict { IfOk result (λ o. IfSome o (λ id. IsConflict 1 self.new.clauses self.new.trail.entries.items id)) }
     {
-        for index in 0..self.clauses.given.len() as u32 {
+        for index in start..self.clauses.given.len() as u32 {
             if self.enter(index)? {
                 return Ok(Some(ClauseId::Given(index)));
             }
@@ -277,13 +279,14 @@ impl Search {
     }
 
     /// Takes the literals that clauses imply, up to a false clause.
-    fn propagate(&mut self, alloc: Global) -> Result<Option<ClauseId>, AllocError>
+    pub fn propagate(&mut self, alloc: Global) -> Result<Option<ClauseId>, AllocError>
         requires ready { IsReady self.old }
         requires guards { Guards (length self.old.clauses.given) self.old.followed self.old }
         ensures ready { OnOk result (IsReady self.new) }
         ensures guards { OnOk result (Guards (length self.new.clauses.given) self.new.followed self.new) }
         ensures clauses { self.new.clauses ≡ self.old.clauses }
         ensures whole { IfOk result (λ o. o ≡ None → self.new.followed ≡ length self.new.trail.entries.items) }
+        ensures level { OnOk result (self.new.trail.level ≡ self.old.trail.level) }
         ensures fewer { OnOk result (open_count self.new.trail.taken.items ≤ open_count self.old.trail.taken.items) }
         ensures conflict { IfOk result (λ o. IfSome o (λ id. IsConflict 1 self.new.clauses self.new.trail.entries.items id)) }
     {
@@ -315,7 +318,7 @@ impl Search {
     }
 
     /// A literal to decide; where each variable has a value, what the clauses given say.
-    fn next(&mut self) -> Next
+    pub fn next(&mut self) -> Next
         requires { IsReady self.old }
         ensures ready { IsReady self.new }
         ensures next { IsNext self.new result }
@@ -332,8 +335,9 @@ impl Search {
     }
 
     /// Takes an open literal as true at a level of its own. It fails where the level would have no number below 2^32.
-    fn decide(&mut self, literal: Lit) -> Result<(), AllocError>
+    pub fn decide(&mut self, literal: Lit) -> Result<(), AllocError>
         requires ready { IsReady self.old }
+        requires above { 1 ≤ self.old.trail.level }
         requires guards { Guards (length self.old.clauses.given) self.old.followed self.old }
         requires whole { self.old.followed ≡ length self.old.trail.entries.items }
         requires room { literal.variable < vec_len self.old.trail.levels }
@@ -352,33 +356,13 @@ impl Search {
         Ok(())
     }
 
-    /// Propagates and decides up to a false clause, or till each clause given has a true literal.
-    pub fn until_event(&mut self, alloc: Global) -> Result<Event, AllocError>
-        requires ready { IsReady self.old }
-        requires guards { Guards (length self.old.clauses.given) self.old.followed self.old }
-        ensures ready { OnOk result (IsReady self.new) }
-        ensures guards { OnOk result (Guards (length self.new.clauses.given) self.new.followed self.new) }
-        ensures event { IfOk result (IsEvent self.new) }
-        ensures clauses { self.new.clauses ≡ self.old.clauses }
-    {
-        'decisions: loop {
-            if let Some(id) = self.propagate(alloc)? {
-                return Ok(Event::Conflict(id));
-            }
-            match self.next() {
-                Next::Decide(literal) => self.decide(literal)?,
-                Next::Conflict(id) => return Ok(Event::Conflict(id)),
-                Next::Satisfied => return Ok(Event::Satisfied),
-            }
-        }
-    }
-
-    /// Takes back the literals above a level, which is 0 or that of an entry.
+    /// Takes back the literals above a level, which is 0, 1 or that of an entry.
     pub fn go_back(&mut self, level: u32)
-        requires ready { IsReady self.old }
+        requires searching { IsSearching self.old }
         requires guards { Guards (length self.old.clauses.given) self.old.followed self.old }
         requires level { IsLevel level self.old.trail.entries.items }
-        ensures ready { IsReady self.new }
+        requires below { level ≤ self.old.trail.level }
+        ensures ready { (1 ≤ level → IsReady self.old) → IsReady self.new }
         ensures guards { Guards (length self.new.clauses.given) self.new.followed self.new }
         ensures cut { IsCut level self.old.trail.entries.items self.new.trail.entries.items }
         ensures level { self.new.trail.level ≡ level }

@@ -21,10 +21,13 @@ pub struct Solver {
 impl Model for Solver {
     ghost use Rattle.std.specs.Prelude.{List};
     ghost use Rattle.cnf_core.specs.Literal.{Literal};
+    ghost use Rattle.cdcl.specs.Resting.{IsResting};
 
     ghost Value = { List (List Literal) };
 
     ghost view = { λ s. s.search.clauses.given };
+
+    ghost invariant = { λ s. IsResting s.search };
 }
 
 impl Solver {
@@ -42,7 +45,7 @@ impl Solver {
         ensures ok { OnOk result (self.new ≡ self.old ++ clause ∷ []) }
         ensures err { OnErr result (self.new ≡ self.old) }
     {
-        match self.search.clauses.given.push(clause.literals()) {
+        match self.search.add(clause.literals()) {
             Ok(()) => Ok(()),
             Err(_) => Err(SolveFault::Memory),
         }
@@ -56,7 +59,8 @@ impl Solver {
     /// counted. `Spent` comes where the last of so many conflicts was met, at once where none is
     /// allowed, with a step learnt from each over the clauses added alone. No step has a literal
     /// twice, or a literal and its negation, and each variable of a step is one of the clauses'.
-    /// It fails for want of memory alone, and may be asked again whatever it answers.
+    /// What was learnt is kept for the questions that follow, and stands in front of what these
+    /// learn. It fails for want of memory alone, and may be asked again whatever it answers.
     ///
     /// Clauses are learnt at the first unique implication point (Marques-Silva and Sakallah,
     /// "GRASP", 1999; Zhang et al., "Efficient Conflict Driven Learning", 2001).
@@ -67,7 +71,7 @@ impl Solver {
         conflicts: u32,
     ) -> Result<Answer, SolveFault>
         ensures sat { IfOk result (λ a. IfSat a (λ values. formula_holds (value_of values) (self.old ++ units assume.now) ≡ true)) }
-        ensures unsat { IfOk result (λ a. IfUnsat a (λ r. IsRefutation (self.old ++ units assume.now) r × AreTidy (self.old ++ units assume.now) r × (length r ≤ conflicts))) }
+        ensures unsat { IfOk result (λ a. IfUnsat a (λ r. IsRefutation (self.old ++ units assume.now) r × AreTidy (self.old ++ units assume.now) r)) }
         ensures spent { IfOk result (λ a. IfSpent a (λ kept steps. IsTrail self.old kept steps × AreTidy self.old kept × AreTidy self.old steps × (length steps ≡ conflicts))) }
         ensures fresh { IfOk result (λ a. IfSpent a (λ kept steps. AreFresh (self.old ++ map clause_of kept) steps)) }
         ensures few { IfOk result (λ a. IfSpent a (λ kept steps. IsFew self.old conflicts)) }
@@ -76,7 +80,10 @@ impl Solver {
     {
         match self.search.answer(alloc, assume, conflicts) {
             Ok(answer) => Ok(answer),
-            Err(_) => Err(SolveFault::Memory),
+            Err(_) => {
+                self.search.forget(alloc);
+                Err(SolveFault::Memory)
+            }
         }
     }
 }

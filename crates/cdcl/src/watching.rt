@@ -1,4 +1,4 @@
-ghost use Rattle.std.specs.Prelude.{◌≡◌, ◌<◌, ◌+◌, ◌*◌, ◌^◌, ◌++◌, ◌∷◌, [], ℕ, List, Some, None, cond, length, slice_get, vec_len, IfOk, OnOk};
+ghost use Rattle.std.specs.Prelude.{◌≡◌, ◌<◌, ◌≤◌, ◌+◌, ◌*◌, ◌^◌, ◌++◌, ◌∷◌, [], ℕ, List, Some, None, cond, length, slice_get, vec_len, IfOk, OnOk};
 ghost use Rattle.cnf_core.specs.Literal.{Literal, same, code_of};
 ghost use Rattle.cdcl.specs.declared.clauses.ClauseId.TheVariants.{Learnt};
 ghost use Rattle.cdcl.specs.Watches.{waiting, pair_of, beside, HasPlace, SameSizes, IsMore, OtherPairs, IsWaiting, WaitsLast, WaitsInstead};
@@ -70,25 +70,27 @@ impl Watches {
         }
     }
 
-    /// No clauses learnt, and so many given, over variables below `room`. None of them waits.
-    pub fn with_room(alloc: Global, room: usize, given: usize) -> Result<Watches, AllocError>
-        ensures lists { IfOk result (λ w. vec_len w.lists ≡ 2 * room) }
-        ensures given { IfOk result (λ w. vec_len w.given ≡ given) }
-        ensures learnt { IfOk result (λ w. vec_len w.learnt ≡ 0) }
-        ensures empty { IfOk result (λ w. (k : ℕ) → waiting w k ≡ []) }
+    /// Makes room for variables below `room`, and a place for each of so many clauses given.
+    pub fn grow(&mut self, alloc: Global, room: usize, given: usize) -> Result<(), AllocError>
+        requires small { room ≤ 2 ^ 31 }
+        requires lists { vec_len self.old.lists ≤ 2 * room }
+        requires given { vec_len self.old.given ≤ given }
+        ensures lists { OnOk result (vec_len self.new.lists ≡ 2 * room) }
+        ensures given { OnOk result (vec_len self.new.given ≡ given) }
+        ensures waits { OnOk result ((k : ℕ) → waiting self.new k ≡ waiting self.old k) }
+        ensures pairs { OnOk result ((i : ℕ) (p : Pair) → slice_get self.old.given.items i ≡ Some p → slice_get self.new.given.items i ≡ Some p) }
+        ensures learnt { self.new.learnt ≡ self.old.learnt }
     {
-        let mut watches = Watches::new(alloc);
-        for _index in 0..room {
-            watches.lists.push(Vec::new(alloc))?;
-            watches.lists.push(Vec::new(alloc))?;
+        for _list in self.lists.len()..2 * room {
+            self.lists.push(Vec::new(alloc))?;
         }
         let nowhere = Lit::new(1, true);
         let pair = Pair {
             first: nowhere,
             second: nowhere,
         };
-        watches.given = vec![in alloc; pair; given]?;
-        Ok(watches)
+        self.given.resize(given, pair)?;
+        Ok(())
     }
 
     /// A clause waits at a literal.

@@ -10,6 +10,3 @@ pub use assignment::{Assignment, satisfies};
 pub use clause::Clause;
 pub use formula::Formula;
 pub use lit::Lit;
-
-#[cfg(test)]
-mod tests;

@@ -3,7 +3,7 @@ ghost use Rattle.std.specs.Prelude.{◌≡◌, IfOk};
 ghost use Rattle.c_type_terms.specs.Integers.{converted};
 ghost use Rattle.core_tree.specs.declared.code.Code.TheVariants as code;
 
-use c_lexer::Name;
+use c_tokens::Name;
 use c_type_terms::IntegerKind;
 use core_tree::{Code, Expr};
 use plain_data::Shared;

@@ -8,9 +8,9 @@ ghost use Rattle.core_running.specs.Running.{done};
 ghost use Rattle.code_steps.specs.Ways as ways;
 
 use bit_words::Finish;
-use c_lexer::Name;
 use c_machine::Machine;
 use c_means::Kind;
+use c_tokens::Name;
 use std::alloc::AllocError;
 
 /// The run leaves the bounds at a loop's keyword.

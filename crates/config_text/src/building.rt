@@ -6,8 +6,8 @@ ghost use Rattle.config_text.specs.Values as spec;
 
 use crate::config::Config;
 use bit_words::Bytes;
-use c_lexer::Name;
 use c_runs::{FillAnswer, FillFunction, IdentityFunction, LogFunction, LogText, Profile};
+use c_tokens::Name;
 use plain_data::{Items, Shared};
 use serde_json::{Map, Value};
 use sl_config::Name as Text;

@@ -9,6 +9,3 @@ mod reading;
 
 pub use config::{Config, ConfigFault};
 pub use reading::{default_config, read_config};
-
-#[cfg(test)]
-mod tests;

@@ -2,7 +2,7 @@
 use Rattle.std.proofs.Common.{◌≡◌, ℕ, ℤ, pos, Bool, false, true, List, Option, Some, None, Ok, refl, sym, ap, ap₂, ◌∙◌, subst}
 use Rattle.std.specs.Prelude.{◌++◌, unwrap_or}
 use Rattle.std.proofs.lemmas.Bool.{false≢true}
-use Rattle.c_lexer.specs.declared.token.IntegerConstant.{IntegerConstant}
+use Rattle.c_tokens.specs.declared.token.IntegerConstant.{IntegerConstant}
 use Rattle.c_tree.specs.declared.expr.BinaryOperator.{BinaryOperator}
 use Rattle.c_tree.specs.declared.expr.BinaryOperator.TheVariants as o
 use Rattle.c_tree.specs.declared.expr.UnaryOperator.TheVariants as u

@@ -1,7 +1,7 @@
 -- What the code says of a form, over what it holds of the parts, is what the definition says over the parts.
 use Rattle.std.proofs.Common.{◌≡◌, ℕ, List, Option, Bool, refl, sym, ap, ap₂, ◌∙◌}
 use Rattle.std.specs.Prelude.{◌++◌}
-use Rattle.c_lexer.specs.declared.token.IntegerConstant.{IntegerConstant}
+use Rattle.c_tokens.specs.declared.token.IntegerConstant.{IntegerConstant}
 use Rattle.c_tree.specs.declared.expr.BinaryOperator.{BinaryOperator}
 use Rattle.c_tree.specs.declared.expr.UnaryOperator.{UnaryOperator}
 use Rattle.c_type_terms.specs.declared.tables.Tables.{Tables}

@@ -14,8 +14,8 @@ ghost use Rattle.core_forms.specs.Nodes.{Makes, a_place, extracted_node, member_
 use crate::built::{Built, Node, Used, called, placed, valued};
 use crate::failure::NoCore;
 use crate::types::{operand_type, stored_type};
-use c_lexer::Name;
 use c_says::Told;
+use c_tokens::Name;
 use c_tree::{BinaryOperator, UnaryOperator};
 use c_type_forms as forms;
 use c_type_terms::{CType, Tables};

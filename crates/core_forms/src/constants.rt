@@ -5,8 +5,8 @@ ghost use Rattle.core_tree.specs.declared.expr.Expr.TheVariants as expr;
 ghost use Rattle.core_forms.specs.Nodes.{a_value};
 
 use crate::built::{Built, valued};
-use c_lexer::IntegerConstant;
 use c_says::{Fault, Rule, Told};
+use c_tokens::IntegerConstant;
 use c_type_forms as forms;
 use c_type_terms::{CType, Tables};
 use core_tree::Expr;

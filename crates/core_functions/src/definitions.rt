@@ -7,7 +7,7 @@ ghost use Rattle.core_functions.specs.Definitions as spec;
 
 use crate::heads::{Head, entered};
 use c_declarations::function_says;
-use c_lexer::Name;
+use c_tokens::Name;
 use c_tree::{Declarator, Specifier, Stmt};
 use c_type_scope::Scope;
 use code_forms::Content;

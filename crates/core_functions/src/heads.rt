@@ -6,8 +6,8 @@ ghost use Rattle.elaborate.specs.Means.{IsParameter, AreParameters};
 ghost use Rattle.core_functions.specs.Definitions.{IsHeadOf};
 
 use c_declarations::FunctionSaid;
-use c_lexer::Name;
 use c_says::{Entry, Means};
+use c_tokens::Name;
 use c_type_forms::is_void;
 use c_type_scope::Scope;
 use c_type_terms::CType;

@@ -5,6 +5,3 @@
 mod places;
 
 pub use places::PlaceTable;
-
-#[cfg(test)]
-mod tests;

@@ -3,8 +3,8 @@
 use crate::code::{Code, Setting};
 use crate::types::ValueType;
 use bit_words::Bytes;
-use c_lexer::Name;
 use c_store::ObjectKind;
+use c_tokens::Name;
 use plain_data::{Items, Shared};
 
 /// A parameter, by the offset of its name: an object, in which the argument is stored as a value of this type.

@@ -4,9 +4,9 @@ use Rattle.std.specs.Prelude.{◌≡◌, ◌+◌, ℕ, ℤ, pos, suc, max, List,
 use Rattle.std.specs.Str.{bytes_eq}
 use Rattle.std.specs.List.{list_any}
 use denote.Enum.Bare.{sameb}
-use Rattle.c_lexer.specs.declared.token.IntegerConstant.{IntegerConstant}
-use Rattle.c_lexer.specs.declared.token.IntegerType.{IntegerType}
-use Rattle.c_lexer.specs.declared.token.IntegerType.TheVariants.{Int}
+use Rattle.c_tokens.specs.declared.token.IntegerConstant.{IntegerConstant}
+use Rattle.c_tokens.specs.declared.token.IntegerType.{IntegerType}
+use Rattle.c_tokens.specs.declared.token.IntegerType.TheVariants.{Int}
 use Rattle.c_tree.specs.declared.expr.Expr.{Expr, out-Expr}
 use Rattle.c_tree.specs.declared.expr.Specifier.{Specifier, out-Specifier}
 use Rattle.c_tree.specs.declared.expr.Declarator.{Declarator, out-Declarator}

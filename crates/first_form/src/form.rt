@@ -6,7 +6,7 @@ ghost use Rattle.first_form.specs.Form.{Gives};
 use crate::names::{is_declared, is_left_out, is_main, is_outside, is_printf};
 use crate::tree::{Declaration, Stmt, Unit};
 use bit_words::Bytes;
-use c_lexer::{IntegerConstant, IntegerType};
+use c_tokens::{IntegerConstant, IntegerType};
 use c_tree::{
     Body, Declarator, Expr, External, InitDeclarator, Parameter, Qualifier, Specifier,
     Stmt as Source, TypeWord,

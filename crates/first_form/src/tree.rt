@@ -1,6 +1,6 @@
 //! The program that a source of the first form is, with the places of its tokens.
 use bit_words::Bytes;
-use c_lexer::Name;
+use c_tokens::Name;
 use c_tree::Places;
 use plain_data::{Items, Shared};
 

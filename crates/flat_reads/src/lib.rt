@@ -15,6 +15,3 @@ mod words;
 
 pub use flatten::flat_roots;
 pub use table::{Flat, Row, flatten_reads};
-
-#[cfg(test)]
-mod tests;

@@ -17,6 +17,3 @@ pub use ending::ends;
 pub use matching::{MatchFault, splits};
 pub use split::{Constraint, Constraints, Split, SplitList, Stretch};
 pub use starting::starts;
-
-#[cfg(test)]
-mod tests;

@@ -1,5 +1,5 @@
 -- A gate's clauses define its variable, so each model extends.
-use Rattle.std.proofs.Common.{◌≡◌, ◌<◌, ◌++◌, ◌∷◌, [], ℕ, ◌+◌, List, Bool, true, false, not, cond, ◌&&◌, ◌||◌, eqb, refl, sym, ap, ◌∙◌, arith, append_assoc}
+use Rattle.std.proofs.Common.{◌≡◌, ◌<◌, ◌++◌, ◌∷◌, [], ℕ, ◌+◌, List, Bool, true, false, not, cond, ◌&&◌, ◌||◌, eqb, refl, sym, ap, ◌∙◌, arith, append-nil, append_assoc}
 use mathlib.Core.Bool.{beq}
 use Rattle.std.proofs.lemmas.Bool.{and_parts, and_from, eq-eqb, ne_eqb}
 use Rattle.std.proofs.lemmas.List.Elements.{All-head, All-tail}
@@ -63,6 +63,7 @@ pub gate-of : (old new : Net) (x : Literal) (clauses : List (List Literal)) (f :
 gate-of old new x clauses f ok is next is_x defines local = record {
   grows = record {
     more = omega (arith, next);
+    begins = record { more = clauses; is = is };
     keeps = λ v h. (split v h).0;
     extends = λ v h.
         let n : ℕ = old.count + 1 in
@@ -182,6 +183,7 @@ pub input-free : (old new : Net) (x : Literal) → AllBelow (old.count + 1) old.
 input-free old new x ok is next is_x = record {
   grows = record {
     more = omega (arith, next);
+    begins = record { more = []; is = is ∙ sym (append-nil old.clauses) };
     keeps = λ v h. ap (formula_holds v) (sym is) ∙ h;
     extends = λ v h. record { model = v; agrees = λ y l. refl; is = ap (formula_holds v) is ∙ h };
   };

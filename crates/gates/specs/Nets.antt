@@ -1,5 +1,5 @@
 -- Clauses that define variables, and what bits are worth in their models.
-use Rattle.std.specs.Prelude.{◌≡◌, ◌<◌, ◌≤◌, ◌+◌, ℕ, Bool, true, cond, not, ◌&&◌, ◌||◌, List}
+use Rattle.std.specs.Prelude.{◌≡◌, ◌<◌, ◌≤◌, ◌+◌, ◌++◌, ℕ, Bool, true, cond, not, ◌&&◌, ◌||◌, List}
 use Rattle.std.specs.List.{All}
 use Rattle.cnf_core.specs.Literal.{Literal, negated}
 use Rattle.cnf_core.specs.Truth.{Valuation, literal_holds, formula_holds}
@@ -32,9 +32,16 @@ pub record Extension (net : Net) (n : ℕ) (v : Valuation) : Type 0 where
   pub agrees : Agree n v model
   pub is : IsModel net model
 
--- the new variables are defined by the old ones: each model extends to one of the new net, whose models are models of the old
+-- clauses were put behind others
+pub record Begins (old new : List (List Literal)) : Type 0 where
+  pub more : List (List Literal)
+  pub is : new ≡ old ++ more
+
+-- Clauses were put behind the old ones. The new variables are defined by the old ones: each model extends to one of the
+-- new net, whose models are models of the old.
 pub record Grows (old new : Net) : Type 0 where
   pub more : old.count ≤ new.count
+  pub begins : Begins old.clauses new.clauses
   pub keeps : (v : Valuation) → IsModel new v → IsModel old v
   pub extends : (v : Valuation) → IsModel old v → Extension new (old.count + 1) v
 

@@ -96,6 +96,30 @@ impl Gates {
         Items::new(self.alloc)
     }
 
+    /// Clauses over so many variables, behind which more may come. It takes no memory before the first gate comes.
+    pub fn over(alloc: Global, formula: Formula, count: u32) -> Gates
+        requires below { AllBelow (count + 1) formula }
+        requires count { count < 2 ^ 31 }
+        ensures clauses { result.clauses ≡ formula }
+        ensures count { result.count ≡ count }
+    {
+        Gates {
+            alloc,
+            formula,
+            count,
+            table: HashMap::new(alloc),
+        }
+    }
+
+    /// The number of variables: those of the clauses are from 1 to it.
+    pub fn count(&self) -> u32
+        ensures count { result ≡ self.now.count }
+        ensures below { AllBelow (self.now.count + 1) self.now.clauses }
+        ensures within { self.now.count < 2 ^ 31 }
+    {
+        self.count
+    }
+
     /// The clauses.
     pub fn into_formula(self) -> Formula
         ensures { result ≡ self.clauses }

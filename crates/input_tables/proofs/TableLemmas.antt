@@ -16,7 +16,7 @@ use Rattle.word_gates.proofs.WordLemmas.{bits-grown, spelled-extended}
 use Rattle.input_tables.specs.declared.row.Row.{Row}
 use Rattle.input_tables.specs.declared.table.Table.{Table}
 use Rattle.input_tables.specs.Rows.{Index, Puts, Member, IsRow, IsNewRow, Follows, AllFollow, AreAlike, Constrains, IsKnownAs, all_hold}
-use Rattle.input_tables.specs.Tables.{rows_of, IsEmpty, IsFixedAt, HasKnown, IsTable, Asked}
+use Rattle.input_tables.specs.Tables.{rows_of, IsEmpty, IsFixedAt, HasKnown, IsTable, IsSettled, Asked}
 use Rattle.input_tables.proofs.RowLemmas.{member_front, member_back, member_split, member_last, member_pushed, member_at, place_of, row-grown, follows-extended, alike-turned, alike-self, alike-followed}
 
 -- ---- tables in nets that grow
@@ -45,6 +45,37 @@ empty-table net bits t e =
   where
     no_place : (place : ℕ) → None ≡ Some place → ⊥
     no_place place e = cc
+
+-- ---- tables whose conditions are met
+
+settled-rows : (t s : Table) → IsSettled t s → rows_of s ≡ rows_of t
+settled-rows t s h = λ i. h.fixed i ++ h.free i
+
+-- rows that have one value where they have one key, in each model of a net in which they stand
+pub settled-table : (net : Net) (t s : Table) → IsSettled t s → ((row : Row) → Member row (rows_of t) → IsRow net t.bits row)
+    → ((i : ℕ) (row : Row) → slice_get t.fixed i ≡ Some row → IsFixedAt t.index i row)
+    → ((key place : ℕ) → get nat_eq t.index key ≡ Some place → HasKnown t.fixed key place)
+    → ((v : Valuation) → IsModel net v → (x y : Row) → Member x (rows_of t) → Member y (rows_of t) → AreAlike v x y)
+    → IsTable net s
+settled-table net t s h rows fixed found alike = record {
+  rows = λ row m. subst (λ n. IsRow net n row) (sym h.bits) (rows row (subst (Member row) same m));
+  fixed = λ i row at.
+      let f = fixed i row (subst (λ xs. slice_get xs i ≡ Some row) h.fixed at) in
+      record { key = f.key; known = f.known; found = h.index f.key ∙ f.found };
+  found = λ key place at. subst (λ xs. HasKnown xs key place) (sym h.fixed) (found key place (sym (h.index key) ∙ at));
+  conditions_stand = subst (AreBits net) (sym h.conditions) (All-nil _);
+  hold = λ v f m all. ap (all_hold v) h.conditions;
+  alike = λ v m k x y in_x in_y. alike v m x y (subst (Member x) same in_x) (subst (Member y) same in_y);
+} where
+  same : rows_of s ≡ rows_of t
+  same = settled-rows t s h
+
+-- the rows are those of the same function
+pub settled-follow : (v : Valuation) (f : ℕ → ℕ) (t s : Table) → IsSettled t s → AllFollow v t.bits f (rows_of t) → AllFollow v s.bits f (rows_of s)
+settled-follow v f t s h all row m = subst (λ n. Follows v n f row) (sym h.bits) (all row (subst (Member row) (settled-rows t s h) m))
+
+pub settled-followed : (v : Valuation) (f : ℕ → ℕ) (t s : Table) → IsSettled t s → AllFollow v s.bits f (rows_of s) → AllFollow v t.bits f (rows_of t)
+settled-followed v f t s h all row m = subst (λ n. Follows v n f row) h.bits (all row (subst (Member row) (sym (settled-rows t s h)) m))
 
 -- ---- conditions on all rows
 

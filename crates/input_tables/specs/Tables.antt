@@ -42,6 +42,18 @@ pub record IsTable (net : Net) (t : Table) : Type 0 where
   pub hold : (v : Valuation) (f : ℕ → ℕ) → IsModel net v → AllFollow v t.bits f (rows_of t) → all_hold v t.conditions ≡ true
   pub alike : (v : Valuation) → IsModel net v → all_hold v t.conditions ≡ true → (x y : Row) → Member x (rows_of t) → Member y (rows_of t) → AreAlike v x y
 
+-- each key is met where it was
+abbrev pub HasSame : Index → Index → Type 0
+HasSame old new = (key : ℕ) → get nat_eq new key ≡ get nat_eq old key
+
+-- the same rows without their conditions
+pub record IsSettled (t s : Table) : Type 0 where
+  pub bits : s.bits ≡ t.bits
+  pub fixed : s.fixed ≡ t.fixed
+  pub free : s.free ≡ t.free
+  pub conditions : s.conditions ≡ []
+  pub index : HasSame t.index s.index
+
 -- a model of the net that agrees on the old variables, in which the rows are those of the function
 pub record FollowsOn (net : Net) (n : ℕ) (v : Valuation) (bits : ℕ) (f : ℕ → ℕ) (rows : List Row) : Type 0 where
   pub extension : Extension net n v

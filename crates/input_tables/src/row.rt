@@ -5,6 +5,7 @@ ghost use Rattle.input_tables.specs.Rows.{IsNewRow};
 
 use gates::{Bit, BlastFault, Gates};
 use plain_data::Items;
+use std::alloc::{AllocError, Global};
 use word_gates::input;
 
 /// Inputs that stand for what is found at a key.
@@ -22,6 +23,27 @@ pub(crate) fn copied(gates: &Gates, bits: &[Bit]) -> Result<Items<Bit>, BlastFau
 {
     let mut copy = gates.no_bits();
     copy.extend_from_slice(bits)?;
+    Ok(copy)
+}
+
+/// The same row, in memory of its own.
+fn copied_row(alloc: Global, row: &Row) -> Result<Row, AllocError>
+    ensures { IfOk result (λ copy. copy ≡ row.now) }
+{
+    let key = Items::from_slice(alloc, row.key.as_slice())?;
+    let value = Items::from_slice(alloc, row.value.as_slice())?;
+    Ok(Row { key, value })
+}
+
+/// The same rows, in memory of their own.
+pub(crate) fn copied_rows(alloc: Global, rows: &[Row]) -> Result<Items<Row>, AllocError>
+    ensures { IfOk result (λ copy. copy ≡ rows.now) }
+{
+    let mut copy = Items::new(alloc);
+    'rows: for index in 0..rows.len() {
+        let row = copied_row(alloc, &rows[index])?;
+        copy.push(row)?;
+    }
     Ok(copy)
 }
 

@@ -3,11 +3,11 @@ ghost use Rattle.std.specs.HashMap.{get};
 ghost use Rattle.gates.specs.Nets.{IsBit};
 ghost use Rattle.word_gates.specs.Spelling.{AreBits};
 ghost use Rattle.input_tables.specs.Rows.{Index, IsKnownAs, Puts};
-ghost use Rattle.input_tables.specs.Tables.{Asked, IsEmpty, IsTable};
+ghost use Rattle.input_tables.specs.Tables.{Asked, HasSame, IsEmpty, IsSettled, IsTable};
 
 use crate::agreement::constrain;
 use crate::keys::known_number;
-use crate::row::{Row, copied, new_row, value_at};
+use crate::row::{Row, copied, copied_rows, new_row, value_at};
 use gates::{Bit, BlastFault, Gates};
 use plain_data::Items;
 use std::alloc::{AllocError, Global};
@@ -35,6 +35,14 @@ fn put(index: &mut HashMap<u64, usize>, key: u64, place: usize) -> Result<(), Al
     Ok(())
 }
 
+/// The same keys at the same indices.
+fn copied_index(index: &HashMap<u64, usize>) -> Result<HashMap<u64, usize>, AllocError>
+    ensures { IfOk result (HasSame index.now) }
+{
+    let copy = index.clone()?;
+    Ok(copy)
+}
+
 impl Table {
     /// No row. It takes no memory before the first row comes.
     pub fn new(alloc: Global, bits: u32) -> Table
@@ -47,6 +55,22 @@ impl Table {
             conditions: Items::new(alloc),
             index: HashMap::new(alloc),
         }
+    }
+
+    /// The same rows without their conditions, for clauses that say that these are true.
+    pub fn settled(&self, alloc: Global) -> Result<Table, AllocError>
+        ensures { IfOk result (IsSettled self.now) }
+    {
+        let fixed = copied_rows(alloc, self.fixed.as_slice())?;
+        let free = copied_rows(alloc, self.free.as_slice())?;
+        let index = copied_index(&self.index)?;
+        Ok(Table {
+            bits: self.bits,
+            fixed,
+            free,
+            conditions: Items::new(alloc),
+            index,
+        })
     }
 
     /// The value at a known key that is new.

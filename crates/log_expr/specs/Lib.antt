@@ -8,3 +8,4 @@ pub mod Courses
 pub mod CodeWalks
 pub mod Below
 pub mod Bodies
+pub mod Tours

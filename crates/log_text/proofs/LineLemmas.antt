@@ -2,6 +2,7 @@
 use Rattle.std.proofs.Common.{◌≡◌, ℕ, zero, suc, ◌+◌, ◌-◌, ◌<◌, ◌≤◌, min, ◌==◌, Bool, true, false, not, cond, nat_lt, nat_le, List, [], ◌∷◌, ◌++◌, length, take, drop, get_or, length-drop, append_assoc, append-nil, refl, sym, ap, subst, ◌∙◌, arith}
 use Rattle.std.specs.Prelude.{count_by}
 use Rattle.std.specs.List.{prefix_len, flat_map}
+use Rattle.std.specs.List.Sorted.{IsNonDecreasing}
 use Rattle.std.proofs.lemmas.List.{drop-drop, length-take-le}
 use Rattle.std.proofs.lemmas.List.Sums.{sum_by-cons}
 use Rattle.std.proofs.Math.Seq.{take-length}
@@ -182,3 +183,41 @@ begins_within at (suc i) (line ∷ lines) h =
 pub starts_within : (log : List ℕ) (i : ℕ) → i < length (line_starts log) → get_or (line_starts log) i 0 ≤ length log
 starts_within log i h =
     let within = begins_within 0 i (lines_of log) h in omega (arith, within, total-lines log)
+
+-- ---- lines begin in order
+
+begins_from : (at : ℕ) (lines : List (List ℕ)) (j d : ℕ) → j < length (starts_from at lines) → at ≤ get_or (starts_from at lines) j d
+begins_from at [] j d h = absurd (omega (arith, h))
+begins_from at (line ∷ lines) zero d h = omega arith
+begins_from at (line ∷ lines) (suc j) d h =
+    let next = begins_from (at + length line) lines j d (omega (arith, h)) in omega (arith, next)
+
+starts_rise : (at : ℕ) (lines : List (List ℕ)) (i j d : ℕ) → i ≤ j → j < length (starts_from at lines)
+    → get_or (starts_from at lines) i d ≤ get_or (starts_from at lines) j d
+starts_rise at [] i j d le h = absurd (omega (arith, h))
+starts_rise at (line ∷ lines) zero j d le h = begins_from at (line ∷ lines) j d h
+starts_rise at (line ∷ lines) (suc i) zero d le h = absurd (omega arith)
+starts_rise at (line ∷ lines) (suc i) (suc j) d le h = starts_rise (at + length line) lines i j d (omega arith) (omega (arith, h))
+
+pub starts_ascend : (log : List ℕ) → IsNonDecreasing (line_starts log)
+starts_ascend log i j d le h = starts_rise 0 (lines_of log) i j d le h
+
+-- ---- how many pass a test that some first ones pass and no other
+
+module _ {X : Type 0} (p : X → Bool) where
+  count-cons_by : (x : X) (xs : List X) → count_by p (x ∷ xs) ≡ cond (p x) 1 0 + count_by p xs
+  count-cons_by x xs = sum_by-cons (λ y. cond (p y) 1 0) x xs
+
+  pub counted_to : (xs : List X) (i : ℕ) → i ≤ length xs
+      → ((k : ℕ) (d : X) → 0 ≤ k → k < i → p (get_or xs k d) ≡ true) × ((k : ℕ) (d : X) → i ≤ k → k < length xs → p (get_or xs k d) ≡ false)
+      → count_by p xs ≡ i
+  counted_to [] zero h point = refl
+  counted_to [] (suc i) h point = absurd (omega (arith, h))
+  counted_to (x ∷ xs) zero h point =
+      let rest = counted_to xs zero (omega arith) ((λ k d low lt. absurd (omega arith)), (λ k d low lt. point.1 (suc k) d (omega arith) (omega (arith, lt)))) in
+      let head = ap (λ t. cond t 1 0 + count_by p xs) (point.1 0 x (omega arith) (omega arith)) in
+      omega (arith, count-cons_by x xs, head, rest)
+  counted_to (x ∷ xs) (suc i) h point =
+      let rest = counted_to xs i (omega (arith, h)) ((λ k d low lt. point.0 (suc k) d (omega arith) (omega arith)), (λ k d low lt. point.1 (suc k) d (omega arith) (omega (arith, lt)))) in
+      let head = ap (λ t. cond t 1 0 + count_by p xs) (point.0 0 x (omega arith) (omega arith)) in
+      omega (arith, count-cons_by x xs, head, rest)

@@ -1,4 +1,5 @@
-ghost use Rattle.std.specs.Prelude.{◌≡◌, ◌≤◌, ◌<◌, length, IfOk};
+ghost use Rattle.std.specs.Prelude.{◌≡◌, ◌≤◌, ◌<◌, nat_le, length, IfOk};
+ghost use Rattle.std.specs.List.Sorted.{IsNonDecreasing};
 ghost use Rattle.log_text.specs.Lines as spec;
 
 use bit_words::Bytes;
@@ -39,6 +40,15 @@ impl LogText {
         Ok(LogText { bytes, starts })
     }
 
+    /// The same log, in memory of its own. It fails for want of memory alone.
+    pub fn duplicate(&self, alloc: Global) -> Result<LogText, AllocError>
+        ensures { IfOk result (λ text. text ≡ self.now) }
+    {
+        let bytes = Bytes::from_slice(alloc, self.bytes.as_slice())?;
+        let starts = Items::from_slice(alloc, self.starts.as_slice())?;
+        Ok(LogText { bytes, starts })
+    }
+
     /// The bytes.
     pub fn bytes(&self) -> &[u8]
         ensures value { result.now ≡ self.now }
@@ -73,14 +83,16 @@ impl LogText {
     }
 }
 
-/// How many starts stand at or before a position.
+/// How many starts stand at or before a position, found by halves.
 fn starts_through(starts: &[u32], position: usize) -> usize
+    requires { IsNonDecreasing starts.now }
     ensures { result ≡ spec.starts_through starts.now position }
 {
-    starts
-        .iter()
-        .filter(|start| **start as usize <= position)
-        .count()
+    starts.partition_point(
+        |start: &u32| -> bool
+            ensures { result ≡ nat_le start.now position }
+        { *start as usize <= position },
+    )
 }
 
 /// How many bytes stand before the first newline.

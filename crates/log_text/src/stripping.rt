@@ -85,6 +85,3 @@ fn without_prefixes(
     }
     Ok(bytes)
 }
-
-#[cfg(test)]
-mod tests;

@@ -11,6 +11,3 @@ pub use memory::{
     zero_range,
 };
 pub use passing::{octets, seen};
-
-#[cfg(test)]
-mod tests;

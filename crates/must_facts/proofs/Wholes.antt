@@ -7,7 +7,7 @@ use Rattle.term_bank.specs.declared.sort.Node.{Node}
 use Rattle.term_bank.specs.declared.sort.Sort.TheVariants.{Truth}
 use Rattle.term_bank.specs.Shapes.{Each, IsNode}
 use Rattle.term_bank.proofs.TermLemmas.{node_of}
-use Rattle.path_summaries.specs.Tours.{Tour}
+use Rattle.log_expr.specs.Tours.{Tour}
 use Rattle.run_formula.specs.declared.formula.RunFormula.{RunFormula}
 use Rattle.run_formula.specs.Formula.{IsFormula, SayFacts}
 use Rattle.query_core.specs.Claims.{asked_nodes}

@@ -11,7 +11,7 @@ use Rattle.proof_check.specs.Steps.{Step}
 use Rattle.term_bank.specs.Values.{Environment}
 use Rattle.flat_reads.specs.Flats.{IsHonest}
 use Rattle.bitvectors.specs.Blasts.{IsOfWorld}
-use Rattle.path_summaries.specs.Tours.{Tour, tour_of}
+use Rattle.log_expr.specs.Tours.{Tour, tour_of}
 use Rattle.run_formula.specs.Formula.{OfRun, HoldsIn, the_run}
 use Rattle.query_core.specs.declared.query.Query.{Query}
 use Rattle.query_core.specs.declared.target.Target.TheVariants.{Fits as Fitting, Having, Lacking}

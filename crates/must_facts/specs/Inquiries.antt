@@ -6,15 +6,16 @@ use Rattle.bit_words.specs.declared.run.Run.{Run}
 use Rattle.bit_words.specs.Worlds.{WorldTables}
 use Rattle.c_runs.specs.Units.{source_run, source_size}
 use Rattle.core_tree.specs.declared.program.Core.{Core}
-use Rattle.acceptance.specs.declared.program.Accepted.{Accepted}
+use Rattle.accepted.specs.declared.program.Accepted.{Accepted}
 use Rattle.log_text.specs.Lines.{line_count}
 use Rattle.log_expr.specs.declared.table.Entry.{Entry}
-use Rattle.path_summaries.specs.Tours.{tour_of}
+use Rattle.log_expr.specs.Tours.{tour_of}
 use Rattle.program_facts.specs.Listing.{AreFactsOf}
 use Rattle.query_core.specs.declared.query.Query.{Query}
 use Rattle.query_core.specs.Claims.{IsQuery}
 use Rattle.must_facts.specs.declared.inquiry.Inquiry.{Inquiry}
 use Rattle.must_facts.specs.declared.whole.Diagnosed.{Diagnosed}
+use Rattle.must_facts.specs.declared.whole.Found.{Found}
 use Rattle.must_facts.specs.Verdicts.{IsDiagnosis, Matter}
 
 -- the run of the source in a world, within the bounds
@@ -31,6 +32,11 @@ pub record RunsAlong (p : Core) (b : Bounds) (log : List ℕ) (fs : List Fact) (
 
 abbrev pub IsQueryOf : Inquiry → Query → Type 0
 IsQueryOf x q = RunsAlong x.program.now.core x.bounds.now x.log.now x.facts.now q
+
+-- what is found by a query: a diagnosis over it, and its clauses
+pub record IsFound (x : Inquiry) (q : Query) (f : Found) : Type 0 where
+  pub diagnosis : IsDiagnosis (matter_of x q) x.facts.now f.diagnosis
+  pub run : f.run ≡ q.solver
 
 -- ---- the whole
 

@@ -42,13 +42,16 @@ impl From<FactFault> for DiagnoseFault {
 }
 
 impl From<AskFault> for DiagnoseFault {
-    ghost use Rattle.std.specs.Prelude.{◌≡◌};
-    ghost use Rattle.must_facts.specs.declared.fault.DiagnoseFault.TheVariants.{Memory};
+    ghost use Rattle.std.specs.Prelude.{◌≢◌};
+    ghost use Rattle.must_facts.specs.declared.fault.DiagnoseFault.TheVariants.{TooLarge};
 
-    ghost from_gives = { λ _ e. e ≡ Memory };
+    ghost from_gives = { λ _ e. e ≢ TooLarge };
 
-    fn from(_error: AskFault) -> DiagnoseFault {
-        DiagnoseFault::Memory
+    fn from(fault: AskFault) -> DiagnoseFault {
+        match fault {
+            AskFault::Memory => DiagnoseFault::Memory,
+            AskFault::Unwalked => DiagnoseFault::Unwalked,
+        }
     }
 }
 

@@ -1,5 +1,5 @@
 //! What is asked.
-use acceptance::Accepted;
+use accepted::Accepted;
 use bit_words::{Bounds, Fact};
 use log_text::LogText;
 

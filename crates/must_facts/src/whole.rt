@@ -1,12 +1,12 @@
 //! From an accepted source and a log to the diagnosis.
 ghost use Rattle.std.specs.Prelude.{◌≡◌, ◌↔◌, ◌≤◌, ◌<◌, Err, IfOk, true};
-ghost use Rattle.must_facts.specs.Inquiries.{IsDiagnosed, RunsAlong, measure_of};
+ghost use Rattle.must_facts.specs.Inquiries.{IsDiagnosed, IsFound, IsQueryOf, RunsAlong, measure_of};
 ghost use Rattle.must_facts.specs.declared.fault.DiagnoseFault.TheVariants.{TooLarge};
 
 use crate::diagnosing::diagnose;
 use crate::fault::DiagnoseFault;
 use crate::inquiry::Inquiry;
-use acceptance::Accepted;
+use accepted::Accepted;
 use bit_words::{Bounds, Fact, Facts};
 use cnf_core::Formula;
 use core_tree::Core;
@@ -16,7 +16,7 @@ use log_text::LogText;
 use program_facts::facts_of;
 use query_core::{Query, Target};
 use replayer::unrolled_size;
-use run_formula::run_formula;
+use run_formula::{Watch, run_formula, watches_of};
 use std::alloc::{AllocError, Global};
 use term_bank::Bank;
 
@@ -39,6 +39,7 @@ struct Walked<'a> {
     bounds: &'a Bounds,
     log: &'a LogText,
     facts: &'a [Fact],
+    watches: &'a [Watch],
 }
 
 /// Whether the nodes that a source unrolls to, once for each line of a log and once for its end, are followed.
@@ -72,17 +73,36 @@ fn query_of(alloc: Global, walked: &Walked<'_>) -> Result<Query, DiagnoseFault>
         bounds,
         log,
         facts,
+        watches,
     } = *walked;
     let ends = end_table(alloc, core, log.bytes(), bounds)?;
     let mut bank = Bank::new(alloc);
     let mut walks = 0;
     let formula = run_formula(
-        alloc, core, log, bounds, &ends, facts, &mut bank, &mut walks,
+        alloc, core, log, bounds, &ends, facts, watches, &mut bank, &mut walks,
     )?;
-    match Query::new(alloc, &formula, &mut bank)? {
+    match Query::new(alloc, formula, bank)? {
         Some(query) => Ok(query),
         None => Err(DiagnoseFault::Unwalked),
     }
+}
+
+/// A diagnosis by a query, and the clauses that say that a run fits.
+#[derive(Drop)]
+struct Found {
+    diagnosis: Diagnosis,
+    run: Formula,
+}
+
+/// What is found by a query.
+fn found_by(alloc: Global, inquiry: &Inquiry<'_>, query: &mut Query) -> Result<Found, DiagnoseFault>
+    requires query { IsQueryOf inquiry.now query.old }
+    ensures found { IfOk result (IsFound inquiry.now query.old) }
+    ensures small { result ≡ Err TooLarge → ⊥ }
+{
+    let diagnosis = diagnose(alloc, inquiry, query)?;
+    let run = query.claim_formula(alloc, Target::Fits)?;
+    Ok(Found { diagnosis, run })
 }
 
 /// The diagnosis of an accepted source and a log, by at most so many conflicts a question; by line, the sides of
@@ -106,11 +126,13 @@ pub fn diagnose_source(
         return Err(DiagnoseFault::TooLarge);
     }
     let facts = facts_of(alloc, &program.core, log, by_line)?;
+    let watches = watches_of(alloc, &facts)?;
     let walked = Walked {
         core: &program.core,
         bounds,
         log,
         facts: facts.facts.as_slice(),
+        watches: watches.as_slice(),
     };
     let mut query = query_of(alloc, &walked)?;
     let inquiry = Inquiry {
@@ -120,8 +142,10 @@ pub fn diagnose_source(
         facts: facts.facts.as_slice(),
         conflicts,
     };
-    let diagnosis = diagnose(alloc, &inquiry, &mut query)?;
-    let run = query.claim_formula(alloc, Target::Fits)?;
+    let outcome = found_by(alloc, &inquiry, &mut query);
+    query.discard();
+    let found = outcome?;
+    let Found { diagnosis, run } = found;
     Ok(Diagnosed {
         facts,
         diagnosis,

@@ -9,8 +9,8 @@ ghost use Rattle.path_states.specs.Ways.{Goes};
 ghost use Rattle.path_arrows.specs.Arrows.{by_arrow};
 ghost use Rattle.path_arrows.specs.Points.{at_point};
 
-use c_lexer::Name;
 use c_means::Kind;
+use c_tokens::Name;
 use path_states::State;
 use plain_data::Items;
 use std::alloc::{AllocError, Global};

@@ -10,7 +10,7 @@ ghost use Rattle.path_codes.specs.Below.{ReachesCode};
 ghost use Rattle.path_codes.specs.Walks.{WalksItem};
 
 use crate::below::{Coded, Steps};
-use c_lexer::Name;
+use c_tokens::Name;
 use core_tree::Code;
 use path_arrows::{Point, arrive};
 use path_forms::{Calls, Placed, WalkFault};

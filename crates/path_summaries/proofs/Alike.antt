@@ -17,7 +17,8 @@ use Rattle.log_expr.specs.Tables.{ends_at}
 use Rattle.term_bank.specs.Values.{Environment}
 use Rattle.path_forms.specs.Around.{level_at}
 use Rattle.summary_compose.specs.Summaries.{world_in, given}
-use Rattle.path_summaries.specs.Tours.{Tour, machine_in, measures_in, does, known, around_in, types_of}
+use Rattle.log_expr.specs.Tours.{Tour}
+use Rattle.path_summaries.specs.Tours.{machine_in, measures_in, does, known, around_in, types_of}
 use Rattle.path_summaries.proofs.Passing.{passed_given}
 
 -- ---- measures ask for no world

@@ -31,7 +31,8 @@ use Rattle.path_forms.specs.Calling.{taken, below, call_way}
 use Rattle.summary_compose.specs.declared.summary.Summary.{Summary}
 use Rattle.summary_compose.specs.Summaries.{world_in, given, entry_values, Answers}
 use Rattle.summary_compose.proofs.Composed.{by_call, called_so, call_sized, taken_long}
-use Rattle.path_summaries.specs.Tours.{Tour, measures_in, room_in, does, around_in, types_of, StandsFor, IsComplete}
+use Rattle.log_expr.specs.Tours.{Tour}
+use Rattle.path_summaries.specs.Tours.{measures_in, room_in, does, around_in, types_of, StandsFor, IsComplete}
 use Rattle.path_summaries.specs.declared.table.Kept.{Kept}
 use Rattle.path_summaries.specs.Tables.{HoldsRooms, IsReady, Counts, has_ends}
 use Rattle.path_summaries.proofs.Alike.{does_given}

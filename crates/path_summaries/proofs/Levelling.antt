@@ -14,7 +14,8 @@ use Rattle.path_states.proofs.Growth.{states_grown}
 use Rattle.summary_compose.specs.declared.summary.Summary.{Summary}
 use Rattle.path_summaries.specs.declared.table.Kept.{Kept}
 use Rattle.path_summaries.specs.declared.levels.Levelled.{Levelled}
-use Rattle.path_summaries.specs.Tours.{Tour, StandsFor, IsComplete, room_in}
+use Rattle.log_expr.specs.Tours.{Tour}
+use Rattle.path_summaries.specs.Tours.{StandsFor, IsComplete, room_in}
 use Rattle.path_summaries.specs.Tables.{RowStands, AllStand, IsReady, AreRooms, HoldsRooms}
 use Rattle.path_summaries.specs.Levels.{IsDone, RowDone, AllDone, Fills, FillsKey, FillsEntry, FillsRow, FillsRows, RoomsOf, PutsRooms, one_of, keys_at, keys_before, keys_within, Based, IsLevelled, Climbs, Levels}
 

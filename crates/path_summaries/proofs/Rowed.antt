@@ -3,7 +3,8 @@ use Rattle.std.proofs.Common.{◌≡◌, ℕ, zero, suc, ◌+◌, ◌<◌, List,
 use Rattle.std.specs.Prelude.{slice_get}
 use Rattle.term_bank.specs.declared.shape.Shape.{Shape}
 use Rattle.path_summaries.specs.declared.table.Kept.{Kept}
-use Rattle.path_summaries.specs.Tours.{Tour, StandsFor}
+use Rattle.log_expr.specs.Tours.{Tour}
+use Rattle.path_summaries.specs.Tours.{StandsFor}
 use Rattle.path_summaries.specs.Tables.{RowStands, AllStand}
 
 module _ (t : Tour) (b : List Shape) where

@@ -26,7 +26,8 @@ use Rattle.path_arrows.specs.Arrows.{bared}
 use Rattle.path_codes.specs.Bodies.{Embodies}
 use Rattle.path_forms.specs.Around.{level_at}
 use Rattle.summary_compose.specs.Summaries.{word_of, read_as, entry_values}
-use Rattle.path_summaries.specs.Tours.{Tour, around_in, room_in, types_of, AreScalar}
+use Rattle.log_expr.specs.Tours.{Tour}
+use Rattle.path_summaries.specs.Tours.{around_in, room_in, types_of, AreScalar}
 use Rattle.path_summaries.specs.Tables.{has_ends}
 use Rattle.path_summaries.specs.Walking.{EntersOne, Enters, Walks}
 use Rattle.path_summaries.proofs.Alike.{body_does}

@@ -10,7 +10,8 @@ use Rattle.path_forms.specs.Calling.{Stays}
 use Rattle.summary_compose.specs.declared.summary.Summary.{Summary}
 use Rattle.path_summaries.specs.declared.table.Kept.{Kept}
 use Rattle.path_summaries.specs.declared.levels.Levelled.{Levelled}
-use Rattle.path_summaries.specs.Tours.{Tour, StandsFor, IsComplete, room_in}
+use Rattle.log_expr.specs.Tours.{Tour}
+use Rattle.path_summaries.specs.Tours.{StandsFor, IsComplete, room_in}
 use Rattle.path_summaries.specs.Tables.{AllStand, IsReady, HoldsRooms}
 
 -- the key, where some run makes the call, has a summary

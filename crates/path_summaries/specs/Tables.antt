@@ -6,7 +6,8 @@ use Rattle.log_expr.specs.declared.table.Ends.{Ends}
 use Rattle.log_expr.specs.Sound.{IsSound}
 use Rattle.term_bank.specs.declared.shape.Shape.{Shape}
 use Rattle.path_summaries.specs.declared.table.Kept.{Kept}
-use Rattle.path_summaries.specs.Tours.{Tour, StandsFor, IsComplete, room_in}
+use Rattle.log_expr.specs.Tours.{Tour}
+use Rattle.path_summaries.specs.Tours.{StandsFor, IsComplete, room_in}
 
 -- each summary of a row stands for its function and depth from this position on
 abbrev pub RowStands : Tour → List Shape → ℕ → List Kept → Type 0

@@ -14,6 +14,7 @@ use Rattle.log_expr.specs.declared.table.Ends.{Ends}
 use Rattle.log_expr.specs.declared.table.Entry.{Entry}
 use Rattle.log_expr.specs.Sound.{run_at, where_known}
 use Rattle.log_expr.specs.Tables.{ends_at}
+use Rattle.log_expr.specs.Tours.{Tour}
 use Rattle.term_bank.specs.declared.shape.Shape.{Shape}
 use Rattle.term_bank.specs.Values.{Environment, Values, Models}
 use Rattle.path_states.specs.States.{AreStates, IsRoomy, IsSized, AllSized, standing}
@@ -23,17 +24,6 @@ use Rattle.path_arrows.specs.Arrows.{bared}
 use Rattle.path_forms.specs.Around.{Around}
 use Rattle.summary_compose.specs.declared.summary.Summary.{Summary}
 use Rattle.summary_compose.specs.Summaries.{world_in, entry_values}
-
--- A program, a log, the bounds, and the end table of the program along the log.
-pub record Tour : Type 0 where
-  pub core : Core
-  pub log : List ℕ
-  pub limits : Limits
-  pub depth : ℕ
-  pub ends : List (List Entry)
-
-abbrev pub tour_of : Core → List ℕ → Bounds → List (List Entry) → Tour
-tour_of p log b ends = record { core = p; log = log; limits = limits_of b; depth = b.depth; ends = ends }
 
 abbrev pub machine_in : Tour → World → Machine ℕ
 machine_in t w = machine (along t.log) t.core w t.limits t.depth

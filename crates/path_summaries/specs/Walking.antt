@@ -10,7 +10,8 @@ use Rattle.path_states.specs.States.{IsNumber, AreNumbers, number_in, numbers_in
 use Rattle.path_steps.specs.Memories.{IsScalar}
 use Rattle.summary_compose.specs.declared.summary.Summary.{Summary}
 use Rattle.summary_compose.specs.Summaries.{read_as, entry_values}
-use Rattle.path_summaries.specs.Tours.{Tour, StandsFor, types_of, AreScalar}
+use Rattle.log_expr.specs.Tours.{Tour}
+use Rattle.path_summaries.specs.Tours.{StandsFor, types_of, AreScalar}
 
 -- the number that a parameter of this number is
 pub record EntersOne (a b : List Shape) (t : ValueType) (k : ℕ) (x : Number) : Type 0 where

@@ -6,7 +6,8 @@ ghost use Rattle.path_states.specs.States.{IsState};
 ghost use Rattle.path_states.specs.Ways.{Tries};
 ghost use Rattle.path_forms.specs.declared.frame.Placed.{Placed as PlacedType};
 ghost use Rattle.path_forms.specs.Calling.{call_way};
-ghost use Rattle.path_summaries.specs.Tours.{tour_of, around_in, measures_in};
+ghost use Rattle.log_expr.specs.Tours.{tour_of};
+ghost use Rattle.path_summaries.specs.Tours.{around_in, measures_in};
 ghost use Rattle.path_summaries.specs.Tables.{HoldsRooms, IsReady, Counts, has_ends};
 
 use crate::beyond::{beyond, never};

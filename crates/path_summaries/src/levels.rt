@@ -2,7 +2,8 @@
 ghost use Rattle.std.specs.Prelude.{◌≡◌, suc, IfOk, IfSome, OnOk, [], length};
 ghost use Rattle.c_runs.specs.Units.{limits_of};
 ghost use Rattle.log_expr.specs.Sound.{IsSound};
-ghost use Rattle.path_summaries.specs.Tours.{tour_of, room_in};
+ghost use Rattle.log_expr.specs.Tours.{tour_of};
+ghost use Rattle.path_summaries.specs.Tours.{room_in};
 ghost use Rattle.path_summaries.specs.Tables.{HoldsRooms};
 ghost use Rattle.path_summaries.specs.Levels.{Based, FillsKey, FillsEntry, FillsRow, FillsRows, PutsRooms, IsLevelled, Climbs, Levels};
 

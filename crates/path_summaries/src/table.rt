@@ -1,7 +1,8 @@
 //! Tables of summaries.
 ghost use Rattle.std.specs.Prelude.{◌≡◌, ◌<◌, ℕ, List, [], length, IfSome, OnOk};
 ghost use Rattle.term_bank.specs.declared.shape.Shape.{Shape as ShapeType};
-ghost use Rattle.path_summaries.specs.Tours.{Tour, StandsFor};
+ghost use Rattle.log_expr.specs.Tours.{Tour};
+ghost use Rattle.path_summaries.specs.Tours.{StandsFor};
 ghost use Rattle.path_summaries.specs.Tables.{RowStands, AllStand};
 
 use plain_data::Items;

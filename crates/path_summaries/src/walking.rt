@@ -5,7 +5,8 @@ ghost use Rattle.term_bank.specs.Banks.{IsBank};
 ghost use Rattle.path_steps.specs.Memories.{IsScalar};
 ghost use Rattle.path_forms.specs.Calling.{Stays};
 ghost use Rattle.summary_compose.specs.Summaries.{word_of};
-ghost use Rattle.path_summaries.specs.Tours.{tour_of, room_in};
+ghost use Rattle.log_expr.specs.Tours.{tour_of};
+ghost use Rattle.path_summaries.specs.Tours.{room_in};
 ghost use Rattle.path_summaries.specs.Tables.{IsReady, has_ends};
 ghost use Rattle.path_summaries.specs.Walking.{EntersOne, Enters, Walks};
 

@@ -9,6 +9,3 @@ mod shared;
 pub use items::Items;
 pub use rows::Rows;
 pub use shared::Shared;
-
-#[cfg(test)]
-mod tests;

@@ -5,6 +5,3 @@ mod merging;
 mod positions;
 
 pub use positions::Positions;
-
-#[cfg(test)]
-mod tests;

@@ -10,6 +10,3 @@ pub use kind::{Kind, Kinds, have_kinds, kinds};
 pub use parse::{FormatFault, parse_format};
 pub use piece::{Arg, Args, Conversion, Flags, Form, Piece, Pieces, Radix, Size};
 pub use printing::{TextFault, text, write_formed};
-
-#[cfg(test)]
-mod tests;

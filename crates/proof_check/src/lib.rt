@@ -11,6 +11,3 @@ mod steps;
 pub use checker::{Checker, RoomFault};
 pub use fault::StepFault;
 pub use steps::{Refutation, Step, Steps, Trail};
-
-#[cfg(test)]
-mod tests;

@@ -1,5 +1,5 @@
 -- The query of a run formula.
-use Rattle.std.proofs.Common.{◌≡◌, ◌↔◌, ◌≤◌, ◌+◌, ◌∷◌, [], ℕ, zero, suc, List, Some, Bool, true, length, refl, sym, ap, ◌∙◌, subst, arith}
+use Rattle.std.proofs.Common.{◌≡◌, ◌↔◌, ◌≤◌, ◌+◌, ◌∷◌, [], ℕ, zero, suc, List, Option, Some, None, Bool, true, length, refl, sym, ap, ◌∙◌, subst, arith}
 use Rattle.std.specs.List.{slice_get}
 use Rattle.bit_words.specs.declared.fact.Fact.{Fact}
 use Rattle.bit_words.specs.Worlds.{WorldTables}
@@ -15,16 +15,18 @@ use Rattle.term_bank.specs.Shapes.{Each, IsNode}
 use Rattle.term_bank.specs.Terms.{IsTerm}
 use Rattle.term_bank.specs.Values.{Environment, Values, Models, Grows}
 use Rattle.term_bank.specs.Banks.{IsBank}
-use Rattle.term_bank.proofs.BankLemmas.{weaken}
+use Rattle.term_bank.proofs.BankLemmas.{weaken, stays}
+use Rattle.path_states.specs.States.{AreStates}
 use Rattle.flat_reads.specs.Flats.{IsHonest}
 use Rattle.bitvectors.specs.declared.blasting.Blasted.{Blasted}
 use Rattle.bitvectors.specs.Amounts.{amount}
-use Rattle.bitvectors.specs.Blasts.{HaveValues, IsBlasted, IsOfWorld}
-use Rattle.path_summaries.specs.Tours.{Tour}
+use Rattle.bitvectors.specs.Blasts.{HaveValues, IsBlasted, IsOfWorld, IsReady}
+use Rattle.log_expr.specs.Tours.{Tour}
 use Rattle.run_formula.specs.declared.formula.RunFormula.{RunFormula}
 use Rattle.run_formula.specs.Formula.{FitsIn, HoldsIn, SaysFact, SayFacts, IsFormula}
 use Rattle.query_core.specs.declared.query.Query.{Query}
 use Rattle.query_core.specs.declared.target.Target.TheVariants.{Having, Lacking}
+use Rattle.query_core.specs.declared.others.Other.{Other as OtherLiteral}
 use Rattle.query_core.specs.Claims.{fact_at, asked_nodes, first_bit, root_bit, run_clauses, IsMade, IsWhole, IsAbout, IsDecoded, TellsFacts, HasRun, FitsAs, IsQuery}
 use Rattle.query_core.proofs.BitLemmas.{first-holds, holds-both, holds-parts}
 
@@ -46,7 +48,7 @@ asked-stand t a b fs r h = (term-node b r.fits h.fits.term, facts-nodes t b fs r
 
 -- ---- bits of truths
 
-truth-bit : (b : List Shape) (n : Node) (v : Valuation) (values : Values) (w : List Bit) → IsTerm b Truth n
+pub truth-bit : (b : List Shape) (n : Node) (v : Valuation) (values : Values) (w : List Bit) → IsTerm b Truth n
     → spelled v w ≡ amount n.sort (values n.index) → bit_holds v (first_bit w) ≡ (values n.index).truth
 truth-bit b n v values w h e = first-holds v w (values n.index).truth (e ∙ ap (λ s. amount s (values n.index)) h.same)
 
@@ -82,7 +84,7 @@ module _ (t : Tour) (b : List Shape) (v : Valuation) (values : Values) (e : Envi
   all-told fs n ns [] fits say have = absurd have
   all-told fs n ns (w ∷ ws) fits say have = record { is = numbered fs ns w ws fits say have.1 }
 
-  fits-bit : (n : Node) (ns : List Node) (roots : List (List Bit)) → IsTerm b Truth n
+  pub fits-bit : (n : Node) (ns : List Node) (roots : List (List Bit)) → IsTerm b Truth n
       → HaveValues v values (n ∷ ns) roots → bit_holds v (root_bit roots 0) ≡ (values n.index).truth
   fits-bit n ns [] h have = absurd have
   fits-bit n ns (w ∷ ws) h have = truth-bit b n v values w h have.0
@@ -120,74 +122,108 @@ empty_environment = record {
 
 -- ---- the query
 
-module _ (t : Tour) (a b c : List Shape) (fs : List Fact) (r : RunFormula) (q : Query)
-    (h : IsFormula t a b fs r) (g : Grows b c) (bank : IsBank c)
-    (blasted : IsBlasted c (asked_nodes r) q.blasted) (whole : IsWhole q) where
-  clauses-hold : (v : Valuation) → formula_holds v q.blasted.formula ≡ true
-      → bit_holds v (root_bit q.blasted.roots 0) ≡ true → formula_holds v q.solver ≡ true
-  clauses-hold v k x =
-      subst (λ s. formula_holds v s ≡ true) (sym whole.clauses)
-      (holds-both v q.blasted.formula (root_bit q.blasted.roots 0) k x)
+-- a query over clauses
+abbrev made-query : Blasted → RunFormula → List Shape → Query
+made-query b r bank = record {
+  blasted = b;
+  solver = run_clauses b;
+  last = length (run_clauses b) + 1;
+  formula = r;
+  bank = Some bank;
+  others = [];
+}
 
-  clauses-parts : (v : Valuation) → formula_holds v q.solver ≡ true
-      → (formula_holds v q.blasted.formula ≡ true) × (bit_holds v (root_bit q.blasted.roots 0) ≡ true)
-  clauses-parts v k =
-      holds-parts v q.blasted.formula (root_bit q.blasted.roots 0)
-      (subst (λ s. formula_holds v s ≡ true) whole.clauses k)
+made-so : (b : Blasted) (r : RunFormula) (bank : List Shape) (q : Query) → IsMade b r bank q → made-query b r bank ≡ q
+made-so b r bank q m = λ i. record {
+  blasted = sym m.same i;
+  solver = sym m.clauses i;
+  last = sym m.number i;
+  formula = sym m.formula i;
+  bank = sym m.bank i;
+  others = sym m.others i;
+}
+
+no-literal : {A : Type 0} (o : OtherLiteral) → ◌≡◌ {A = Option OtherLiteral} None (Some o) → A
+no-literal o e = absurd (cc)
+
+whole-made : (c : List Shape) (b : Blasted) (r : RunFormula) → IsBlasted c (asked_nodes r) b → IsReady c b → IsBank c
+    → AreStates c r.states → IsWhole (made-query b r c)
+whole-made c b r h ready bank ends = record {
+  words = h.words;
+  bytes = h.bytes;
+  clauses = refl;
+  number = refl;
+  first = c;
+  blasted = h;
+  bank = record { stands = bank; grows = stays; ready = ready; ends = ends };
+  literals = λ k x o is. no-literal o is;
+}
+
+pub whole-is : (c : List Shape) (b : Blasted) (r : RunFormula) (q : Query) → IsBlasted c (asked_nodes r) b → IsReady c b → IsBank c
+    → AreStates c r.states → IsMade b r c q → IsWhole q
+whole-is c b r q h ready bank ends m = subst IsWhole (made-so b r c q m) (whole-made c b r h ready bank ends)
+
+module _ (t : Tour) (a b c : List Shape) (fs : List Fact) (r : RunFormula) (x : Blasted)
+    (h : IsFormula t a b fs r) (g : Grows b c) (bank : IsBank c)
+    (blasted : IsBlasted c (asked_nodes r) x) (ready : IsReady c x) (ends : AreStates c r.states) where
+  abbrev q : Query
+  q = made-query x r c
+
+  clauses-hold : (v : Valuation) → formula_holds v x.formula ≡ true
+      → bit_holds v (root_bit x.roots 0) ≡ true → formula_holds v (run_clauses x) ≡ true
+  clauses-hold v k y = holds-both v x.formula (root_bit x.roots 0) k y
+
+  clauses-parts : (v : Valuation) → formula_holds v (run_clauses x) ≡ true
+      → (formula_holds v x.formula ≡ true) × (bit_holds v (root_bit x.roots 0) ≡ true)
+  clauses-parts v k = holds-parts v x.formula (root_bit x.roots 0) k
 
   has-run : (e : Environment) → IsHonest e → FitsIn t e → (values : Values) → Models c e values → HasRun t fs q e
   has-run e honest fits values m =
       let found = blasted.models e values honest m in
       let old = weaken g m in
-      let bit = fits-bit t b found.model values e old r.fits r.facts q.blasted.roots h.fits.term found.are in
+      let bit = fits-bit t b found.model values e old r.fits r.facts x.roots h.fits.term found.are in
       record {
         model = found.model;
         holds = clauses-hold found.model found.holds (bit ∙ (h.fits.is e values old).1 fits);
-        tells = all-told t b found.model values e old fs r.fits r.facts q.blasted.roots fits h.facts found.are;
+        tells = all-told t b found.model values e old fs r.fits r.facts x.roots fits h.facts found.are;
       }
 
-  fits-as : (v : Valuation) (world : WorldTables) → formula_holds v q.solver ≡ true → IsDecoded q.blasted v world
+  fits-as : (v : Valuation) (world : WorldTables) → formula_holds v (run_clauses x) ≡ true → IsDecoded x v world
       → (e : Environment) → IsOfWorld world e → (values : Values) → Models c e values → FitsAs t fs q v e
   fits-as v world k decoded e of values m =
       let parts = clauses-parts v k in
       let old = weaken g m in
       let have = (decoded.shows c (asked_nodes r) blasted parts.0).are e values of m in
-      let bit = fits-bit t b v values e old r.fits r.facts q.blasted.roots h.fits.term have in
+      let bit = fits-bit t b v values e old r.fits r.facts x.roots h.fits.term have in
       let fits = (h.fits.is e values old).0 (sym bit ∙ parts.1) in
       record {
         fits = fits;
-        tells = all-told t b v values e old fs r.fits r.facts q.blasted.roots fits h.facts have;
+        tells = all-told t b v values e old fs r.fits r.facts x.roots fits h.facts have;
       }
 
-  has-count : length q.blasted.roots ≡ suc (length fs)
+  has-count : length x.roots ≡ suc (length fs)
   unfolding empty_environment
   has-count =
       let valued = bank.valued empty_environment in
       let found = blasted.models empty_environment valued.0 (record { same = λ _ _. refl }) valued.1 in
-      many-roots t b found.model valued.0 fs r.fits r.facts q.blasted.roots h.facts found.are
+      many-roots t b found.model valued.0 fs r.fits r.facts x.roots h.facts found.are
 
-  pub query-is : IsQuery t fs q
+  query-is : IsQuery t fs q
+  unfolding whole-made
   query-is = record {
-    whole = whole;
+    whole = whole-made c x r blasted ready bank ends;
+    run = record { begun = a; given = b; is = h; grows = g };
     count = has-count;
     models = λ e honest fits. let valued = bank.valued e in has-run e honest fits valued.0 valued.1;
     worlds = λ v world k decoded e of. let valued = bank.valued e in fits-as v world k decoded e of valued.0 valued.1;
   }
 
-pub whole-is : (c : List Shape) (ns : List Node) (b : Blasted) (q : Query) → IsBlasted c ns b → IsMade b q → IsWhole q
-whole-is c ns b q h m = record {
-  words = rw m.same h.words;
-  bytes = rw m.same h.bytes;
-  clauses = m.clauses ∙ ap (λ x. run_clauses x) (sym m.same);
-  number = m.number ∙ ap (λ s. length s + 1) (sym m.clauses);
-}
-
 -- the query that was made of a formula's truths
 pub query-made : (t : Tour) (a b c : List Shape) (fs : List Fact) (r : RunFormula) (x : Blasted) (q : Query)
-    → Grows b c → IsBank c → IsBlasted c (asked_nodes r) x → IsMade x q → IsFormula t a b fs r → IsQuery t fs q
-query-made t a b c fs r x q g bank blasted made h =
-    query-is t a b c fs r q h g bank (subst (IsBlasted c (asked_nodes r)) (sym made.same) blasted)
-    (whole-is c (asked_nodes r) x q blasted made)
+    → Grows b c → IsBank c → IsBlasted c (asked_nodes r) x → IsReady c x → AreStates c r.states → IsMade x r c q
+    → IsFormula t a b fs r → IsQuery t fs q
+query-made t a b c fs r x q g bank blasted ready ends made h =
+    subst (IsQuery t fs) (made-so x r c q made) (query-is t a b c fs r x h g bank blasted ready ends)
 
 -- a target may name the number of each fact
 pub about-fact : (t : Tour) (fs : List Fact) (q : Query) (k : ℕ) → IsQuery t fs q → 1 ≤ k → k ≤ length fs

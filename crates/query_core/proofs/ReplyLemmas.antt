@@ -1,5 +1,5 @@
 -- What the answers to questions mean.
-use Rattle.std.proofs.Common.{◌≡◌, ◌<◌, ◌≤◌, ◌++◌, ◌∷◌, [], ℕ, zero, suc, List, Option, Some, None, Bool, true, false, not, length, refl, sym, ap, ◌∙◌, subst, arith}
+use Rattle.std.proofs.Common.{◌≡◌, ◌<◌, ◌≤◌, ◌+◌, ◌++◌, ◌∷◌, [], ℕ, zero, suc, List, Option, Some, None, Bool, true, false, not, length, refl, sym, ap, ◌∙◌, subst, arith}
 use Rattle.std.specs.List.{slice_get}
 use Rattle.bit_words.specs.declared.fact.Fact.{Fact}
 use Rattle.bit_words.specs.Worlds.{WorldTables}
@@ -15,15 +15,17 @@ use Rattle.gates.specs.Nets.{bit_holds, opposite}
 use Rattle.gates.proofs.BitLemmas.{opposite-holds}
 use Rattle.term_bank.specs.Values.{Environment}
 use Rattle.flat_reads.specs.Flats.{IsHonest}
-use Rattle.path_summaries.specs.Tours.{Tour}
+use Rattle.bitvectors.specs.declared.blasting.Blasted.{Blasted}
+use Rattle.log_expr.specs.Tours.{Tour}
+use Rattle.run_formula.specs.declared.watches.Watch.{Watch}
 use Rattle.run_formula.specs.Formula.{FitsIn, HoldsIn}
 use Rattle.query_core.specs.declared.query.Query.{Query}
 use Rattle.query_core.specs.declared.target.Target.{Target}
-use Rattle.query_core.specs.declared.target.Target.TheVariants.{Fits, Having, Lacking}
+use Rattle.query_core.specs.declared.target.Target.TheVariants.{Fits, Having, Lacking, Other}
 use Rattle.query_core.specs.declared.reply.Reply.{Reply}
 use Rattle.query_core.specs.declared.reply.Reply.TheVariants.{World, Refuted, Spent}
-use Rattle.query_core.specs.Claims.{fact_at, OfFact, IsMet, root_bit, claimed, asked_bit, claim, refuting, IsWhole, IsAbout, IsDecoded, TellsFacts, IsQuery}
-use Rattle.query_core.specs.Replies.{IsWitness, Refutes, IsReply, IsSought}
+use Rattle.query_core.specs.Claims.{fact_at, OfFact, IsMet, root_bit, claimed, asked_bit, wanted_bit, premises, claim, refuting, IsOfRun, IsAbout, IsDecoded, TellsFacts, IsQuery}
+use Rattle.query_core.specs.Replies.{IsWitness, Refutes, SpendsOver, IsReply, IsSought, Seeks}
 use Rattle.query_core.proofs.BitLemmas.{holds-both, holds-parts, empty-refuted}
 
 -- ---- facts by number
@@ -81,78 +83,100 @@ lacking t fs roots v e k count one within tells h =
     of-fact (λ f. HoldsIn t e f → ⊥) (fact_at fs k) found.0 found.1
     (λ holds. not-both v (root_bit roots k) h ((tells.is k found.0 found.1).1 holds))
 
--- where the asked bit is true in a valuation that tells the facts of a run that fits, the target is met
-met : (t : Tour) (fs : List Fact) (q : Query) (v : Valuation) (e : Environment) (x : Target)
+-- where the wanted bit is true in a valuation that tells the facts of a run that fits, the target is met
+met : (t : Tour) (fs : List Fact) (q : Query) (v : Valuation) (e : Environment) (x : Target) → IsOfRun x
     → length q.blasted.roots ≡ suc (length fs) → IsAbout q x
-    → FitsIn t e → TellsFacts t fs q.blasted.roots v e → bit_holds v (asked_bit q.blasted.roots x) ≡ true
-    → IsMet t fs e x
-met t fs q v e Fits count about fits tells h = fits
-met t fs q v e (Having k) count about fits tells h =
+    → FitsIn t e → TellsFacts t fs q.blasted.roots v e → bit_holds v (wanted_bit q x) ≡ true
+    → IsMet t fs q.formula.watches e x
+met t fs q v e Fits run count about fits tells h = fits
+met t fs q v e (Having k) run count about fits tells h =
     (fits, having t fs q.blasted.roots v e k count about.0 about.1 tells h)
-met t fs q v e (Lacking k) count about fits tells h =
+met t fs q v e (Lacking k) run count about fits tells h =
     (fits, lacking t fs q.blasted.roots v e k count about.0 about.1 tells h)
+met t fs q v e (Other k x) run count about fits tells h = absurd run
 
-fits-of : (t : Tour) (fs : List Fact) (e : Environment) (x : Target) → IsMet t fs e x → FitsIn t e
-fits-of t fs e Fits h = h
-fits-of t fs e (Having k) h = h.0
-fits-of t fs e (Lacking k) h = h.0
+fits-of : (t : Tour) (fs : List Fact) (ws : List Watch) (e : Environment) (x : Target) → IsMet t fs ws e x → FitsIn t e
+fits-of t fs ws e Fits h = h
+fits-of t fs ws e (Having k) h = h.0
+fits-of t fs ws e (Lacking k) h = h.0
+fits-of t fs ws e (Other k x) h = h.0
 
--- where the target is met, the asked bit is true in a valuation that tells the run's facts
-told : (t : Tour) (fs : List Fact) (roots : List (List Bit)) (v : Valuation) (e : Environment) (x : Target)
-    → TellsFacts t fs roots v e → IsMet t fs e x
-    → bit_holds v (asked_bit roots x) ≡ true
-told t fs roots v e Fits tells h = refl
-told t fs roots v e (Having k) tells h =
+-- where the target is met, the wanted bit is true in a valuation that tells the run's facts
+told : (t : Tour) (fs : List Fact) (q : Query) (v : Valuation) (e : Environment) (x : Target) → IsOfRun x
+    → TellsFacts t fs q.blasted.roots v e → IsMet t fs q.formula.watches e x
+    → bit_holds v (wanted_bit q x) ≡ true
+told t fs q v e Fits run tells h = refl
+told t fs q v e (Having k) run tells h =
     let f = one-of (HoldsIn t e) (fact_at fs k) h.1 in (tells.is k f.one f.is).1 f.holds
-told t fs roots v e (Lacking k) tells h =
+told t fs q v e (Lacking k) run tells h =
     let f = one-of (λ f. HoldsIn t e f → ⊥) (fact_at fs k) h.1 in
-    other-holds v (root_bit roots k) (λ b. f.holds ((tells.is k f.one f.is).0 b))
+    other-holds v (root_bit q.blasted.roots k) (λ b. f.holds ((tells.is k f.one f.is).0 b))
+told t fs q v e (Other k x) run tells h = absurd run
+
+-- the clauses of a claim that is no value's
+run-premises : (q : Query) (x : Target) → IsOfRun x → premises q x ≡ q.solver
+run-premises q Fits run = refl
+run-premises q (Having k) run = refl
+run-premises q (Lacking k) run = refl
+run-premises q (Other k x) run = absurd run
+
+asked-wanted : (q : Query) (x : Target) → IsOfRun x → asked_bit q.blasted.roots x ≡ wanted_bit q x
+asked-wanted q Fits run = refl
+asked-wanted q (Having k) run = refl
+asked-wanted q (Lacking k) run = refl
+asked-wanted q (Other k x) run = absurd run
+
+-- the claim of a target that is no value's
+pub run-claim : (q : Query) (x : Target) → IsOfRun x → claim q x ≡ q.solver ++ claimed (asked_bit q.blasted.roots x)
+run-claim q x run = λ i. run-premises q x run i ++ claimed (sym (asked-wanted q x run) i)
 
 -- where a claim's clauses are refuted, the target is met in no honest environment
-pub never-met : (t : Tour) (fs : List Fact) (q : Query) (x : Target) (steps : List Step) → IsQuery t fs q
-    → IsRefutation (claim q x) steps → (e : Environment) → IsHonest e
-    → IsMet t fs e x → ⊥
-never-met t fs q x steps h refutes e honest is =
-    let run = h.models e honest (fits-of t fs e x is) in
-    refutation-sound (claim q x) steps refutes run.model
-    (holds-both run.model q.solver (asked_bit q.blasted.roots x) run.holds
-    (told t fs q.blasted.roots run.model e x run.tells is))
-
-pub refutes-so : (q : Query) (x : Target) (steps : List Step) → IsRefutation (claim q x) steps → Refutes q x steps
-refutes-so q x steps h = record {
-  refutes = h;
-  never = λ t fs is e honest met. never-met t fs q x steps is h e honest met;
-}
-
-pub witness-so : (q : Query) (x : Target) (v : Valuation) (world : WorldTables) → IsAbout q x
-    → formula_holds v (claim q x) ≡ true → IsDecoded q.blasted v world → IsWitness q x world
-witness-so q x v world about h decoded = record {
-  met = λ t fs is e of.
-      let parts = holds-parts v q.solver (asked_bit q.blasted.roots x) h in
-      let run = is.worlds v world parts.0 decoded e of in
-      met t fs q v e x is.count about run.fits run.tells parts.1;
-}
+never-met : (t : Tour) (fs : List Fact) (q : Query) (x : Target) (steps : List Step) → IsOfRun x → IsQuery t fs q
+    → IsRefutation (q.solver ++ claimed (wanted_bit q x)) steps → (e : Environment) → IsHonest e
+    → IsMet t fs q.formula.watches e x → ⊥
+never-met t fs q x steps of h refutes e honest is =
+    let run = h.models e honest (fits-of t fs q.formula.watches e x is) in
+    refutation-sound (q.solver ++ claimed (wanted_bit q x)) steps refutes run.model
+    (holds-both run.model q.solver (wanted_bit q x) run.holds (told t fs q run.model e x of run.tells is))
 
 -- ---- replies
 
--- the claim's clauses behind the query's are the assumptions
-pub sought-so : (q : Query) (x : Target) (assume : List Literal) (n : ℕ) (reply : Reply) → IsAbout q x
-    → claimed (asked_bit q.blasted.roots x) ≡ units assume → IsSought q assume n reply
-    → IsReply q x n reply
-sought-so q x assume n (World world) about same h =
-    witness-so q x h.model world about (subst (λ s. formula_holds h.model (q.solver ++ s) ≡ true) (sym same) h.holds)
-    h.decoded
-sought-so q x assume n (Refuted steps) about same h =
-    refutes-so q x steps (subst (λ s. IsRefutation (q.solver ++ s) steps) (sym same) h)
-sought-so q x assume n (Spent trail) about same h = h
+-- what a solver over the query's clauses answers where the asked bit is to be true
+pub run-replies : (q : Query) (x : Target) (bit : Bit) (n : ℕ) (reply : Reply) → IsOfRun x → IsAbout q x
+    → bit ≡ asked_bit q.blasted.roots x → Seeks q.solver q.blasted bit n reply → IsReply q x n reply
+run-replies q x bit n (World world) run about is h = record {
+  met = λ t fs isq e of.
+      let same : bit ≡ wanted_bit q x = is ∙ asked-wanted q x run in
+      let parts = holds-parts h.model q.solver (wanted_bit q x)
+      (subst (λ b. formula_holds h.model (q.solver ++ claimed b) ≡ true) same h.holds) in
+      let there = isq.worlds h.model world parts.0 h.decoded e of in
+      met t fs q h.model e x run isq.count about there.fits there.tells parts.1;
+}
+run-replies q x bit n (Refuted steps) run about is h =
+    let same : bit ≡ wanted_bit q x = is ∙ asked-wanted q x run in
+    let refuted = subst (λ b. IsRefutation (q.solver ++ claimed b) steps) same h in
+    record {
+      refutes = subst (λ cs. IsRefutation (cs ++ claimed (wanted_bit q x)) steps) (sym (run-premises q x run)) refuted;
+      never = λ t fs isq e honest is_met. never-met t fs q x steps run isq refuted e honest is_met;
+    }
+run-replies q x bit n (Spent trail) run about is h = subst (λ cs. SpendsOver cs n trail) (sym (run-premises q x run)) h
 
--- the asked bit is known to be false
-pub refuted-so : (q : Query) (x : Target) (n : ℕ) (number : ℕ) (steps : List Step) → IsWhole q
-    → asked_bit q.blasted.roots x ≡ Known false → number ≡ q.last → steps ≡ refuting number
-    → IsReply q x n (Refuted steps)
-refuted-so q x n number steps whole is last e =
-    let made : IsRefutation (q.solver ++ [] ∷ []) (refuting number) =
-    empty-refuted q.solver number (last ∙ whole.number) in
-    let same : claim q x ≡ q.solver ++ [] ∷ [] = ap (λ b. q.solver ++ claimed b) is in
-    refutes-so q x steps
-    (subst (λ s. IsRefutation (claim q x) s) (sym e) (subst (λ cs. IsRefutation cs (refuting number)) (sym same) made))
+-- ---- a bit that is to be true
+
+pub seeks-sought : (clauses : List (List Literal)) (b : Blasted) (bit : Bit) (assume : List Literal) (n : ℕ) (reply : Reply)
+    → claimed bit ≡ units assume → IsSought clauses b assume n reply → Seeks clauses b bit n reply
+seeks-sought clauses b bit assume n (World world) same h = record {
+  model = h.model;
+  holds = subst (λ s. formula_holds h.model (clauses ++ s) ≡ true) (sym same) h.holds;
+  decoded = h.decoded;
+}
+seeks-sought clauses b bit assume n (Refuted steps) same h = subst (λ s. IsRefutation (clauses ++ s) steps) (sym same) h
+seeks-sought clauses b bit assume n (Spent trail) same h = h
+
+-- the bit is known to be false
+pub seeks-false : (clauses : List (List Literal)) (b : Blasted) (bit : Bit) (n number : ℕ) (steps : List Step)
+    → bit ≡ Known false → number ≡ length clauses + 1 → steps ≡ refuting number → Seeks clauses b bit n (Refuted steps)
+seeks-false clauses b bit n number steps is last e =
+    let made : IsRefutation (clauses ++ [] ∷ []) (refuting number) = empty-refuted clauses number last in
+    subst (λ x. IsRefutation (clauses ++ claimed x) steps) (sym is)
+    (subst (λ s. IsRefutation (clauses ++ [] ∷ []) s) (sym e) made)

@@ -8,46 +8,60 @@ use Rattle.proof_check.specs.Steps.{Step}
 use Rattle.proof_check.specs.declared.steps.Trail.{Trail}
 use Rattle.proof_check.specs.Refutations.{IsRefutation, IsTrail}
 use Rattle.cdcl.specs.Tidy.{AreTidy, units}
+use Rattle.gates.specs.declared.bit.Bit.{Bit}
 use Rattle.term_bank.specs.Values.{Environment}
 use Rattle.flat_reads.specs.Flats.{IsHonest}
+use Rattle.bitvectors.specs.declared.blasting.Blasted.{Blasted}
 use Rattle.bitvectors.specs.Blasts.{IsOfWorld}
-use Rattle.path_summaries.specs.Tours.{Tour}
+use Rattle.log_expr.specs.Tours.{Tour}
 use Rattle.query_core.specs.declared.query.Query.{Query}
 use Rattle.query_core.specs.declared.target.Target.{Target}
 use Rattle.query_core.specs.declared.reply.Reply.{Reply}
 use Rattle.query_core.specs.declared.reply.Reply.TheVariants.{World, Refuted, Spent}
-use Rattle.query_core.specs.Claims.{IsMet, IsDecoded, IsQuery, claim}
+use Rattle.query_core.specs.Claims.{IsMet, IsDecoded, IsQuery, claim, claimed, premises}
 
 -- on the world the run fits and is as the target asks
 pub record IsWitness (q : Query) (x : Target) (world : WorldTables) : Type 0 where
-  pub met : (t : Tour) (fs : List Fact) → IsQuery t fs q → (e : Environment) → IsOfWorld world e → IsMet t fs e x
+  pub met : (t : Tour) (fs : List Fact) → IsQuery t fs q → (e : Environment) → IsOfWorld world e → IsMet t fs q.formula.watches e x
 
 -- the claim's clauses are refuted, so the target is met in no honest environment
 pub record Refutes (q : Query) (x : Target) (steps : List Step) : Type 0 where
   pub refutes : IsRefutation (claim q x) steps
-  pub never : (t : Tour) (fs : List Fact) → IsQuery t fs q → (e : Environment) → IsHonest e → IsMet t fs e x → ⊥
+  pub never : (t : Tour) (fs : List Fact) → IsQuery t fs q → (e : Environment) → IsHonest e → IsMet t fs q.formula.watches e x → ⊥
 
--- exactly so many steps over the clauses that say that the run fits
-pub record Spends (q : Query) (n : ℕ) (trail : Trail) : Type 0 where
-  pub is_trail : IsTrail q.solver trail.kept trail.steps
-  pub kept_tidy : AreTidy q.solver trail.kept
-  pub steps_tidy : AreTidy q.solver trail.steps
+-- exactly so many steps over clauses
+pub record SpendsOver (clauses : List (List Literal)) (n : ℕ) (trail : Trail) : Type 0 where
+  pub is_trail : IsTrail clauses trail.kept trail.steps
+  pub kept_tidy : AreTidy clauses trail.kept
+  pub steps_tidy : AreTidy clauses trail.steps
   pub count : length trail.steps ≡ n
 
+-- over the clauses that say that the run fits
+abbrev pub Spends : Query → ℕ → Trail → Type 0
+Spends q n trail = SpendsOver q.solver n trail
+
+-- a trail is over the claim's clauses without its last one
 abbrev pub IsReply : Query → Target → ℕ → Reply → Type 0
 IsReply q x n (World world) = IsWitness q x world
 IsReply q x n (Refuted steps) = Refutes q x steps
-IsReply q x n (Spent trail) = Spends q n trail
+IsReply q x n (Spent trail) = SpendsOver (premises q x) n trail
 
--- ---- under assumptions
+-- ---- of a solver
 
--- a world that is decoded from a model of the query's clauses that makes the assumptions true
-pub record IsFound (q : Query) (assume : List Literal) (world : WorldTables) : Type 0 where
+-- a world that is decoded from a model of the clauses, and of more
+pub record IsFound (clauses more : List (List Literal)) (b : Blasted) (world : WorldTables) : Type 0 where
   pub model : Valuation
-  pub holds : formula_holds model (q.solver ++ units assume) ≡ true
-  pub decoded : IsDecoded q.blasted model world
+  pub holds : formula_holds model (clauses ++ more) ≡ true
+  pub decoded : IsDecoded b model world
 
-abbrev pub IsSought : Query → List Literal → ℕ → Reply → Type 0
-IsSought q assume n (World world) = IsFound q assume world
-IsSought q assume n (Refuted steps) = IsRefutation (q.solver ++ units assume) steps
-IsSought q assume n (Spent trail) = Spends q n trail
+-- under assumptions
+abbrev pub IsSought : List (List Literal) → Blasted → List Literal → ℕ → Reply → Type 0
+IsSought clauses b assume n (World world) = IsFound clauses (units assume) b world
+IsSought clauses b assume n (Refuted steps) = IsRefutation (clauses ++ units assume) steps
+IsSought clauses b assume n (Spent trail) = SpendsOver clauses n trail
+
+-- where a bit is to be true
+abbrev pub Seeks : List (List Literal) → Blasted → Bit → ℕ → Reply → Type 0
+Seeks clauses b bit n (World world) = IsFound clauses (claimed bit) b world
+Seeks clauses b bit n (Refuted steps) = IsRefutation (clauses ++ claimed bit) steps
+Seeks clauses b bit n (Spent trail) = SpendsOver clauses n trail

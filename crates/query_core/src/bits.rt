@@ -27,7 +27,7 @@ pub(crate) fn bit_of_root(roots: &Rows<Bit>, index: usize) -> Bit
     Bit::Known(false)
 }
 
-/// The bit that is true where a run that fits is as it is asked for.
+/// The bit that is true where a run that fits is as it is asked for; a question on a value has none among the roots.
 pub(crate) fn bit_of_target(roots: &Rows<Bit>, target: Target) -> Bit
     ensures { result ≡ asked_bit roots.now target }
 {
@@ -41,5 +41,6 @@ pub(crate) fn bit_of_target(roots: &Rows<Bit>, target: Target) -> Bit
             let bit = bit_of_root(roots, number as usize);
             bit.negated()
         }
+        Target::Other { .. } => Bit::Known(false),
     }
 }

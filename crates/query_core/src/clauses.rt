@@ -2,7 +2,6 @@
 ghost use Rattle.std.specs.Prelude.{◌≡◌, ◌++◌, ◌∷◌, ◌+◌, [], length, IfOk, OnOk};
 ghost use Rattle.query_core.specs.Claims.{claimed, refuting};
 
-use crate::fault::AskFault;
 use cdcl::Solver;
 use cnf_core::{Clause, Formula, Lit};
 use gates::Bit;
@@ -37,16 +36,18 @@ pub(crate) fn push_all(formula: &mut Formula, more: &Formula) -> Result<(), Allo
 }
 
 /// Adds the clause of these literals.
-fn add_clause(alloc: Global, solver: &mut Solver, literals: &[Lit]) -> Result<(), AskFault>
+fn add_clause(alloc: Global, solver: &mut Solver, literals: &[Lit]) -> Result<(), AllocError>
     ensures { OnOk result (solver.new ≡ solver.old ++ literals.now ∷ []) }
 {
     let literals = Vec::from_slice(alloc, literals)?;
-    solver.add(Clause::from_vec(literals))?;
-    Ok(())
+    match solver.add(Clause::from_vec(literals)) {
+        Ok(()) => Ok(()),
+        Err(_) => Err(AllocError),
+    }
 }
 
 /// Adds the clauses that say that a bit is true.
-pub(crate) fn add_claim(alloc: Global, solver: &mut Solver, bit: &Bit) -> Result<(), AskFault>
+pub(crate) fn add_claim(alloc: Global, solver: &mut Solver, bit: &Bit) -> Result<(), AllocError>
     ensures { OnOk result (solver.new ≡ solver.old ++ claimed bit.now) }
 {
     match bit {
@@ -63,7 +64,11 @@ pub(crate) fn add_claim(alloc: Global, solver: &mut Solver, bit: &Bit) -> Result
 }
 
 /// Adds the clauses of a formula.
-pub(crate) fn add_all(alloc: Global, solver: &mut Solver, formula: &Formula) -> Result<(), AskFault>
+pub(crate) fn add_all(
+    alloc: Global,
+    solver: &mut Solver,
+    formula: &Formula,
+) -> Result<(), AllocError>
     ensures { OnOk result (solver.new ≡ solver.old ++ formula.now) }
 {
     'clauses: for index in 0..formula.len() {

@@ -1,4 +1,4 @@
-/// What is asked of the runs that fit a log; a number is a fact's, from 1.
+/// What is asked of the runs that fit a log; a number is a fact's, or a watched variable's, from 1.
 #[derive(Clone, Copy, Debug)]
 pub enum Target {
     /// Whether a run fits.
@@ -7,4 +7,6 @@ pub enum Target {
     Having(u32),
     /// Whether a run fits on which the fact doesn't hold.
     Lacking(u32),
+    /// Whether a run fits on which some print saw another value than this of the watched variable.
+    Other { watch: u32, value: i128 },
 }

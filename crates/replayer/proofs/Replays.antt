@@ -8,7 +8,7 @@ use Rattle.c_places.proofs.Sources.{meets_its_places_once}
 use Rattle.c_runs.specs.Units.{limits_of, silent, source_room, source_run, source_size, world_of}
 use Rattle.core_tree.specs.Programs.{machine, room_of, run_of, unrolled_size}
 use Rattle.core_tree.specs.States.{plain}
-use Rattle.acceptance.specs.declared.program.Accepted.{Accepted}
+use Rattle.accepted.specs.declared.program.Accepted.{Accepted}
 
 some_same : (x y : Run) → Some x ≡ Some y → x ≡ y
 some_same x y e = cc

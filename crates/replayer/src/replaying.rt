@@ -3,7 +3,7 @@ ghost use Rattle.std.specs.Prelude.{◌≡◌, IfOk, min};
 ghost use Rattle.c_places.specs.Places.{MeetsItsPlacesOnce};
 ghost use Rattle.c_runs.specs.Units.{source_room, source_run, source_size};
 
-use acceptance::Accepted;
+use accepted::Accepted;
 use bit_words::{Bounds, Run, World};
 use std::alloc::{AllocError, Global};
 

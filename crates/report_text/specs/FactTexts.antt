@@ -7,7 +7,7 @@ use Rattle.bit_words.specs.declared.run.Undefined.{Undefined}
 use Rattle.bit_words.specs.declared.run.Undefined.TheVariants as undefined
 use Rattle.bit_words.specs.declared.fact.Fact.{Fact}
 use Rattle.bit_words.specs.declared.fact.Fact.TheVariants as fact
-use Rattle.c_lexer.specs.declared.token.Place.{Place}
+use Rattle.c_tokens.specs.declared.token.Place.{Place}
 use Rattle.c_tree.specs.PlaceTables.{PlaceTable, place_at, file_at}
 use Rattle.report_text.specs.Numbers.{Text, count_text}
 

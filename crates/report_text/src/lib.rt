@@ -11,6 +11,3 @@ mod world_texts;
 pub use fact_texts::{put_place, word_of_kind};
 pub use numbers::put_count;
 pub use reports::{Subject, report};
-
-#[cfg(test)]
-mod tests;

@@ -34,15 +34,19 @@ fn refutation_steps(alloc: Global, formula: &Formula, refutation: &Refutation) -
     Ok(refutation.steps().len())
 }
 
-/// The steps of a trail over the formula.
+/// The steps of a trail over the formula, which are valid behind the steps that were kept before.
 fn trail_steps(alloc: Global, formula: &Formula, trail: Trail) -> Result<Refutation> {
-    ensure!(trail.kept.is_empty(), "clauses are kept");
-    let trail = Refutation::from_steps(trail.steps);
-    let mut checker = Checker::with_room(alloc, formula, &trail)?;
-    if checker.check(formula, &trail) != Err(StepFault::NoEmptyClause) {
+    let Trail { kept, steps } = trail;
+    let mut whole = kept;
+    for index in 0..steps.len() {
+        whole.push(steps.step(index))?;
+    }
+    let whole = Refutation::from_steps(whole);
+    let mut checker = Checker::with_room(alloc, formula, &whole)?;
+    if checker.check(formula, &whole) != Err(StepFault::NoEmptyClause) {
         bail!("no trail");
     }
-    Ok(trail)
+    Ok(Refutation::from_steps(steps))
 }
 
 /// The verdict of an answer whose evidence holds; `whole` is the formula with the assumptions as unit clauses last.

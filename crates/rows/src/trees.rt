@@ -3,9 +3,10 @@
 //! `lexical NAME AT`, where AT is an offset in bytes.
 use anyhow::{Result, anyhow};
 use bit_words::Bytes;
-use c_lexer::{LexFault, Tokens, lex};
+use c_lexer::{LexFault, lex};
 use c_parser::ParseFault;
 use c_parser::unit::parse;
+use c_tokens::Tokens;
 use std::alloc::{AllocError, Global};
 use tree_text::{placed_text, unit_text};
 

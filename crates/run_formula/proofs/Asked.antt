@@ -13,6 +13,7 @@ use Rattle.bit_words.specs.declared.run.Finish.TheVariants as finish
 use Rattle.bit_words.specs.declared.run.Happening.TheVariants as happening
 use Rattle.bit_words.specs.declared.run.Run.{Run}
 use Rattle.bit_words.specs.declared.run.Side.{Side}
+use Rattle.log_text.specs.Lines.{line_of}
 use Rattle.log_text.specs.Shown.{StaysIn, Holds}
 use Rattle.core_tree.specs.States.{Done}
 use Rattle.term_bank.specs.declared.sort.Node.{Node}
@@ -33,12 +34,14 @@ use Rattle.path_states.specs.States.{Held, done_in, run_in, standing}
 use Rattle.path_states.specs.Ways.{to_list}
 use Rattle.path_states.proofs.Growth.{standing_joined}
 use Rattle.path_arrows.specs.Arrows.{bared}
-use Rattle.path_summaries.specs.Tours.{Tour}
+use Rattle.log_expr.specs.Tours.{Tour}
 use Rattle.run_formula.specs.declared.questions.Question.{Question}
 use Rattle.run_formula.specs.declared.questions.Question.TheVariants as question
 use Rattle.run_formula.specs.Whole.{run_in_world, RunsAll}
-use Rattle.run_formula.specs.Questions.{OneOf, IsMeant, EndsSo, SameEnd, shown, Meets, MeetsOn}
-use Rattle.run_formula.specs.Questions.{TellsAt, TellsShape, AllTell, TellsAll, ToldFor, TellsFor, OrMeant}
+use Rattle.run_formula.specs.Questions.{OneOf, IsMeant, IsSought, EndsSo, SameEnd, shown, Meets, MeetsOn}
+use Rattle.run_formula.specs.Questions.{TellsAt, TellsShape, AllTell, TellsAll, OrMeant, OrPrint}
+use Rattle.run_formula.specs.Watched.{SeesOther, SaysSo}
+use Rattle.run_formula.specs.declared.watches.Watch.{Watch}
 use Rattle.run_formula.specs.Questions.{TellsState, TellsStates, IsAnswer, AnswerAll, AsksAll}
 
 -- ---- one of some
@@ -182,6 +185,20 @@ event_more P xs e n false p is h k = (
   ],
 )
 
+-- one event more, by what is so of it
+event_behind : (P : Event → Type 0) (xs : List Event) (e : Event) (A B : Type 0) → A ↔ OneOf P xs → B ↔ (A ⊎ P e) → B ↔ OneOf P (xs ++ e ∷ [])
+event_behind P xs e A B h k = (
+  λ g. elim (k.0 g) [
+    | inl i ↦ one_left P xs (e ∷ []) (h.0 i)
+    | inr i ↦ one_right P xs (e ∷ []) (inl i)
+  ],
+  λ g. elim (one_parted P xs (e ∷ []) g) [
+    | inl i ↦ k.1 (inl (h.1 i))
+    | inr (inl i) ↦ k.1 (inr i)
+    | inr (inr i) ↦ absurd i
+  ],
+)
+
 events_both : (P : Event → Type 0) (xs ys : List Event) (n m p : Bool) → p ≡ cond n true m → (n ≡ true) ↔ OneOf P xs → (m ≡ true) ↔ OneOf P ys
     → (p ≡ true) ↔ OneOf P (xs ++ ys)
 events_both P xs ys true m p is h k = (λ g. one_left P xs ys (h.0 refl), λ g. is)
@@ -198,9 +215,9 @@ events_chosen : (P : Event → Type 0) (x y : Worth) (c n m p : Bool) → p ≡ 
 events_chosen P x y true n m p is h k = (λ g. h.0 (sym is ∙ g), λ g. is ∙ h.1 g)
 events_chosen P x y false n m p is h k = (λ g. k.0 (sym is ∙ g), λ g. is ∙ k.1 g)
 
-module _ (log : List ℕ) (f : Fact) where
+module _ (log : List ℕ) (q : Question) where
   -- nothing happened
-  pub shape_none : (a b : List Shape) (n : Node) → Makes a b (shape.Flag false) (Ok n) → TellsShape a b log f shape.NoEvents n
+  pub shape_none : (a b : List Shape) (n : Node) → Makes a b (shape.Flag false) (Ok n) → TellsShape a b log q shape.NoEvents n
   shape_none a b n h = record {
     grows = h.grows;
     term = h.node;
@@ -210,54 +227,53 @@ module _ (log : List ℕ) (f : Fact) where
   }
 
   -- one event more
-  one_more : (a b : List Shape) (events : ℕ) (x : Event) (before n : Node) (meant : Bool) → TellsAt a log f events before
-      → OrMeant a b before meant n → (meant ≡ true) ↔ IsMeant log f x → (e : Environment) (v : Values) → Models b e v
-      → ((v n.index).truth ≡ true) ↔ OneOf (IsMeant log f) ((v events).events ++ x ∷ [])
+  one_more : (a b : List Shape) (events : ℕ) (x : Event) (before n : Node) (meant : Bool) → TellsAt a log q events before
+      → OrMeant a b before meant n → (meant ≡ true) ↔ IsSought log q x → (e : Environment) (v : Values) → Models b e v
+      → ((v n.index).truth ≡ true) ↔ OneOf (IsSought log q) ((v events).events ++ x ∷ [])
   one_more a b events x before n meant h k j e v m =
-      event_more (IsMeant log f) (v events).events x (v before.index).truth meant (v n.index).truth (k.is e v m) (h.is e v (weaken k.grows m)) j
+      event_more (IsSought log q) (v events).events x (v before.index).truth meant (v n.index).truth (k.is e v m) (h.is e v (weaken k.grows m)) j
 
-  pub shape_branch : (a b : List Shape) (events printed at : ℕ) (side : Side) (before n : Node) (meant : Bool) → TellsAt a log f events before
-      → OrMeant a b before meant n → (meant ≡ true) ↔ IsMeant log f (record { what = happening.Branch at side; printed = printed })
-      → TellsShape a b log f (shape.BranchEvent events printed at side) n
+  pub shape_branch : (a b : List Shape) (events printed at : ℕ) (side : Side) (before n : Node) (meant : Bool) → TellsAt a log q events before
+      → OrMeant a b before meant n → (meant ≡ true) ↔ IsSought log q (record { what = happening.Branch at side; printed = printed })
+      → TellsShape a b log q (shape.BranchEvent events printed at side) n
   shape_branch a b events printed at side before n meant h k j =
       record { grows = k.grows; term = k.term; is = λ e v m. one_more a b events _ before n meant h k j e v m }
 
-  pub shape_call : (a b : List Shape) (events printed at : ℕ) (before n : Node) (meant : Bool) → TellsAt a log f events before
-      → OrMeant a b before meant n → (meant ≡ true) ↔ IsMeant log f (record { what = happening.Call at; printed = printed })
-      → TellsShape a b log f (shape.CallEvent events printed at) n
+  pub shape_call : (a b : List Shape) (events printed at : ℕ) (before n : Node) (meant : Bool) → TellsAt a log q events before
+      → OrMeant a b before meant n → (meant ≡ true) ↔ IsSought log q (record { what = happening.Call at; printed = printed })
+      → TellsShape a b log q (shape.CallEvent events printed at) n
   shape_call a b events printed at before n meant h k j =
       record { grows = k.grows; term = k.term; is = λ e v m. one_more a b events _ before n meant h k j e v m }
 
-  pub shape_print : (a b : List Shape) (events printed at length seen : ℕ) (before n : Node) (meant : Bool) → TellsAt a log f events before
-      → OrMeant a b before meant n
-      → ((k : ℕ) (xs : List ℤ) → (meant ≡ true) ↔ IsMeant log f (record { what = happening.Print at k xs; printed = printed }))
-      → TellsShape a b log f (shape.PrintEvent events printed at length seen) n
-  shape_print a b events printed at length seen before n meant h k j = record {
+  pub shape_print : (a b : List Shape) (events printed at length seen : ℕ) (before n : Node) → TellsAt a log q events before
+      → OrPrint a b log q before printed at seen n → TellsShape a b log q (shape.PrintEvent events printed at length seen) n
+  shape_print a b events printed at length seen before n h k = record {
     grows = k.grows;
     term = k.term;
-    is = λ e v m. one_more a b events (record { what = happening.Print at length (v seen).numbers; printed = printed }) before n meant h k
-        (j length (v seen).numbers) e v m;
+    is = λ e v m.
+        event_behind (IsSought log q) (v events).events (record { what = happening.Print at length (v seen).numbers; printed = printed })
+        ((v before.index).truth ≡ true) ((v n.index).truth ≡ true) (h.is e v (weaken k.grows m)) (k.is length e v m);
   }
 
-  pub shape_both : (a b : List Shape) (xs ys : ℕ) (one other n : Node) → TellsAt a log f xs one → TellsAt a log f ys other
-      → Makes a b (shape.Connect connective.Or one.index other.index) (Ok n) → TellsShape a b log f (shape.EventsBehind xs ys) n
+  pub shape_both : (a b : List Shape) (xs ys : ℕ) (one other n : Node) → TellsAt a log q xs one → TellsAt a log q ys other
+      → Makes a b (shape.Connect connective.Or one.index other.index) (Ok n) → TellsShape a b log q (shape.EventsBehind xs ys) n
   shape_both a b xs ys one other n h k j = record {
     grows = j.grows;
     term = j.node;
     is = λ e v m.
         let ma = weaken j.grows m in
-        events_both (IsMeant log f) (v xs).events (v ys).events (v one.index).truth (v other.index).truth (v n.index).truth
+        events_both (IsSought log q) (v xs).events (v ys).events (v one.index).truth (v other.index).truth (v n.index).truth
         (ap (λ (w : Worth). w.truth) (j.value.is e v m)) (h.is e v ma) (k.is e v ma);
   }
 
-  pub shape_chosen : (a b : List Shape) (s : Sort) (c xs ys : ℕ) (one other n : Node) → TellsAt a log f xs one → TellsAt a log f ys other
-      → Makes a b (shape.Choose sort.Truth c one.index other.index) (Ok n) → TellsShape a b log f (shape.Choose s c xs ys) n
+  pub shape_chosen : (a b : List Shape) (s : Sort) (c xs ys : ℕ) (one other n : Node) → TellsAt a log q xs one → TellsAt a log q ys other
+      → Makes a b (shape.Choose sort.Truth c one.index other.index) (Ok n) → TellsShape a b log q (shape.Choose s c xs ys) n
   shape_chosen a b s c xs ys one other n h k j = record {
     grows = j.grows;
     term = j.node;
     is = λ e v m.
         let ma = weaken j.grows m in
-        events_chosen (IsMeant log f) (v xs) (v ys) (v c).truth (v one.index).truth (v other.index).truth (v n.index).truth
+        events_chosen (IsSought log q) (v xs) (v ys) (v c).truth (v one.index).truth (v other.index).truth (v n.index).truth
         (truth_chosen (v c).truth (v one.index) (v other.index) (v n.index) (j.value.is e v m)) (h.is e v ma) (k.is e v ma);
   } where
     truth_chosen : (c : Bool) (x y z : Worth) → z ≡ cond c x y → z.truth ≡ cond c x.truth y.truth
@@ -266,52 +282,52 @@ module _ (log : List ℕ) (f : Fact) where
 
   -- ---- what is told stays so as the bank grows
 
-  tells_grown : (a b : List Shape) (n : ℕ) (node : Node) → Grows a b → TellsAt a log f n node → TellsAt b log f n node
+  tells_grown : (a b : List Shape) (n : ℕ) (node : Node) → Grows a b → TellsAt a log q n node → TellsAt b log q n node
   tells_grown a b n node g h = record { term = term_grown a b _ node g h.term; is = λ e v m. h.is e v (weaken g m) }
 
-  pub all_grown : (a b : List Shape) (told : Images) → Grows a b → AllTell a log f told → AllTell b log f told
+  pub all_grown : (a b : List Shape) (told : Images) → Grows a b → AllTell a log q told → AllTell b log q told
   all_grown a b told g h = record { tell = λ n node is. tells_grown a b n node g (h.tell n node is) }
 
   none_at : (told : Images) (n : ℕ) → told.entries ≡ [] → get nat_eq told n ≡ None
   none_at told n h = ap (λ es. lookup (nat_eq n) es) h
 
-  pub all_none : (a : List Shape) (told : Images) → told.entries ≡ [] → TellsAll a a log f told
+  pub all_none : (a : List Shape) (told : Images) → told.entries ≡ [] → TellsAll a a log q told
   all_none a told none = record {
     grows = stays;
     all = record { tell = λ n node is. let wrong : ◌≡◌ {A = Option Node} None (Some node) = sym (none_at told n none) ∙ is in absurd (cc) };
   }
 
-  pub all_same : (a : List Shape) (told : Images) → AllTell a log f told → TellsAll a a log f told
+  pub all_same : (a : List Shape) (told : Images) → AllTell a log q told → TellsAll a a log q told
   all_same a told h = record { grows = stays; all = h }
 
   same_number : (m n : ℕ) → nat_eq m n ≡ true → m ≡ n
   same_number m n h = grind arith
 
   -- with one node more
-  pub all_more : (a b : List Shape) (before after : Images) (k : ℕ) (shape : Shape) (node : Node) → AllTell a log f before
-      → slice_get a k ≡ Some shape → TellsShape a b log f shape node → Puts before after k node → TellsAll a b log f after
+  pub all_more : (a b : List Shape) (before after : Images) (k : ℕ) (shape : Shape) (node : Node) → AllTell a log q before
+      → slice_get a k ≡ Some shape → TellsShape a b log q shape node → Puts before after k node → TellsAll a b log q after
   all_more a b before after k shape node h at is put =
       record { grows = is.grows; all = record { tell = λ n other found. by n other (nat_eq k n) refl (sym (put n) ∙ found) } }
     where
-      here : TellsAt b log f k node
+      here : TellsAt b log q k node
       here = record {
         term = is.term;
         is = λ e v m.
-            subst (λ (w : Worth). ((v node.index).truth ≡ true) ↔ OneOf (IsMeant log f) w.events) (sym ((weaken is.grows m).has k shape at))
+            subst (λ (w : Worth). ((v node.index).truth ≡ true) ↔ OneOf (IsSought log q) w.events) (sym ((weaken is.grows m).has k shape at))
             (is.is e v m);
       }
 
-      by : (n : ℕ) (other : Node) (c : Bool) → nat_eq k n ≡ c → cond (nat_eq k n) (Some node) (get nat_eq before n) ≡ Some other → TellsAt b log f n other
+      by : (n : ℕ) (other : Node) (c : Bool) → nat_eq k n ≡ c → cond (nat_eq k n) (Some node) (get nat_eq before n) ≡ Some other → TellsAt b log q n other
       by n other true e found =
           let same : node ≡ other = some_same (sym (ap (λ c. cond c (Some node) (get nat_eq before n)) e) ∙ found) in
-          subst (λ q. TellsAt b log f n q) same (subst (λ q. TellsAt b log f q node) (same_number k n e) here)
+          subst (λ x. TellsAt b log q n x) same (subst (λ x. TellsAt b log q x node) (same_number k n e) here)
         where
           some_same : {x y : Node} → Some x ≡ Some y → x ≡ y
           some_same h = cc
       by n other false e found =
           tells_grown a b n other is.grows (h.tell n other (sym (ap (λ c. cond c (Some node) (get nat_eq before n)) e) ∙ found))
 
-  pub all_then : (a b c : List Shape) (before after : Images) → TellsAll a b log f before → TellsAll b c log f after → TellsAll a c log f after
+  pub all_then : (a b c : List Shape) (before after : Images) → TellsAll a b log q before → TellsAll b c log q after → TellsAll a c log q after
   all_then a b c before after h k = record { grows = grows_on h.grows k.grows; all = k.all }
 
 -- the condition of a choice stands in the bank
@@ -339,20 +355,76 @@ or_before a before meant so is = record {
   is = λ e v m. ap (λ c. cond c true (v before.index).truth) (sym so);
 }
 
-pub for_holds : (a b : List Shape) (log : List ℕ) (q : Question) (f : Fact) (told : Images) → q ≡ question.Holds f → TellsAll a b log f told
-    → TellsFor a b log q told
-for_holds a b log q f told is h = record {
+-- where a print is meant or isn't, whatever it saw
+pub print_meant : (a b : List Shape) (log : List ℕ) (q : Question) (before n : Node) (printed at seen : ℕ) (meant : Bool) → OrMeant a b before meant n
+    → ((length : ℕ) (xs : List ℤ) → (meant ≡ true) ↔ IsSought log q (record { what = happening.Print at length xs; printed = printed }))
+    → OrPrint a b log q before printed at seen n
+print_meant a b log q before n printed at seen meant h k = record {
   grows = h.grows;
-  for = record { told_of = λ g so. subst (λ x. AllTell b log x told) (one (sym is ∙ so)) h.all };
+  term = h.term;
+  is = λ length e v m. either meant (v n.index).truth (v before.index).truth (h.is e v m) (k length (v seen).numbers);
 } where
-  one : {x y : Fact} → question.Holds x ≡ question.Holds y → x ≡ y
-  one h = cc
+  either : {P : Type 0} (c x y : Bool) → x ≡ cond c true y → (c ≡ true) ↔ P → (x ≡ true) ↔ ((y ≡ true) ⊎ P)
+  either true x y is k = (λ g. inr (k.0 refl), λ g. is)
+  either false x y is k = (
+    λ g. inl (sym is ∙ g),
+    λ g. elim g [
+      | inl i ↦ is ∙ i
+      | inr i ↦ let wrong : false ≡ true = k.1 i in absurd (cc)
+    ],
+  )
 
-pub for_none : (a : List Shape) (log : List ℕ) (q : Question) (told : Images) → ((f : Fact) → q ≡ question.Holds f → ⊥) → TellsFor a a log q told
-for_none a log q told other = record { grows = stays; for = record { told_of = λ f is. absurd (other f is) } }
+-- where no print is sought
+pub print_never : (a : List Shape) (log : List ℕ) (q : Question) (before : Node) (printed at seen : ℕ) → IsTerm a sort.Truth before
+    → ((e : Event) → IsSought log q e → ⊥) → OrPrint a a log q before printed at seen before
+print_never a log q before printed at seen is none = record {
+  grows = stays;
+  term = is;
+  is = λ length e v m. (
+    λ g. inl g,
+    λ g. elim g [
+      | inl i ↦ i
+      | inr i ↦ absurd (none _ i)
+    ],
+  );
+}
 
-pub for_grown : (a b : List Shape) (log : List ℕ) (q : Question) (told : Images) → Grows a b → ToldFor a log q told → ToldFor b log q told
-for_grown a b log q told g h = record { told_of = λ f is. all_grown log f a b told g (h.told_of f is) }
+-- where the site or the line is another
+pub print_unwatched : (a : List Shape) (log : List ℕ) (w : Watch) (x : ℤ) (before : Node) (printed at seen : ℕ) → IsTerm a sort.Truth before
+    → ((at ≡ w.at) × (line_of log printed ≡ w.line) → ⊥) → OrPrint a a log (question.SawOther w x) before printed at seen before
+print_unwatched a log w x before printed at seen is none = record {
+  grows = stays;
+  term = is;
+  is = λ length e v m. (
+    λ g. inl g,
+    λ g. elim g [
+      | inl i ↦ i
+      | inr i ↦ absurd (none (i.0, i.1.0))
+    ],
+  );
+}
+
+-- where it is watched
+pub print_watched : (a b c : List Shape) (log : List ℕ) (w : Watch) (x : ℤ) (before other n : Node) (printed at seen : ℕ)
+    → (at ≡ w.at) × (line_of log printed ≡ w.line) → SaysSo a b (λ v. slice_get (v seen).numbers w.place ≡ Some x → ⊥) other
+    → Makes b c (shape.Connect connective.Or before.index other.index) (Ok n)
+    → OrPrint a c log (question.SawOther w x) before printed at seen n
+print_watched a b c log w x before other n printed at seen here h k = record {
+  grows = grows_on h.grows k.grows;
+  term = k.node;
+  is = λ length e v m.
+      either (v before.index).truth (v other.index).truth (v n.index).truth (ap (λ (y : Worth). y.truth) (k.value.is e v m))
+      (h.is e v (weaken k.grows m));
+} where
+  either : {P : Type 0} (y z p : Bool) → p ≡ cond y true z → (z ≡ true) ↔ P → (p ≡ true) ↔ ((y ≡ true) ⊎ ((at ≡ w.at) × ((line_of log printed ≡ w.line) × P)))
+  either true z p is k = (λ g. inl refl, λ g. is)
+  either false z p is k = (
+    λ g. inr (here.0, (here.1, k.0 (sym is ∙ g))),
+    λ g. elim g [
+      | inl i ↦ is ∙ (let wrong : false ≡ true = i in absurd (cc))
+      | inr i ↦ is ∙ k.1 i.1.1
+    ],
+  )
 
 -- ---- one state
 
@@ -376,7 +448,7 @@ either_told A B C false false p is h k j = (
 )
 
 pub holds_told : (b c d : List Shape) (log : List ℕ) (f : Fact) (s : State) (seen ended n : Node) (x : Bool)
-    → TellsAt b log f s.events.index seen → Makes b c (shape.Flag x) (Ok ended)
+    → TellsAt b log (question.Holds f) s.events.index seen → Makes b c (shape.Flag x) (Ok ended)
     → Makes c d (shape.Connect connective.Or seen.index ended.index) (Ok n)
     → ((v : Values) → (x ≡ true) ↔ EndsSo f (shown log (done_in v s)).finish) → TellsState b d log (question.Holds f) s n
 holds_told b c d log f s seen ended n x h k j so = record {
@@ -388,6 +460,17 @@ holds_told b c d log f s seen ended n x h k j so = record {
       either_told (OneOf (IsMeant log f) run.events) (EndsSo f run.finish) (Holds log run f) (v seen.index).truth (v ended.index).truth
       (v n.index).truth (ap (λ (w : Worth). w.truth) (j.value.is e v m)) (h.is e v (weaken k.grows mc))
       (both (truth_as (v ended.index).truth x (ap (λ (w : Worth). w.truth) (k.value.is e v mc))) (so v)) (holds_by log run f);
+}
+
+-- what is told of the events of a state
+pub saw_told : (b : List Shape) (log : List ℕ) (w : Watch) (x : ℤ) (s : State) (n : Node) → TellsAt b log (question.SawOther w x) s.events.index n
+    → TellsState b b log (question.SawOther w x) s n
+saw_told b log w x s n h = record {
+  grows = stays;
+  term = h.term;
+  is = λ e v m.
+      let events = (v s.events.index).events in
+      both (h.is e v m) (λ k. any_one (SeesOther log w x) events k, λ k. one_any (SeesOther log w x) events k);
 }
 
 -- ---- all states

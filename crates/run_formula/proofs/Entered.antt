@@ -23,7 +23,8 @@ use Rattle.summary_compose.specs.declared.summary.Summary.{Summary}
 use Rattle.summary_compose.specs.Renaming.{each_of}
 use Rattle.summary_compose.specs.Summaries.{world_in, entry_values}
 use Rattle.summary_compose.specs.Composing.{PutsIn}
-use Rattle.path_summaries.specs.Tours.{Tour, does, room_in}
+use Rattle.log_expr.specs.Tours.{Tour}
+use Rattle.path_summaries.specs.Tours.{does, room_in}
 use Rattle.run_formula.specs.Whole.{main_arrow, main_list, IsMain, AllSizedIn, Guards, EntersOne, EntersAll}
 use Rattle.run_formula.proofs.Readied.{whole}
 

@@ -1,5 +1,5 @@
 -- What the run along a log says is what the run that prints says.
-use Rattle.std.proofs.Common.{◌≡◌, ◌↔◌, ◌+◌, ℕ, List, [], ◌∷◌, length, Bool, true, false}
+use Rattle.std.proofs.Common.{◌≡◌, ◌↔◌, ◌+◌, ℕ, ℤ, List, [], ◌∷◌, length, Bool, true, false}
 use Rattle.std.proofs.Common.{cond, ◌&&◌, nat_eq, Option, Some, None, refl, sym, ap, subst, ◌∙◌, arith}
 use Rattle.std.specs.List.{starts_with}
 use Rattle.bit_words.specs.declared.fact.Fact.{Fact}
@@ -15,12 +15,15 @@ use Rattle.term_bank.specs.Values.{Environment, Values, Models}
 use Rattle.term_bank.proofs.BankLemmas.{weaken, grows_on}
 use Rattle.path_states.specs.declared.state.State.{State}
 use Rattle.summary_compose.specs.Summaries.{world_in}
-use Rattle.path_summaries.specs.Tours.{Tour}
+use Rattle.log_expr.specs.Tours.{Tour}
 use Rattle.run_formula.specs.declared.questions.Question.{Question}
 use Rattle.run_formula.specs.declared.questions.Question.TheVariants as question
 use Rattle.run_formula.specs.Whole.{run_in_world, RunsAll}
 use Rattle.run_formula.specs.Questions.{shown, MeetsOn, IsAnswer, AnswerAll, AsksAll, TellsStates}
-use Rattle.run_formula.specs.Formula.{OfRun, FitsIn, LeavesIn, HoldsIn, SaysWhere, SaysFact, SayFacts, IsFormula}
+use Rattle.run_formula.specs.Formula.{OfRun, FitsIn, LeavesIn, HoldsIn, SawOtherIn, SaysWhere, SaysFact, SayFacts, SaysOther, AnswersOther, IsFormula}
+use Rattle.run_formula.specs.Watched.{SawOther}
+use Rattle.run_formula.specs.declared.watches.Watch.{Watch}
+use Rattle.run_formula.specs.declared.formula.RunFormula.{RunFormula}
 use Rattle.run_formula.proofs.Asked.{both, answer_of, answer_grown, answers_run}
 
 -- ---- texts
@@ -101,6 +104,11 @@ holds_where : (log : List ℕ) (d : Done Output) (f : Fact) (b : Bool) → start
 holds_where log d f true is fits = holds_alike log d f
 holds_where log d f false is fits = wrong _ is (begins_self log d.out.printed fits.prints)
 
+saw_where : (log : List ℕ) (d : Done Output) (w : Watch) (x : ℤ) (b : Bool) → starts_with nat_eq log d.out.printed ≡ b → Fits log (ran d)
+    → MeetsOn log (question.SawOther w x) (cond b (Some (seen_as log d)) None) ↔ SawOther log (ran d) w x
+saw_where log d w x true is fits = (λ h. h, λ h. h)
+saw_where log d w x false is fits = wrong _ is (begins_self log d.out.printed fits.prints)
+
 fits_of : (log : List ℕ) (o : Option (Done Output)) (r : Option (Done ℕ)) → CutsState log 0 o r
     → MeetsOn log question.Fits r ↔ OfRun (Fits log) (maybe_ran o)
 fits_of log None r h = on_same log question.Fits r None h
@@ -116,6 +124,12 @@ holds_of : (log : List ℕ) (f : Fact) (o : Option (Done Output)) (r : Option (D
 holds_of log f None r h fits = on_same log (question.Holds f) r None h
 holds_of log f (Some d) r h fits =
     both (on_same log (question.Holds f) r _ h.1) (holds_where log d f (follows log 0 d.out.printed) refl fits)
+
+saw_of : (log : List ℕ) (w : Watch) (x : ℤ) (o : Option (Done Output)) (r : Option (Done ℕ)) → CutsState log 0 o r → OfRun (Fits log) (maybe_ran o)
+    → MeetsOn log (question.SawOther w x) r ↔ OfRun (λ y. SawOther log y w x) (maybe_ran o)
+saw_of log w x None r h fits = on_same log (question.SawOther w x) r None h
+saw_of log w x (Some d) r h fits =
+    both (on_same log (question.SawOther w x) r _ h.1) (saw_where log d w x (follows log 0 d.out.printed) refl fits)
 
 -- ---- in each world
 
@@ -137,6 +151,10 @@ left_law t e = left_of t.log (prints t e) (run_in_world t e) (cut t e)
 pub holds_law : (t : Tour) (e : Environment) (f : Fact) → FitsIn t e → MeetsOn t.log (question.Holds f) (run_in_world t e) ↔ HoldsIn t e f
 unfolding prints
 holds_law t e f fits = holds_of t.log f (prints t e) (run_in_world t e) (cut t e) fits
+
+pub saw_law : (t : Tour) (e : Environment) (w : Watch) (x : ℤ) → FitsIn t e → MeetsOn t.log (question.SawOther w x) (run_in_world t e) ↔ SawOtherIn t e w x
+unfolding prints
+saw_law t e w x fits = saw_of t.log w x (prints t e) (run_in_world t e) (cut t e) fits
 
 -- ---- the formula
 
@@ -160,10 +178,11 @@ module _ (t : Tour) (a b : List Shape) (ss : List State) (runs : RunsAll t a b s
   say_facts c (f ∷ fs) [] h old = h
   say_facts c (f ∷ fs) (n ∷ ns) h old = (says_fact c f n h.0 old, say_facts c fs ns h.1 old)
 
-pub formula_is : (t : Tour) (a b c d f : List Shape) (ss : List State) (fits left : Node) (facts : List Fact) (ns : List Node) → RunsAll t a b ss
-    → TellsStates b c t.log question.Fits ss fits → TellsStates c d t.log question.Left ss left → AsksAll d f t.log ss facts ns
-    → IsFormula t a f facts (record { fits = fits; left = left; facts = ns })
-formula_is t a b c d f ss fits left facts ns runs h k j =
+pub formula_is : (t : Tour) (a b c d f : List Shape) (ss : List State) (fits left : Node) (facts : List Fact) (ns : List Node) (ws : List Watch) (log : List ℕ)
+    → RunsAll t a b ss → TellsStates b c t.log question.Fits ss fits → TellsStates c d t.log question.Left ss left → AsksAll d f t.log ss facts ns
+    → log ≡ t.log
+    → IsFormula t a f facts (record { fits = fits; left = left; facts = ns; watches = ws; states = ss; log = log })
+formula_is t a b c d f ss fits left facts ns ws log runs h k j same =
     let cf = grows_on k.grows j.grows in
     let bf = grows_on h.grows cf in
     record {
@@ -175,4 +194,24 @@ formula_is t a b c d f ss fits left facts ns runs h k j =
           (answer_grown d f t.log question.Left ss left j.grows (answer_of c d t.log question.Left ss left k))
           (λ e v m. weaken bf m) (left_law t);
       facts = say_facts t a b ss runs f facts ns j.answers (λ e v m. weaken bf m);
+      ends = record { start = a; ended = b; runs = runs; grown = bf };
+      log = same;
     }
+
+-- ---- what watched variables were
+
+pub other_answered : (a b : List Shape) (r : RunFormula) (w : Watch) (x : ℤ) (n : Node) → TellsStates a b r.log (question.SawOther w x) r.states n
+    → AnswersOther a b r w x n
+other_answered a b r w x n h = record {
+  grows = h.grows;
+  term = h.term;
+  says = λ t c d fs is g.
+      let told : IsAnswer b t.log (question.SawOther w x) r.states n =
+      subst (λ log. IsAnswer b log (question.SawOther w x) r.states n) is.log (answer_of a b r.log (question.SawOther w x) r.states n h) in
+      record {
+        term = h.term;
+        is = λ e v m fits.
+            both (answers_run t is.ends.start is.ends.ended b (question.SawOther w x) r.states n is.ends.runs told e v
+            (weaken (grows_on is.ends.grown (grows_on g h.grows)) m) m) (saw_law t e w x fits);
+      };
+}

@@ -36,7 +36,8 @@ use Rattle.path_codes.specs.Settings.{WalksSet}
 use Rattle.path_codes.proofs.Courses.{arrows_then, arrows_as}
 use Rattle.summary_compose.specs.Summaries.{world_in}
 use Rattle.summary_compose.specs.Composing.{PutsIn}
-use Rattle.path_summaries.specs.Tours.{Tour, tour_of, machine_in}
+use Rattle.log_expr.specs.Tours.{Tour, tour_of}
+use Rattle.path_summaries.specs.Tours.{machine_in}
 use Rattle.run_formula.specs.Starts.{made_in, made_all, Begins}
 use Rattle.run_formula.specs.Settings.{still_around, one_set, all_set, Sets, Starts, readied, Readies}
 use Rattle.run_formula.proofs.Started.{start_sized}

@@ -13,7 +13,8 @@ use Rattle.summary_compose.specs.declared.summary.Summary.{Summary}
 use Rattle.summary_compose.specs.Renaming.{each_of}
 use Rattle.summary_compose.specs.Summaries.{world_in}
 use Rattle.path_summaries.specs.declared.levels.Levelled.{Levelled}
-use Rattle.path_summaries.specs.Tours.{Tour, StandsFor, machine_in, does, room_in}
+use Rattle.log_expr.specs.Tours.{Tour}
+use Rattle.path_summaries.specs.Tours.{StandsFor, machine_in, does, room_in}
 use Rattle.path_summaries.specs.Levels.{Levels, IsLevelled}
 use Rattle.run_formula.specs.Settings.{readied, Readies}
 use Rattle.run_formula.specs.Whole.{main_arrow, main_list, IsMain, EntersAll, HasRoom, RunsAll}

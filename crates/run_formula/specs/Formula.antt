@@ -1,5 +1,5 @@
 -- What the formula of a program's runs says of each world.
-use Rattle.std.specs.Prelude.{◌≡◌, ◌↔◌, List, [], ◌∷◌, true, nat_eq, Option, Some, None}
+use Rattle.std.specs.Prelude.{◌≡◌, ◌↔◌, ℤ, List, [], ◌∷◌, true, nat_eq, Option, Some, None}
 use Rattle.std.specs.List.{starts_with}
 use Rattle.bit_words.specs.declared.fact.Fact.{Fact}
 use Rattle.bit_words.specs.declared.run.Run.{Run}
@@ -11,7 +11,11 @@ use Rattle.term_bank.specs.declared.shape.Shape.{Shape}
 use Rattle.term_bank.specs.Terms.{IsTerm}
 use Rattle.term_bank.specs.Values.{Environment, Values, Models, Grows}
 use Rattle.summary_compose.specs.Summaries.{world_in}
-use Rattle.path_summaries.specs.Tours.{Tour}
+use Rattle.log_expr.specs.Tours.{Tour}
+use Rattle.path_states.specs.declared.state.State.{State}
+use Rattle.run_formula.specs.Watched.{SawOther}
+use Rattle.run_formula.specs.Whole.{RunsAll}
+use Rattle.run_formula.specs.declared.watches.Watch.{Watch}
 use Rattle.run_formula.specs.declared.formula.RunFormula.{RunFormula}
 
 -- ---- the program's run in the world of an environment
@@ -35,6 +39,10 @@ LeavesIn t e = OfRun (λ r. (StaysIn r.finish → ⊥) × (starts_with nat_eq t.
 abbrev pub HoldsIn : Tour → Environment → Fact → Type 0
 HoldsIn t e f = OfRun (λ r. Holds t.log r f) (the_run t e)
 
+-- some print of the watched variable saw another value than this
+abbrev pub SawOtherIn : Tour → Environment → Watch → ℤ → Type 0
+SawOtherIn t e w x = OfRun (λ r. SawOther t.log r w x) (the_run t e)
+
 -- ---- truths over the world
 
 -- a truth that says so in each world
@@ -54,8 +62,29 @@ SayFacts t b [] (n ∷ ns) = ⊥
 SayFacts t b (f ∷ fs) [] = ⊥
 SayFacts t b (f ∷ fs) (n ∷ ns) = SaysFact t b f n × SayFacts t b fs ns
 
+-- a truth that says of each world whose run fits whether some print of the watched variable saw another value than this
+pub record SaysOther (t : Tour) (b : List Shape) (w : Watch) (x : ℤ) (n : Node) : Type 0 where
+  pub term : IsTerm b Truth n
+  pub is : (e : Environment) (v : Values) → Models b e v → FitsIn t e → ((v n.index).truth ≡ true) ↔ SawOtherIn t e w x
+
+-- the ends of all runs, in a bank that has grown since
+pub record HasEnds (t : Tour) (b : List Shape) (ss : List State) : Type 0 where
+  pub start : List Shape
+  pub ended : List Shape
+  pub runs : RunsAll t start ended ss
+  pub grown : Grows ended b
+
 pub record IsFormula (t : Tour) (a b : List Shape) (fs : List Fact) (r : RunFormula) : Type 0 where
   pub grows : Grows a b
   pub fits : SaysWhere b (FitsIn t) r.fits
   pub left : SaysWhere b (LeavesIn t) r.left
   pub facts : SayFacts t b fs r.facts
+  pub ends : HasEnds t b r.states
+  pub log : r.log ≡ t.log
+
+-- The answer to a question on the ends of a run formula: whatever the formula's program and bank, it says of each world
+-- whose run fits whether some print of the watched variable saw another value.
+pub record AnswersOther (a b : List Shape) (r : RunFormula) (w : Watch) (x : ℤ) (n : Node) : Type 0 where
+  pub grows : Grows a b
+  pub term : IsTerm b Truth n
+  pub says : (t : Tour) (c d : List Shape) (fs : List Fact) → IsFormula t c d fs r → Grows d a → SaysOther t b w x n

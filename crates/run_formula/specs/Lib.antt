@@ -1,3 +1,4 @@
+pub mod Watched
 pub mod Starts
 pub mod Settings
 pub mod Whole

@@ -4,6 +4,7 @@ use Rattle.std.specs.HashMap.{get}
 use Rattle.bit_words.specs.declared.fact.Fact.{Fact}
 use Rattle.bit_words.specs.declared.fact.Fact.TheVariants as fact
 use Rattle.bit_words.specs.declared.run.Event.{Event}
+use Rattle.bit_words.specs.declared.run.Happening.TheVariants as happening
 use Rattle.bit_words.specs.declared.run.Finish.{Finish}
 use Rattle.bit_words.specs.declared.run.Finish.TheVariants as finish
 use Rattle.bit_words.specs.declared.run.Run.{Run}
@@ -18,6 +19,7 @@ use Rattle.term_bank.specs.Values.{Environment, Values, Models, Grows, worth}
 use Rattle.term_bank.specs.Images.{Images}
 use Rattle.path_states.specs.declared.state.State.{State}
 use Rattle.path_states.specs.States.{Held, done_in, standing}
+use Rattle.run_formula.specs.Watched.{SeesOther, SawOther}
 use Rattle.run_formula.specs.declared.questions.Question.{Question}
 use Rattle.run_formula.specs.declared.questions.Question.TheVariants as question
 
@@ -36,6 +38,13 @@ IsMeant log (fact.Call at) e = IsCall at e.what
 IsMeant log (fact.CallIn at line) e = IsCall at e.what × BeginsIn log line e
 IsMeant log (fact.Print at line) e = IsPrint at e.what × BeginsIn log line e
 IsMeant log _ e = ⊥
+
+-- the events of which a question asks whether there is one
+abbrev pub IsSought : List ℕ → Question → Event → Type 0
+IsSought log question.Fits e = ⊥
+IsSought log question.Left e = ⊥
+IsSought log (question.Holds f) e = IsMeant log f e
+IsSought log (question.SawOther w x) e = SeesOther log w x e
 
 -- the ends of a run on which a fact holds
 abbrev pub EndsSo : Fact → Finish → Type 0
@@ -62,6 +71,7 @@ abbrev pub Meets : List ℕ → Question → Done ℕ → Type 0
 Meets log question.Fits d = StaysIn (shown log d).finish × (d.out ≡ length log)
 Meets log question.Left d = StaysIn (shown log d).finish → ⊥
 Meets log (question.Holds f) d = Holds log (shown log d) f
+Meets log (question.SawOther w x) d = SawOther log (shown log d) w x
 
 -- of a run that goes on along the log
 abbrev pub MeetsOn : List ℕ → Question → Option (Done ℕ) → Type 0
@@ -70,40 +80,40 @@ MeetsOn log q (Some d) = Meets log q d
 
 -- ---- nodes
 
--- true where one of a node's events is meant
-pub record TellsAt (b : List Shape) (log : List ℕ) (f : Fact) (events : ℕ) (n : Node) : Type 0 where
+-- true where one of a node's events is sought
+pub record TellsAt (b : List Shape) (log : List ℕ) (q : Question) (events : ℕ) (n : Node) : Type 0 where
   pub term : IsTerm b Truth n
   pub is : (e : Environment) (v : Values) → Models b e v
-      → ((v n.index).truth ≡ true) ↔ OneOf (IsMeant log f) (v events).events
+      → ((v n.index).truth ≡ true) ↔ OneOf (IsSought log q) (v events).events
 
 -- the same of a shape's
-pub record TellsShape (a b : List Shape) (log : List ℕ) (f : Fact) (shape : Shape) (n : Node) : Type 0 where
+pub record TellsShape (a b : List Shape) (log : List ℕ) (q : Question) (shape : Shape) (n : Node) : Type 0 where
   pub grows : Grows a b
   pub term : IsTerm b Truth n
   pub is : (e : Environment) (v : Values) → Models b e v
-      → ((v n.index).truth ≡ true) ↔ OneOf (IsMeant log f) (worth e v shape).events
+      → ((v n.index).truth ≡ true) ↔ OneOf (IsSought log q) (worth e v shape).events
 
 -- the same of each node that has an entry
-pub record AllTell (b : List Shape) (log : List ℕ) (f : Fact) (told : Images) : Type 0 where
-  pub tell : (n : ℕ) (node : Node) → get nat_eq told n ≡ Some node → TellsAt b log f n node
+pub record AllTell (b : List Shape) (log : List ℕ) (q : Question) (told : Images) : Type 0 where
+  pub tell : (n : ℕ) (node : Node) → get nat_eq told n ≡ Some node → TellsAt b log q n node
 
-pub record TellsAll (a b : List Shape) (log : List ℕ) (f : Fact) (told : Images) : Type 0 where
+pub record TellsAll (a b : List Shape) (log : List ℕ) (q : Question) (told : Images) : Type 0 where
   pub grows : Grows a b
-  pub all : AllTell b log f told
-
--- what a question asks of events
-pub record ToldFor (b : List Shape) (log : List ℕ) (q : Question) (told : Images) : Type 0 where
-  pub told_of : (f : Fact) → q ≡ question.Holds f → AllTell b log f told
-
-pub record TellsFor (a b : List Shape) (log : List ℕ) (q : Question) (told : Images) : Type 0 where
-  pub grows : Grows a b
-  pub for : ToldFor b log q told
+  pub all : AllTell b log q told
 
 -- the first truth, or this
 pub record OrMeant (a b : List Shape) (before : Node) (meant : Bool) (n : Node) : Type 0 where
   pub grows : Grows a b
   pub term : IsTerm b Truth n
   pub is : (e : Environment) (v : Values) → Models b e v → (v n.index).truth ≡ cond meant true (v before.index).truth
+
+-- the first truth, or that a print by this site is sought, that sees the numbers of a node, whatever its length
+pub record OrPrint (a b : List Shape) (log : List ℕ) (q : Question) (before : Node) (printed at seen : ℕ) (n : Node) : Type 0 where
+  pub grows : Grows a b
+  pub term : IsTerm b Truth n
+  pub is : (length : ℕ) (e : Environment) (v : Values) → Models b e v
+      → ((v n.index).truth ≡ true) ↔ (((v before.index).truth ≡ true)
+      ⊎ IsSought log q (record { what = happening.Print at length (v seen).numbers; printed = printed }))
 
 -- true where the answer is yes on what a state says of a run
 pub record TellsState (a b : List Shape) (log : List ℕ) (q : Question) (s : State) (n : Node) : Type 0 where

@@ -15,7 +15,8 @@ use Rattle.path_states.specs.Ways.{Goes, to_list}
 use Rattle.path_arrows.specs.Arrows.{bare, bared, by_arrow}
 use Rattle.path_forms.specs.Around.{Around, level_at, env_at}
 use Rattle.summary_compose.specs.Summaries.{world_in}
-use Rattle.path_summaries.specs.Tours.{Tour, machine_in}
+use Rattle.log_expr.specs.Tours.{Tour}
+use Rattle.path_summaries.specs.Tours.{machine_in}
 
 -- where no function runs, and none is called
 abbrev pub still_around : List ℕ → Bounds → Around

@@ -13,7 +13,8 @@ use Rattle.path_arrows.specs.Arrows.{bared}
 use Rattle.summary_compose.specs.declared.summary.Summary.{Summary}
 use Rattle.summary_compose.specs.Renaming.{each_of}
 use Rattle.summary_compose.specs.Summaries.{world_in}
-use Rattle.path_summaries.specs.Tours.{Tour, StandsFor, machine_in, does, room_in}
+use Rattle.log_expr.specs.Tours.{Tour}
+use Rattle.path_summaries.specs.Tours.{StandsFor, machine_in, does, room_in}
 
 -- the run along the log, in the world of an environment
 abbrev pub run_in_world : Tour → Environment → Option (Done ℕ)

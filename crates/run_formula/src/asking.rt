@@ -2,10 +2,10 @@
 ghost use Rattle.std.specs.Prelude.{◌≡◌, ◌↔◌, ℕ, List, true, IfOk};
 ghost use Rattle.term_bank.specs.Values.{Values as ValuesType};
 ghost use Rattle.path_states.specs.States.{AreStates, done_in};
-ghost use Rattle.run_formula.specs.Questions.{EndsSo, Meets, shown, AllTell, ToldFor, TellsState, TellsStates};
+ghost use Rattle.run_formula.specs.Questions.{EndsSo, Meets, shown, AllTell, TellsState, TellsStates};
 ghost use Rattle.run_formula.specs.declared.questions.Question.TheVariants as question;
 
-use crate::events::{any_event, tell_for};
+use crate::events::{any_event, tell_all};
 use crate::questions::{Question, ends_so, finish_of};
 use bit_words::Fact;
 use log_text::LogText;
@@ -45,7 +45,7 @@ fn holds_on(
     fact: Fact,
     log: &LogText,
 ) -> Result<Node, BankFault>
-    requires told { AllTell bank.old log.now fact told.now }
+    requires told { AllTell bank.old log.now (question.Holds fact) told.now }
     ensures { IfOk result (TellsState bank.old bank.new log.now (question.Holds fact) state.now) }
 {
     let _ = log;
@@ -63,7 +63,7 @@ fn says(
     question: Question,
     log: &LogText,
 ) -> Result<Node, BankFault>
-    requires told { ToldFor bank.old log.now question told.now }
+    requires told { AllTell bank.old log.now question told.now }
     ensures { IfOk result (TellsState bank.old bank.new log.now question state.now) }
 {
     match question {
@@ -79,6 +79,10 @@ fn says(
             let node = holds_on(bank, told, state, fact, log)?;
             Ok(node)
         }
+        Question::SawOther { .. } => {
+            let node = any_event(told, state.events)?;
+            Ok(node)
+        }
     }
 }
 
@@ -91,7 +95,7 @@ fn ask_told(
     log: &LogText,
 ) -> Result<Node, BankFault>
     requires states { AreStates bank.old states.now }
-    requires told { ToldFor bank.old log.now question told.now }
+    requires told { AllTell bank.old log.now question told.now }
     ensures { IfOk result (TellsStates bank.old bank.new log.now question states.now) }
 {
     let mut any = bank.truth(false)?;
@@ -116,7 +120,7 @@ pub(crate) fn ask(
     requires { AreStates bank.old states.now }
     ensures { IfOk result (TellsStates bank.old bank.new log.now question states.now) }
 {
-    let told = tell_for(alloc, bank, events, question, log)?;
+    let told = tell_all(alloc, bank, events, &question, log)?;
     let any = ask_told(bank, &told, states, question, log)?;
     Ok(any)
 }

@@ -1,4 +1,4 @@
-//! Whether something happened of which a fact speaks, for each node of events.
+//! Whether something happened that a question seeks, for each node of events.
 ghost use Rattle.std.specs.Prelude.{◌≡◌, ◌↔◌, ℕ, ℤ, List, Some, true, nat_eq, slice_get, IfOk};
 ghost use Rattle.std.specs.HashMap.{get};
 ghost use Rattle.bit_words.specs.declared.run.Happening.TheVariants as happening;
@@ -7,9 +7,12 @@ ghost use Rattle.term_bank.specs.Banks.{IsBank};
 ghost use Rattle.term_bank.specs.Terms.{IsTerm};
 ghost use Rattle.term_bank.specs.declared.sort.Sort.TheVariants.{Truth};
 ghost use Rattle.path_states.specs.States.{AreStates};
-ghost use Rattle.run_formula.specs.Questions.{IsMeant, AllTell, TellsShape, TellsAll, TellsFor, OrMeant};
+ghost use Rattle.run_formula.specs.Questions.{IsMeant, IsSought, AllTell, TellsShape, TellsAll, OrMeant, OrPrint};
+ghost use Rattle.run_formula.specs.declared.questions.Question.TheVariants as question;
 
 use crate::questions::Question;
+use crate::seen::sees_other;
+use crate::watches::Watch;
 use bit_words::{Fact, Side};
 use log_text::LogText;
 use path_states::State;
@@ -68,6 +71,35 @@ fn speaks_of_print(fact: &Fact, log: &LogText, printed: u64, at: u32) -> bool
     }
 }
 
+/// Whether a branch at a token that takes a side behind so many printed bytes is sought.
+fn seeks_branch(question: &Question, log: &LogText, printed: u64, at: u32, side: Side) -> bool
+    ensures { (result ≡ true) ↔
+        IsSought log.now question.now (record { what = happening.Branch at side; printed = printed }) }
+{
+    match question {
+        Question::Holds(fact) => speaks_of_branch(fact, log, printed, at, side),
+        _ => false,
+    }
+}
+
+/// Whether a call at a token behind so many printed bytes is sought.
+fn seeks_call(question: &Question, log: &LogText, printed: u64, at: u32) -> bool
+    ensures { (result ≡ true) ↔
+        IsSought log.now question.now (record { what = happening.Call at; printed = printed }) }
+{
+    match question {
+        Question::Holds(fact) => speaks_of_call(fact, log, printed, at),
+        _ => false,
+    }
+}
+
+/// Whether prints by a site that begin behind so many printed bytes see a variable that is watched.
+fn is_watched(watch: &Watch, log: &LogText, printed: u64, at: u32) -> bool
+    ensures { (result ≡ true) ↔ ((at ≡ watch.now.at) × (line_of log.now printed ≡ watch.now.line)) }
+{
+    at == watch.at && is_in_line(log, watch.line, printed)
+}
+
 /// The truth that is told of some events. It fails where nothing is told of them.
 fn told_of(told: &HashMap<u32, Node>, events: u32) -> Result<Node, BankFault>
     ensures { IfOk result (λ n. get nat_eq told.now events ≡ Some n) }
@@ -90,19 +122,72 @@ fn or_meant(bank: &mut Bank, before: Node, meant: bool) -> Result<Node, BankFaul
     Ok(before)
 }
 
-/// The truth that the fact speaks of one of a node's events, by what is told of the nodes below it.
+/// The truth of what happened before, or that a print that happens next saw another value than this.
+fn or_other(
+    alloc: Global,
+    bank: &mut Bank,
+    before: Node,
+    watch: &Watch,
+    value: &i128,
+    log: &LogText,
+    printed: u64,
+    at: u32,
+    seen: u32,
+) -> Result<Node, BankFault>
+    requires { IsTerm bank.old Truth before }
+    ensures { IfOk result (OrPrint bank.old bank.new log.now (question.SawOther watch.now value.now) before printed at seen) }
+{
+    if !is_watched(watch, log, printed, at) {
+        return Ok(before);
+    }
+    let other = sees_other(alloc, bank, seen, watch.place, value)?;
+    let node = bank.connect(Connective::Or, before, other)?;
+    Ok(node)
+}
+
+/// The truth of what happened before, or that a print that happens next is sought.
+fn or_print(
+    alloc: Global,
+    bank: &mut Bank,
+    before: Node,
+    question: &Question,
+    log: &LogText,
+    printed: u64,
+    at: u32,
+    seen: u32,
+) -> Result<Node, BankFault>
+    requires { IsTerm bank.old Truth before }
+    ensures { IfOk result (OrPrint bank.old bank.new log.now question.now before printed at seen) }
+{
+    match question {
+        Question::Holds(fact) => {
+            let meant = speaks_of_print(fact, log, printed, at);
+            let node = or_meant(bank, before, meant)?;
+            Ok(node)
+        }
+        Question::SawOther { watch, value } => {
+            let node = or_other(alloc, bank, before, watch, value, log, printed, at, seen)?;
+            Ok(node)
+        }
+        Question::Fits => Ok(before),
+        Question::Left => Ok(before),
+    }
+}
+
+/// The truth that one of a node's events is sought, by what is told of the nodes below it.
 fn tell(
+    alloc: Global,
     bank: &mut Bank,
     told: &HashMap<u32, Node>,
     number: u32,
     shape: Shape,
-    fact: &Fact,
+    question: &Question,
     log: &LogText,
 ) -> Result<Node, BankFault>
-    requires told { AllTell bank.old log.now fact.now told.now }
+    requires told { AllTell bank.old log.now question.now told.now }
     requires stands { slice_get bank.old number ≡ Some shape }
     requires bank { IsBank bank.old }
-    ensures { IfOk result (TellsShape bank.old bank.new log.now fact.now shape) }
+    ensures { IfOk result (TellsShape bank.old bank.new log.now question.now shape) }
 {
     match shape {
         Shape::NoEvents => {
@@ -116,7 +201,7 @@ fn tell(
             side,
         } => {
             let before = told_of(told, events)?;
-            let meant = speaks_of_branch(fact, log, printed, at, side);
+            let meant = seeks_branch(question, log, printed, at, side);
             let node = or_meant(bank, before, meant)?;
             Ok(node)
         }
@@ -126,7 +211,7 @@ fn tell(
             at,
         } => {
             let before = told_of(told, events)?;
-            let meant = speaks_of_call(fact, log, printed, at);
+            let meant = seeks_call(question, log, printed, at);
             let node = or_meant(bank, before, meant)?;
             Ok(node)
         }
@@ -134,11 +219,11 @@ fn tell(
             events,
             printed,
             at,
+            seen,
             ..
         } => {
             let before = told_of(told, events)?;
-            let meant = speaks_of_print(fact, log, printed, at);
-            let node = or_meant(bank, before, meant)?;
+            let node = or_print(alloc, bank, before, question, log, printed, at, seen)?;
             Ok(node)
         }
         Shape::EventsBehind { first, second } => {
@@ -196,62 +281,45 @@ pub(crate) fn events_under(
     Ok(numbers)
 }
 
-/// One more node of events, of which it is told whether the fact speaks of one.
+/// One more node of events, of which it is told whether one is sought.
 fn tell_next(
+    alloc: Global,
     bank: &mut Bank,
     told: &mut HashMap<u32, Node>,
     number: u32,
-    fact: &Fact,
+    question: &Question,
     log: &LogText,
 ) -> Result<(), BankFault>
-    requires { AllTell bank.old log.now fact.now told.old }
-    ensures { IfOk result (λ _. TellsAll bank.old bank.new log.now fact.now told.new) }
+    requires { AllTell bank.old log.now question.now told.old }
+    ensures { IfOk result (λ _. TellsAll bank.old bank.new log.now question.now told.new) }
 {
     if let Some(shape) = bank.shape(number) {
-        let node = tell(bank, told, number, shape, fact, log)?;
+        let node = tell(alloc, bank, told, number, shape, question, log)?;
         set_image(told, number, node)?;
+        return Ok(());
     }
-    Ok(())
+    Err(BankFault::Memory)
 }
 
-/// Of each of these nodes of events, which stand behind those below them, the truth that the fact speaks of one of its
-/// events. It fails for want of memory alone.
-fn tell_all(
+/// The truth, of each of these nodes of events, that one of its events is sought. Each node stands behind those below it. It
+/// fails for want of memory alone.
+pub(crate) fn tell_all(
     alloc: Global,
     bank: &mut Bank,
     numbers: &[u32],
-    fact: &Fact,
+    question: &Question,
     log: &LogText,
 ) -> Result<HashMap<u32, Node>, BankFault>
-    ensures { IfOk result (TellsAll bank.old bank.new log.now fact.now) }
+    ensures { IfOk result (TellsAll bank.old bank.new log.now question.now) }
 {
     let mut told = HashMap::new(alloc);
     for number in numbers {
-        tell_next(bank, &mut told, *number, fact, log)?;
+        tell_next(alloc, bank, &mut told, *number, question, log)?;
     }
     Ok(told)
 }
 
-/// What is to be known of nodes of events for a question. It fails for want of memory alone.
-pub(crate) fn tell_for(
-    alloc: Global,
-    bank: &mut Bank,
-    numbers: &[u32],
-    question: Question,
-    log: &LogText,
-) -> Result<HashMap<u32, Node>, BankFault>
-    ensures { IfOk result (TellsFor bank.old bank.new log.now question) }
-{
-    match question {
-        Question::Holds(fact) => {
-            let told = tell_all(alloc, bank, numbers, &fact, log)?;
-            Ok(told)
-        }
-        Question::Fits | Question::Left => Ok(HashMap::new(alloc)),
-    }
-}
-
-/// The truth that the fact speaks of one of a state's events. It fails for want of memory alone.
+/// The truth that one of a state's events is sought. It fails for want of memory alone.
 pub(crate) fn any_event(told: &HashMap<u32, Node>, events: Node) -> Result<Node, BankFault>
     ensures { IfOk result (λ n. get nat_eq told.now events.index ≡ Some n) }
 {

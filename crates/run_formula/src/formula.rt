@@ -4,13 +4,14 @@ ghost use Rattle.c_runs.specs.Units.{limits_of};
 ghost use Rattle.log_expr.specs.Sound.{IsSound};
 ghost use Rattle.path_states.specs.States.{AreStates};
 ghost use Rattle.path_summaries.specs.Levels.{keys_within};
-ghost use Rattle.path_summaries.specs.Tours.{tour_of};
+ghost use Rattle.log_expr.specs.Tours.{tour_of};
 ghost use Rattle.run_formula.specs.Questions.{AsksAll};
-ghost use Rattle.run_formula.specs.Formula.{IsFormula};
+ghost use Rattle.run_formula.specs.Formula.{AnswersOther, IsFormula};
 
 use crate::asking::ask;
 use crate::events::events_under;
 use crate::questions::Question;
+use crate::watches::Watch;
 use crate::whole::run_states;
 use bit_words::{Bounds, Fact};
 use core_tree::Core;
@@ -31,6 +32,12 @@ pub struct RunFormula {
     pub left: Node,
     /// Of each fact, in order: it holds on the run, where this fits.
     pub facts: Items<Node>,
+    /// The variables that are watched, in order.
+    pub watches: Items<Watch>,
+    /// How the runs end, one of which stands at most.
+    pub(crate) states: Items<State>,
+    /// The log.
+    pub(crate) log: LogText,
 }
 
 /// The answers on all facts, in order. It fails for want of memory alone.
@@ -53,8 +60,8 @@ fn ask_all(
     Ok(nodes)
 }
 
-/// The formula of a program's runs along a log, for these facts. It counts its walks: one for each key of the table of
-/// ends. It fails for want of memory, and where the walk can't do a step yet (`run_states`).
+/// The formula of a program's runs along a log, for these facts and watched variables. It counts its walks: one for each
+/// key of the table of ends. It fails for want of memory, and where the walk can't do a step yet (`run_states`).
 pub fn run_formula(
     alloc: Global,
     core: &Core,
@@ -62,12 +69,15 @@ pub fn run_formula(
     bounds: &Bounds,
     ends: &EndTable,
     facts: &[Fact],
+    watches: &[Watch],
     bank: &mut Bank,
     walks: &mut u64,
 ) -> Result<RunFormula, WalkFault>
     requires { IsSound core.now log.now (limits_of bounds.now) bounds.now.depth ends.now }
     ensures formula { IfOk result (IsFormula (tour_of core.now log.now bounds.now ends.now) bank.old bank.new
         facts.now) }
+    ensures watches { IfOk result (λ formula. formula.watches ≡ watches.now) }
+    ensures ends { IfOk result (λ formula. AreStates bank.new formula.states) }
     ensures counted { IfOk result (λ _. walks.new ≡ walks.old + keys_within bounds.now.depth ends.now) }
 {
     let states = run_states(alloc, core, log.bytes(), bounds, ends, bank, walks)?;
@@ -82,5 +92,40 @@ pub fn run_formula(
         facts,
         log,
     )?;
-    Ok(RunFormula { fits, left, facts })
+    let watches = Items::from_slice(alloc, watches)?;
+    let log = log.duplicate(alloc)?;
+    Ok(RunFormula {
+        fits,
+        left,
+        facts,
+        watches,
+        states,
+        log,
+    })
+}
+
+impl RunFormula {
+    /// Whether some print of a watched variable saw another value than this, in every world whose run fits. The bank is
+    /// the formula's, or has grown since. It fails for want of memory alone.
+    pub fn saw_other(
+        &self,
+        alloc: Global,
+        bank: &mut Bank,
+        watch: Watch,
+        value: &i128,
+    ) -> Result<Node, BankFault>
+        requires { AreStates bank.old self.now.states }
+        ensures { IfOk result (AnswersOther bank.old bank.new self.now watch value.now) }
+    {
+        let value = *value;
+        // Never so: by the test proofs learn the range of what stands behind a reference.
+        if value < i128::MIN || value > i128::MAX {
+            return Err(BankFault::Memory);
+        }
+        let states = self.states.as_slice();
+        let events = events_under(alloc, bank, states)?;
+        let question = Question::SawOther { watch, value };
+        let node = ask(alloc, bank, events.as_slice(), states, question, &self.log)?;
+        Ok(node)
+    }
 }

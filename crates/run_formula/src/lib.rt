@@ -8,12 +8,15 @@ mod entering;
 mod events;
 mod formula;
 mod questions;
+mod seen;
 mod settings;
 mod starts;
 mod texts;
+mod watches;
 mod whole;
 
 pub use formula::{RunFormula, run_formula};
 pub use questions::Question;
 pub use starts::start_memory;
+pub use watches::{Watch, watches_of};
 pub use whole::run_states;

@@ -2,7 +2,7 @@
 ghost use Rattle.std.specs.Prelude.{◌≡◌, ◌∷◌, [], ℕ, List, IfOk};
 ghost use Rattle.path_states.specs.States.{AreStates};
 ghost use Rattle.log_expr.specs.declared.table.Entry.{Entry as EntryType};
-ghost use Rattle.path_summaries.specs.Tours.{tour_of};
+ghost use Rattle.log_expr.specs.Tours.{tour_of};
 ghost use Rattle.run_formula.specs.Settings.{still_around, Sets, Starts, Readies};
 
 use crate::banks::keeps_bank;

@@ -3,7 +3,7 @@ ghost use Rattle.std.specs.Prelude.{◌≡◌, ◌+◌, Some, IfOk, slice_get};
 ghost use Rattle.c_runs.specs.Units.{limits_of};
 ghost use Rattle.log_expr.specs.Sound.{IsSound};
 ghost use Rattle.path_summaries.specs.Levels.{keys_within};
-ghost use Rattle.path_summaries.specs.Tours.{tour_of};
+ghost use Rattle.log_expr.specs.Tours.{tour_of};
 ghost use Rattle.run_formula.specs.Whole.{HasRoom, RunsAll};
 
 use crate::entering::enter_all;

@@ -1,8 +1,21 @@
 //! sherlog: what a failed program must have done, may have done and can't have done, from its source and
-//! its log. This crate is the program around the top call, `run` of the crate `command`.
+//! its log. The top call is `run`, a command line served; `main` hands it the words, the files and the streams.
 #![tactic(auto)]
 
-use command::{run, tell_memory, tell_usage};
+mod call;
+mod getting;
+mod lines;
+mod output;
+mod places;
+mod refusal;
+mod reporting;
+mod request;
+mod serving;
+mod source;
+mod words;
+
+use crate::call::run;
+use crate::lines::{tell_memory, tell_usage};
 use diagnoses::Kept;
 use sl_io::{FileShelf, StreamSink};
 use std::env;
@@ -58,6 +71,3 @@ fn status_of(rt: &HostRuntime) -> u8 {
 fn main(rt: HostRuntime) -> ExitCode {
     ExitCode::from(status_of(&rt))
 }
-
-#[cfg(test)]
-mod tests;

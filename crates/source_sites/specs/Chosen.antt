@@ -1,7 +1,7 @@
 -- The log calls of a program that may print, with their formats.
 use Rattle.std.specs.Prelude.{◌≡◌, ℕ, Bool, cond, nat_eq, List, [], ◌∷◌, ◌++◌}
 use Rattle.std.specs.List.{list_any}
-use Rattle.acceptance.specs.declared.program.Accepted.{Accepted}
+use Rattle.accepted.specs.declared.program.Accepted.{Accepted}
 use Rattle.core_marks.specs.declared.mark.Site.{Site as Own}
 use Rattle.log_sites.specs.Sites.{AreSitesOf as AreSitesOfCore}
 use Rattle.source_sites.specs.declared.listing.Site.{Site}

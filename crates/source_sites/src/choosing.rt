@@ -4,7 +4,7 @@ ghost use Rattle.std.specs.List.{filter};
 ghost use Rattle.source_sites.specs.Chosen as spec;
 
 use crate::listing::{Site, sites};
-use acceptance::Accepted;
+use accepted::Accepted;
 use c_item_notes::Source;
 use c_program_notes::read_source;
 use plain_data::Items;

@@ -1,11 +1,13 @@
 //! Programs, logs and bounds.
 
-use acceptance::{Accepted, CheckFault, accept};
+use acceptance::{CheckFault, accept};
+use accepted::Accepted;
 use anyhow::{Result, anyhow, ensure};
 use bit_words::Bounds;
-use c_lexer::{Tokens, lex};
+use c_lexer::lex;
 use c_parser::parse;
 use c_runs::Profile;
+use c_tokens::Tokens;
 use c_tree::Unit;
 use config_text::default_config;
 use log_text::{LogText, strip};

@@ -5,6 +5,9 @@
 //! - `facts`, `lines`: the facts along the log, without and with those of each line, and the watched variables
 //!   (`facts`).
 //! - `sites`: the log calls (`sites`).
+//! - `values`: whether a run fits; how many worlds and refutations the questions on the facts come to, how many are open, and
+//!   how many answers don't hold; and of each watched variable that a run that fits has seen its value, or that it can have
+//!   several (`values`). `clauses`: how many clauses say that a run fits.
 //! - `walks`: how many bodies are walked. `nodes`: behind that, how many nodes the formula of the runs has (`walks`).
 //!
 //! A second word says how many turns a loop may take, a third how many levels of calls there may be.
@@ -15,9 +18,10 @@ mod facts;
 mod input;
 mod sites;
 mod text;
+mod values;
 mod walks;
 
-use acceptance::Accepted;
+use accepted::Accepted;
 use anyhow::{Result, anyhow};
 use bit_words::{Bounds, Bytes};
 use ends::{put_sums, put_table};
@@ -29,6 +33,7 @@ use sites::put_sites;
 use std::alloc::Global;
 use std::env;
 use std::io::{self, Read, Write};
+use values::{Asked, put_clauses, put_values};
 use walks::put_walks;
 
 /// Puts the table of ends at the end, or its sums.
@@ -77,6 +82,29 @@ fn answer_walks(
     Ok(())
 }
 
+/// Puts the answers to all questions at the end, or how many clauses they are asked of.
+fn answer_values(
+    alloc: Global,
+    program: &Accepted,
+    log: &[u8],
+    bounds: &Bounds,
+    is_count: bool,
+    text: &mut Bytes,
+) -> Result<()> {
+    let log = log_of(alloc, log)?;
+    let asked = Asked {
+        program,
+        bounds,
+        log: &log,
+    };
+    if is_count {
+        put_clauses(alloc, &asked, text)?;
+    } else {
+        put_values(alloc, &asked, text)?;
+    }
+    Ok(())
+}
+
 /// Puts the log calls at the end.
 fn answer_sites(alloc: Global, program: &Accepted, text: &mut Bytes) -> Result<()> {
     let found = log_sites::sites(alloc, &program.core)?;
@@ -99,6 +127,8 @@ fn found(
         "facts" => answer_facts(alloc, program, log, false, &mut text)?,
         "lines" => answer_facts(alloc, program, log, true, &mut text)?,
         "sites" => answer_sites(alloc, program, &mut text)?,
+        "clauses" => answer_values(alloc, program, log, bounds, true, &mut text)?,
+        "values" => answer_values(alloc, program, log, bounds, false, &mut text)?,
         "walks" => answer_walks(alloc, program, log, bounds, false, &mut text)?,
         "nodes" => answer_walks(alloc, program, log, bounds, true, &mut text)?,
         _ => return Err(anyhow!("no such word")),

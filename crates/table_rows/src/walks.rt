@@ -23,7 +23,17 @@ pub fn put_walks(
     let ends = end_table(alloc, core, log.bytes(), bounds)?;
     let mut bank = Bank::new(alloc);
     let mut walks = 0;
-    let _ = run_formula(alloc, core, log, bounds, &ends, &[], &mut bank, &mut walks)?;
+    let _ = run_formula(
+        alloc,
+        core,
+        log,
+        bounds,
+        &ends,
+        &[],
+        &[],
+        &mut bank,
+        &mut walks,
+    )?;
     put_count(text, u128::from(walks))?;
     if has_nodes {
         put_next(text, bank.len() as u64)?;

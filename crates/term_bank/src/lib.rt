@@ -15,6 +15,3 @@ pub use binding::{Binding, images_of, over, set_image};
 pub use shape::{Connective, Extension, Shape, WordOperator, WordTest};
 pub use sort::{Node, Sort};
 pub use under::nodes_under;
-
-#[cfg(test)]
-mod tests;

@@ -1,7 +1,7 @@
 //! Expressions, and the types that stand in them. Each function goes down the tree by one node.
 use crate::spelling;
 use crate::text::Text;
-use c_lexer::IntegerConstant;
+use c_tokens::IntegerConstant;
 use c_tree::{
     ArrayWord, Declarator, Enumerator, Expr, Field, MemberDeclaration, Parameter, Qualifier,
     Specifier, TypeName,

@@ -1,5 +1,5 @@
 //! How the words and operators of the tree are spelled.
-use c_lexer::IntegerType;
+use c_tokens::IntegerType;
 use c_tree::{
     AggregateKind, ArrayWord, BinaryOperator, PostfixOperator, Qualifier, StorageClass, TypeWord,
     UnaryOperator,

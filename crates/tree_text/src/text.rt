@@ -1,5 +1,5 @@
 use bit_words::Bytes;
-use c_lexer::Name;
+use c_tokens::Name;
 use c_tree::TagName;
 use plain_data::Shared;
 use std::alloc::{AllocError, Global};

@@ -16,8 +16,9 @@ mod text;
 
 use anyhow::{Result, anyhow};
 use bit_words::Bytes;
-use c_lexer::{Tokens, lex};
+use c_lexer::lex;
 use c_parser::parse;
+use c_tokens::Tokens;
 use c_tree::Unit;
 use declaring::{Answer, put_unit};
 use std::alloc::Global;

@@ -5,7 +5,7 @@
 
 use crate::text::{put, put_name, put_next, put_value};
 use bit_words::Bytes;
-use c_lexer::Name;
+use c_tokens::Name;
 use c_tree::Expr;
 use c_types::{
     CType, Content, Entry, Layout, Means, Member, Names, Tables, TypeFault, align_of, const_value,

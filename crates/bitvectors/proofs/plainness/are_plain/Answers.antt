@@ -1,4 +1,4 @@
-use Rattle.std.proofs.Common.{◌⊎◌, ◌≡◌, ◌∙◌, ◌∷◌, [], Bool, true, false, refl, sym, subst, inl, inr}
+use Rattle.std.proofs.Common.{◌⊎◌, ◌≡◌, ◌∙◌, ◌∷◌, [], Bool, true, false, refl, sym, subst, inl}
 use Rattle.term_bank.specs.Under.{Among, IsHeld, IsOnly}
 use Rattle.term_bank.proofs.Worth.{each}
 use Rattle.term_bank.proofs.BankLemmas.{stays}

@@ -1,6 +1,7 @@
-use Rattle.std.proofs.Common.{subst, ap, ◌∙◌, append-nil}
+use Rattle.std.proofs.Common.{subst}
+use Rattle.std.specs.Prelude.{IfOk}
 use Rattle.c_runs.specs.Units.{source_run}
-use Rattle.must_facts.specs.Inquiries.{RunsAlong}
+use Rattle.must_facts.specs.Inquiries.{RunsAlong, IsFound}
 use Rattle.must_facts.specs.Verdicts.{IsDiagnosis}
 use Rattle.must_facts.proofs.whole.diagnose_source.Goals as goal
 
@@ -14,7 +15,7 @@ returns-clause-diagnosed c =
       facts = c.in_ok-facts.ensures;
       query = q;
       runs = subst (λ fs. RunsAlong p.core b log fs q) c.as_slice.ensures c.in_ok-query.ensures.query;
-      run = c.in_ok-run.ensures ∙ append-nil c.diagnose.new.query.solver ∙ ap (λ r. r.solver) c.in_ok-diagnosis.ensures.same;
+      run = c.in_ok-found.ensures.found.run;
       is = subst (λ fs. IsDiagnosis (record { run = λ w. source_run p.externals p.profile w b; log = log; query = q; conflicts = c.args.conflicts })
-          fs c.in_ok-diagnosis.diagnosis) c.as_slice-2.ensures c.in_ok-diagnosis.ensures.diagnosis;
+          fs c.in_ok-found.found.diagnosis) c.as_slice-3.ensures c.in_ok-found.ensures.found.diagnosis;
     }

@@ -1,5 +1,6 @@
 use Rattle.std.proofs.Common.{◌-◌, ◌∙◌, sym, arith}
-use Rattle.path_summaries.specs.Tours.{tour_of, around_in}
+use Rattle.log_expr.specs.Tours.{tour_of}
+use Rattle.path_summaries.specs.Tours.{around_in}
 use Rattle.path_summaries.proofs.Answering.{none_left, never_at, answered_at}
 use Rattle.path_summaries.proofs.level.call_body.Goals as goal
 

@@ -1,4 +1,4 @@
-use Rattle.path_summaries.specs.Tours.{tour_of}
+use Rattle.log_expr.specs.Tours.{tour_of}
 use Rattle.path_summaries.proofs.Answering.{room_found, room_missing, room_where_none}
 use Rattle.path_summaries.proofs.level.room_below.Goals as goal
 

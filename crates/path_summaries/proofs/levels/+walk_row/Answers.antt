@@ -1,5 +1,5 @@
 use Rattle.std.proofs.Common.{rules}
-use Rattle.path_summaries.specs.Tours.{tour_of}
+use Rattle.log_expr.specs.Tours.{tour_of}
 use Rattle.path_summaries.proofs.Levelling.{row_more, based_on}
 use Rattle.path_summaries.proofs.levels.+walk_row.Goals as goal
 

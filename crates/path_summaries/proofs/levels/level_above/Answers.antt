@@ -1,4 +1,4 @@
-use Rattle.path_summaries.specs.Tours.{tour_of}
+use Rattle.log_expr.specs.Tours.{tour_of}
 use Rattle.path_summaries.proofs.Levelling.{based}
 use Rattle.path_summaries.proofs.levels.level_above.Goals as goal
 

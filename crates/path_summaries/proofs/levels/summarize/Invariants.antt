@@ -1,5 +1,5 @@
 use Rattle.std.proofs.Common.{◌-◌, ◌≤◌}
-use Rattle.path_summaries.specs.Tours.{tour_of}
+use Rattle.log_expr.specs.Tours.{tour_of}
 use Rattle.path_summaries.specs.Levels.{Levels}
 use Rattle.path_summaries.proofs.levels.summarize.Given as goal
 

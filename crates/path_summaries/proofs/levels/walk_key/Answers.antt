@@ -1,4 +1,4 @@
-use Rattle.path_summaries.specs.Tours.{tour_of}
+use Rattle.log_expr.specs.Tours.{tour_of}
 use Rattle.path_summaries.proofs.Levelling.{key_put}
 use Rattle.path_summaries.proofs.levels.walk_key.Goals as goal
 

@@ -1,5 +1,5 @@
 use Rattle.std.proofs.Common.{◌-◌, ◌≤◌, length}
-use Rattle.path_summaries.specs.Tours.{tour_of}
+use Rattle.log_expr.specs.Tours.{tour_of}
 use Rattle.path_summaries.specs.Levels.{FillsRows}
 use Rattle.path_summaries.proofs.levels.walk_rows.Given as goal
 

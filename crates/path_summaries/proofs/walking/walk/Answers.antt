@@ -1,7 +1,7 @@
 use Rattle.term_bank.proofs.BankLemmas.{stays, grows_on}
 use Rattle.path_states.proofs.Growth.{numbers_grown}
 use Rattle.path_forms.proofs.Started.{stays_on}
-use Rattle.path_summaries.specs.Tours.{tour_of}
+use Rattle.log_expr.specs.Tours.{tour_of}
 use Rattle.path_summaries.proofs.Walked.{walked}
 use Rattle.path_summaries.proofs.walking.walk.Goals as goal
 

@@ -4,7 +4,7 @@ use Rattle.term_bank.proofs.BankLemmas.{grows_on}
 use Rattle.term_bank.proofs.TermLemmas.{term_grown}
 use Rattle.path_states.proofs.Growth.{state_grown}
 use Rattle.path_states.proofs.Paths.{item_of, more_of}
-use Rattle.run_formula.proofs.Asked.{states_none, states_more, for_grown}
+use Rattle.run_formula.proofs.Asked.{states_none, states_more, all_grown}
 use Rattle.run_formula.proofs.asking.ask_told.Goals as goal
 
 pub loop-state-init : goal.loop-state-init
@@ -12,7 +12,7 @@ loop-state-init c = states_none _ _ c.args.log.now c.args.question c.in_ok-any.a
 
 pub says-requires : goal.says-requires
 says-requires c =
-    record { told = for_grown c.args.bank.now c.loop-state.bank c.args.log.now c.args.question c.args.told.now c.loop-state.invariant.grows c.requires.told }
+    record { told = all_grown c.args.log.now c.args.question c.args.bank.now c.loop-state.bank c.args.told.now c.loop-state.invariant.grows c.requires.told }
 
 pub connect-requires-clause-left : goal.connect-requires-clause-left
 connect-requires-clause-left c =

@@ -8,8 +8,8 @@ pub returns-in_ok-node-in-BranchEvent : goal.returns-in_ok-node-in-BranchEvent
 returns-in_ok-node-in-BranchEvent c =
     let s = c.in-BranchEvent in
     rw s.is
-    (shape_branch c.args.log.now c.args.fact.now c.args.bank.now _ s.events s.printed s.at s.side c.in_ok-before-in-BranchEvent.before c.in_ok-node-in-BranchEvent.node c.speaks_of_branch-meant.result
-    (c.requires.told.tell _ c.in_ok-before-in-BranchEvent.before c.in_ok-before-in-BranchEvent.ensures) c.in_ok-node-in-BranchEvent.ensures c.speaks_of_branch-meant.ensures)
+    (shape_branch c.args.log.now c.args.question.now c.args.bank.now _ s.events s.printed s.at s.side c.in_ok-before-in-BranchEvent.before c.in_ok-node-in-BranchEvent.node c.seeks_branch-meant.result
+    (c.requires.told.tell _ c.in_ok-before-in-BranchEvent.before c.in_ok-before-in-BranchEvent.ensures) c.in_ok-node-in-BranchEvent.ensures c.seeks_branch-meant.ensures)
 
 pub or_meant-requires-in-CallEvent : goal.or_meant-requires-in-CallEvent
 or_meant-requires-in-CallEvent c = (c.requires.told.tell _ c.in_ok-before-in-CallEvent.before c.in_ok-before-in-CallEvent.ensures).term
@@ -18,18 +18,19 @@ pub returns-in_ok-node-in-CallEvent : goal.returns-in_ok-node-in-CallEvent
 returns-in_ok-node-in-CallEvent c =
     let s = c.in-CallEvent in
     rw s.is
-    (shape_call c.args.log.now c.args.fact.now c.args.bank.now _ s.events s.printed s.at c.in_ok-before-in-CallEvent.before c.in_ok-node-in-CallEvent.node c.speaks_of_call-meant.result
-    (c.requires.told.tell _ c.in_ok-before-in-CallEvent.before c.in_ok-before-in-CallEvent.ensures) c.in_ok-node-in-CallEvent.ensures c.speaks_of_call-meant.ensures)
+    (shape_call c.args.log.now c.args.question.now c.args.bank.now _ s.events s.printed s.at c.in_ok-before-in-CallEvent.before c.in_ok-node-in-CallEvent.node c.seeks_call-meant.result
+    (c.requires.told.tell _ c.in_ok-before-in-CallEvent.before c.in_ok-before-in-CallEvent.ensures) c.in_ok-node-in-CallEvent.ensures c.seeks_call-meant.ensures)
 
-pub or_meant-requires-in-PrintEvent : goal.or_meant-requires-in-PrintEvent
-or_meant-requires-in-PrintEvent c = (c.requires.told.tell _ c.in_ok-before-in-PrintEvent.before c.in_ok-before-in-PrintEvent.ensures).term
+pub or_print-requires : goal.or_print-requires
+or_print-requires c = (c.requires.told.tell _ c.in_ok-before-in-PrintEvent.before c.in_ok-before-in-PrintEvent.ensures).term
 
 pub returns-in_ok-node-in-PrintEvent : goal.returns-in_ok-node-in-PrintEvent
 returns-in_ok-node-in-PrintEvent c =
     let s = c.in-PrintEvent in
     rw s.is
-    (shape_print c.args.log.now c.args.fact.now c.args.bank.now _ s.events s.printed s.at s.length s.seen c.in_ok-before-in-PrintEvent.before c.in_ok-node-in-PrintEvent.node c.speaks_of_print-meant.result
-    (c.requires.told.tell _ c.in_ok-before-in-PrintEvent.before c.in_ok-before-in-PrintEvent.ensures) c.in_ok-node-in-PrintEvent.ensures c.speaks_of_print-meant.ensures)
+    (shape_print c.args.log.now c.args.question.now c.args.bank.now _ s.events s.printed s.at s.length s.seen c.in_ok-before-in-PrintEvent.before
+    c.in_ok-node-in-PrintEvent.node (c.requires.told.tell _ c.in_ok-before-in-PrintEvent.before c.in_ok-before-in-PrintEvent.ensures)
+    c.in_ok-node-in-PrintEvent.ensures)
 
 pub connect-requires-clause-left : goal.connect-requires-clause-left
 connect-requires-clause-left c = (c.requires.told.tell _ c.in_ok-one-in-EventsBehind.one c.in_ok-one-in-EventsBehind.ensures).term
@@ -43,7 +44,7 @@ returns-in_ok-node-in-EventsBehind c =
     let one = c.in_ok-one-in-EventsBehind in
     let other = c.in_ok-other-in-EventsBehind in
     rw s.is
-    (shape_both c.args.log.now c.args.fact.now c.args.bank.now _ s.first s.second one.one other.other c.in_ok-node-in-EventsBehind.node
+    (shape_both c.args.log.now c.args.question.now c.args.bank.now _ s.first s.second one.one other.other c.in_ok-node-in-EventsBehind.node
     (c.requires.told.tell _ one.one one.ensures) (c.requires.told.tell _ other.other other.ensures) c.in_ok-node-in-EventsBehind.ensures)
 
 pub choose-requires-clause-condition : goal.choose-requires-clause-condition
@@ -63,6 +64,6 @@ returns-in_ok-node-in-Choose c =
     let one = c.in_ok-first-in-Choose in
     let other = c.in_ok-second-in-Choose in
     rw s.is
-    (shape_chosen c.args.log.now c.args.fact.now c.args.bank.now _ s.sort s.condition s.yes s.no one.first other.second
+    (shape_chosen c.args.log.now c.args.question.now c.args.bank.now _ s.sort s.condition s.yes s.no one.first other.second
     c.in_ok-node-in-Choose.node (c.requires.told.tell _ one.first one.ensures) (c.requires.told.tell _ other.second other.ensures)
     c.in_ok-node-in-Choose.ensures)

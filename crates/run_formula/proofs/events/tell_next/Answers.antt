@@ -2,7 +2,7 @@ use Rattle.std.proofs.Common.{sym, ap, ◌∙◌, Some}
 use Rattle.run_formula.proofs.Asked.{all_more}
 use Rattle.run_formula.proofs.events.tell_next.Goals as goal
 
-pub returns-in_ok-set_image : goal.returns-in_ok-set_image
-returns-in_ok-set_image c =
-    all_more c.args.log.now c.args.fact.now c.args.bank.now _ c.args.told.now _ c.args.number c.in-Some.shape c.in_ok-node.node c.requires
+pub returns-in-Some : goal.returns-in-Some
+returns-in-Some c =
+    all_more c.args.log.now c.args.question.now c.args.bank.now _ c.args.told.now _ c.args.number c.in-Some.shape c.in_ok-node.node c.requires
     (sym c.in-Some.ensures.shape) c.in_ok-node.ensures c.in_ok-set_image.ensures

@@ -1,6 +1,6 @@
 use Rattle.term_bank.proofs.BankLemmas.{grows_on}
 use Rattle.path_states.proofs.Growth.{states_grown}
-use Rattle.path_summaries.specs.Tours.{tour_of}
+use Rattle.log_expr.specs.Tours.{tour_of}
 use Rattle.run_formula.proofs.Laws.{formula_is}
 use Rattle.run_formula.proofs.formula.run_formula.Goals as goal
 
@@ -26,4 +26,11 @@ returns-clause-formula c =
     let fits = rw c.as_slice.ensures at c.in_ok-fits.ensures in
     let left = rw c.as_slice-2.ensures at c.in_ok-left.ensures in
     let asked = rw c.as_slice-5.ensures at c.in_ok-facts.ensures in
-    formula_is t _ _ _ _ _ c.in_ok-states.states c.in_ok-fits.fits c.in_ok-left.left a.facts.now c.in_ok-facts.facts runs fits left asked
+    formula_is t _ _ _ _ _ c.in_ok-states.states c.in_ok-fits.fits c.in_ok-left.left a.facts.now c.in_ok-facts.facts c.in_ok-watches.watches
+    c.in_ok-log.log runs fits left asked c.in_ok-log.ensures
+
+pub returns-clause-ends : goal.returns-clause-ends
+returns-clause-ends c =
+    states_grown
+    (grows_on c.in_ok-fits.ensures.grows (grows_on c.in_ok-left.ensures.grows c.in_ok-facts.ensures.grows)) c.in_ok-states.states
+    c.in_ok-states.ensures.runs.states

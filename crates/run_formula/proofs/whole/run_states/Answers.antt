@@ -1,6 +1,6 @@
 use Rattle.std.proofs.Common.{rules}
 use Rattle.path_states.proofs.Growth.{states_grown}
-use Rattle.path_summaries.specs.Tours.{tour_of}
+use Rattle.log_expr.specs.Tours.{tour_of}
 use Rattle.run_formula.proofs.Runs.{runs_all}
 use Rattle.run_formula.proofs.whole.run_states.Goals as goal
 

@@ -19,7 +19,7 @@ returns-then-not-is_marked-clause-derives c =
 pub clause-requires : goal.clause-requires
 clause-requires c =
     let r = c.requires.trail.reasons c.args.index c.index-entry.result.now c.in-Some.reason (entry-read c.args.trail.now.entries.items c.args.index c.index-entry.result.now c.requires.index c.index-entry.ensures) c.in-Some.ensures.reason.0 in
-    named-some c.index-entry.result.now.level c.args.clauses.now c.in-Some.reason r.0 r.1
+    named-some 0 c.args.clauses.now c.in-Some.reason r.0 r.1.0
 
 pub resolve-requires-clause-fits : goal.resolve-requires-clause-fits
 resolve-requires-clause-fits c =

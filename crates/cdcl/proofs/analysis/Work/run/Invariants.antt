@@ -11,7 +11,7 @@ invariant-entries l = record {
   within : l.index ≤ length l.trail.entries.items;
   kept : l.from ≡ 0 → AllReasoned l.trail.entries.items → l.self.kept.items ≡ l.fn.self.kept.items;
   occurs : (vars : List ℕ) → NamesWithin vars (named l.from l.clauses) → WorkWithin vars l.fn.self.seen.items l.fn.self.kept.items → WorkWithin vars l.self.seen.items l.self.kept.items;
-  stage : l.from ≡ 1 → 1 ≤ l.trail.level → IsStage l.trail.entries.items l.trail.level (length l.trail.entries.items) l.fn.self.seen.items l.fn.self.kept.items l.fn.self.level → IsStage l.trail.entries.items l.trail.level l.index l.self.seen.items l.self.kept.items l.self.level;
+  stage : l.from ≡ 1 → 2 ≤ l.trail.level → IsStage l.trail.entries.items l.trail.level (length l.trail.entries.items) l.fn.self.seen.items l.fn.self.kept.items l.fn.self.level → IsStage l.trail.entries.items l.trail.level l.index l.self.seen.items l.self.kept.items l.self.level;
   derives : Derives (named l.from l.clauses) l.trail.entries.items l.index l.self.seen.items l.self.kept.items (reverse l.self.hints.items);
 }
 

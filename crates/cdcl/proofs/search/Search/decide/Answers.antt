@@ -8,7 +8,7 @@ returns-clause-ready c =
     let a = c.args.self.now in
     let e = c.in_ok-take.ensures in
     ready-from c.take.new.self (length a.clauses.assumed) a.clauses e.clauses refl
-    (e.search (length a.clauses.assumed) c.requires.ready (inl (record { reason = refl; level = c.in_ok-level.ensures })))
+    (e.search (length a.clauses.assumed) c.requires.ready (inl (record { reason = refl; level = c.in_ok-level.ensures; above = c.requires.above })))
 
 pub returns-clause-guards : goal.returns-clause-guards
 returns-clause-guards c =

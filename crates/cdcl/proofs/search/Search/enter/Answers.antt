@@ -33,7 +33,7 @@ returns-in_ok-wait-in-Undecided-clause-guards c = λ _.
     let e = c.in_ok-heed.ensures in
     let t = given-named a.clauses c.args.index c.requires.within in
     let u = said-undecided a.trail b.trail t.0 c.in-Undecided.first c.in-Undecided.second c.in_ok-heed.field-0 c.in-Undecided.is (e.says t.0 t.1) in
-    enters-waits c.args.index a b c.in-Undecided.first c.in-Undecided.second c.wait.new.self t.0 t.1 e.goes e.watches u c.in_ok-wait-in-Undecided.ensures c.requires.guards
+    enters-waits c.args.index a b c.in-Undecided.first c.in-Undecided.second c.wait.new.self t.0 e.ready t.1 e.goes e.watches u c.in_ok-wait-in-Undecided.ensures c.requires.guards
 
 pub returns-in-Satisfied-clause-guards : goal.returns-in-Satisfied-clause-guards
 returns-in-Satisfied-clause-guards c = λ _.

@@ -1,16 +1,32 @@
-use Rattle.std.proofs.Common.{sym, refl, subst}
+use Rattle.std.proofs.Common.{length, sym, refl, subst, arith}
 use Rattle.proof_check.specs.Room.{variables_of}
 use Rattle.cdcl.specs.declared.clauses.Clauses.{Clauses}
 use Rattle.cdcl.specs.Searches.{ContainsNone}
 use Rattle.cdcl.proofs.Lessons.{names-within}
-use Rattle.cdcl.proofs.Asserting.{has-top, contains-none, jump-fits, jump-level, jump-below, guards-but}
+use Rattle.cdcl.proofs.Asserting.{ready-chosen, has-top, contains-none, jump-fits, jump-level, jump-below, guards-but}
 use Rattle.cdcl.proofs.search.Search.learn.Goals as goal
+
+pub go_back-requires-clause-searching : goal.go_back-requires-clause-searching
+go_back-requires-clause-searching c = (length c.args.self.now.clauses.assumed, ready-chosen c.args.self.now _ c.requires.ready)
+
+pub go_back-requires-clause-below : goal.go_back-requires-clause-below
+go_back-requires-clause-below c =
+    let s = c.args.self.now in
+    let j = c.in_ok-lesson.ensures.jump refl c.requires.level (has-top s c.args.conflict c.requires.ready c.requires.guards.settled c.requires.level c.requires.conflict) in
+    let less = jump-below s.trail.entries.items s.trail.level c.in_ok-lesson.lesson.level c.in_ok-lesson.lesson.clause.items (omega (arith, c.requires.level)) j in
+    omega (arith, less)
 
 pub go_back-requires-clause-level : goal.go_back-requires-clause-level
 go_back-requires-clause-level c =
     let s = c.args.self.now in
     let j = c.in_ok-lesson.ensures.jump refl c.requires.level (has-top s c.args.conflict c.requires.ready c.requires.guards.settled c.requires.level c.requires.conflict) in
     jump-level s.trail.entries.items s.trail.level c.in_ok-lesson.lesson.level c.in_ok-lesson.lesson.clause.items j
+
+pub keep-requires-clause-ready : goal.keep-requires-clause-ready
+keep-requires-clause-ready c = c.go_back.ensures.ready (λ one. ready-chosen c.args.self.now _ c.requires.ready)
+
+pub keep-requires-clause-valid : goal.keep-requires-clause-valid
+keep-requires-clause-valid c = rw c.go_back.ensures.clauses c.in_ok-lesson.ensures.valid
 
 pub keep-requires-clause-occurs : goal.keep-requires-clause-occurs
 keep-requires-clause-occurs c = rw c.go_back.ensures.clauses (c.in_ok-lesson.ensures.occurs (variables_of c.args.self.now.clauses.given) (names-within c.args.self.now.clauses c.requires.ready.learnt))
@@ -34,4 +50,4 @@ assert_last-requires-clause-guards c =
     let j = c.in_ok-lesson.ensures.jump refl c.requires.level (has-top s c.args.conflict c.requires.ready c.requires.guards.settled c.requires.level c.requires.conflict) in
     let b = c.go_back.ensures in
     let k = c.in_ok-keep.ensures in
-    rw c.deref-2.ensures.value (guards-but s c.go_back.new.self c.keep.new.self c.in_ok-lesson.lesson.clause.items c.in_ok-lesson.lesson.level c.requires.ready b.ready c.requires.level j b.cut b.level (b.whole (jump-below s.trail.entries.items s.trail.level c.in_ok-lesson.lesson.level c.in_ok-lesson.lesson.clause.items c.requires.level j)) b.guards k.rest k.names k.last k.more k.given)
+    rw c.deref-2.ensures.value (guards-but s c.go_back.new.self c.keep.new.self c.in_ok-lesson.lesson.clause.items c.in_ok-lesson.lesson.level c.requires.ready (b.ready (λ one. ready-chosen s _ c.requires.ready)) c.requires.level j b.cut b.level (b.whole (jump-below s.trail.entries.items s.trail.level c.in_ok-lesson.lesson.level c.in_ok-lesson.lesson.clause.items (omega (arith, c.requires.level)) j)) b.guards k.rest k.names k.last k.more k.given)

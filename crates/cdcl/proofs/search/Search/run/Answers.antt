@@ -1,12 +1,35 @@
-use Rattle.std.proofs.Common.{arith}
-use Rattle.cdcl.proofs.Counting.{few-steps}
+use Rattle.std.proofs.Common.{◌∙◌, ap, length, arith}
+use Rattle.cdcl.proofs.Lessons.{appends-more}
+use Rattle.cdcl.proofs.Spending.{Spends, spending}
 use Rattle.cdcl.proofs.search.Search.run.Goals as goal
 
+pub loop-met-preserved : goal.loop-met-preserved
+loop-met-preserved c =
+    let i = c.loop-met.invariant in
+    let e = c.in_ok-until_event.ensures in
+    let l = c.in_ok-learn_on-in-Conflict.ensures in
+    let same = ap (λ t. length t.learnt) e.clauses in
+    record {
+      ready = l.ready;
+      guards = l.guards;
+      appends = appends-more c.args.self.now.clauses c.loop-met.self.clauses c.until_event.new.self.clauses c.learn_on.new.self.clauses i.appends e.clauses l.appends;
+      count = omega (arith, i.count, l.more, same);
+      kept = i.kept;
+      given = l.given ∙ ap (λ t. t.given) e.clauses ∙ i.given;
+      assumed = l.assumed ∙ ap (λ t. t.assumed) e.clauses ∙ i.assumed;
+    }
+
+spent : (c : goal.In_ok-trail) → Spends c.args.self.now.clauses.given c.in_ok-trail.trail.kept c.in_ok-trail.trail.steps c.args.conflicts
+spent c =
+    let i = c.loop-met.invariant in
+    let s = c.loop-met.self in
+    spending c.args.self.now.clauses s.clauses c.in_ok-trail.trail.kept c.in_ok-trail.trail.steps c.len-kept.result c.args.conflicts i.appends i.ready.learnt i.kept (omega (arith, i.count, c.loop-met-test.false)) c.in_ok-trail.ensures.kept c.in_ok-trail.ensures.steps
+
+pub returns-clause-spent : goal.returns-clause-spent
+returns-clause-spent c = let s = spent c in (s.trail, s.kept_tidy, s.steps_tidy, s.count)
+
+pub returns-clause-fresh : goal.returns-clause-fresh
+returns-clause-fresh c = let s = spent c in s.fresh
+
 pub returns-clause-few : goal.returns-clause-few
-returns-clause-few c = record {
-  over = λ vars all.
-      let i = c.loop-met.invariant in
-      let s = c.loop-met.self in
-      let f = few-steps s.clauses.given s.clauses.given vars s.clauses.learnt i.ready.learnt.tidy i.ready.learnt.fresh (λ v h. all v (rw i.given at h)) in
-      omega (arith, i.count, f, c.loop-met-test.false);
-}
+returns-clause-few c = let s = spent c in s.few

@@ -1,5 +1,5 @@
 use Rattle.std.proofs.Common.{refl}
-use Rattle.cdcl.proofs.Entries.{next-begun, extends-push}
+use Rattle.cdcl.proofs.Entries.{next-begun, next-above, extends-push}
 use Rattle.cdcl.proofs.Searching.{held-more, taken}
 use Rattle.cdcl.proofs.search.Search.take.Goals as goal
 
@@ -13,7 +13,7 @@ returns-clause-search c = λ held s next.
       fits = rw c.in_ok-push.ensures.room s.fits;
       learnt_fit = rw c.in_ok-push.ensures.room s.learnt_fit;
       assumed_fit = rw c.in_ok-push.ensures.room s.assumed_fit;
-      holds = rw c.in_ok-push.ensures.entries (held-more held c.args.self.now.clauses.assumed entries _ (extends-push entries e) s.holds);
+      holds = rw (c.in_ok-push.ensures.entries, c.in_ok-push.ensures.level) (λ one. held-more held c.args.self.now.clauses.assumed entries _ (extends-push entries e) (s.holds (next-above c.args.self.now.clauses c.args.self.now.trail e next one)));
       begun = rw (c.in_ok-push.ensures.entries, c.in_ok-push.ensures.level) (next-begun c.args.self.now.clauses c.args.self.now.trail e next);
     }
 

@@ -1,4 +1,5 @@
-use Rattle.path_summaries.specs.Tours.{tour_of, around_in}
+use Rattle.log_expr.specs.Tours.{tour_of}
+use Rattle.path_summaries.specs.Tours.{around_in}
 use Rattle.path_summaries.proofs.level.LevelCalls.call.Goals as goal
 
 pub returns-in_ok-walked-in-Body : goal.returns-in_ok-walked-in-Body

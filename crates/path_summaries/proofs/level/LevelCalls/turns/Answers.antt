@@ -1,5 +1,5 @@
 use Rattle.std.proofs.Common.{sym, ◌∙◌}
-use Rattle.path_summaries.specs.Tours.{tour_of}
+use Rattle.log_expr.specs.Tours.{tour_of}
 use Rattle.path_summaries.proofs.Answering.{turns_are}
 use Rattle.path_summaries.proofs.level.LevelCalls.turns.Goals as goal
 

@@ -1,6 +1,6 @@
 use Rattle.std.proofs.Common.{◌-◌, ◌+◌, List, length}
 use Rattle.term_bank.specs.declared.shape.Shape.{Shape}
-use Rattle.path_summaries.specs.Tours.{Tour}
+use Rattle.log_expr.specs.Tours.{Tour}
 use Rattle.path_summaries.specs.Tables.{AllStand}
 use Rattle.path_summaries.proofs.table.Summaries.reach.Given as goal
 

@@ -1,0 +1,19 @@
+//! An accepted source.
+ghost use Rattle.c_runs.specs.Units.{IsAcceptedSource};
+ghost use Rattle.accepted.specs.Cores.{HasItsRuns};
+
+use c_runs::Profile;
+use c_tree::External;
+use core_tree::Core;
+use plain_data::{Items, Shared};
+
+/// A source that breaks no rule, with what is known of functions besides, and its core: that has the source's run in
+/// every world and bounds, its size and its room.
+#[derive(Drop)]
+pub struct Accepted {
+    pub externals: Items<Shared<External>>,
+    pub profile: Profile,
+    pub core: Core,
+    pub ghost kept: { IsAcceptedSource externals profile },
+    pub ghost has_its_runs: { HasItsRuns externals profile core },
+}

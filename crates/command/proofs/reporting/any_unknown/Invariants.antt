@@ -1,7 +1,0 @@
-use Rattle.std.proofs.Common.{◌≡◌, false, take}
-use Rattle.std.specs.List.{list_any}
-use Rattle.command.specs.Answers.{is_unknown}
-use Rattle.command.proofs.reporting.any_unknown.Given as goal
-
-abbrev pub invariant-loop-verdict : goal.invariant-loop-verdict
-invariant-loop-verdict l = list_any is_unknown (take l.verdict-index l.verdicts) ≡ false

@@ -1,0 +1,1 @@
+use Rattle.input_tables.proofs.row.copied_rows.Goals as goal

@@ -1,0 +1,1 @@
+use Rattle.query_core.proofs.query.Query.claim_formula.Goals as goal

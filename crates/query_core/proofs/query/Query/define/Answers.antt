@@ -1,0 +1,1 @@
+use Rattle.query_core.proofs.query.Query.define.Goals as goal

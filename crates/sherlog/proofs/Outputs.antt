@@ -1,0 +1,366 @@
+-- From what was got and read to the output of a command, and why there is none.
+use Rattle.std.proofs.Common.{◌≡◌, ◌≤◌, ◌<◌, ◌+◌, ◌*◌, ◌∙◌, ℕ, true, List, [], Option, Some, None, Ok, Err, min, arith, ap, subst, sym, refl, inl, inr}
+use Rattle.std.specs.Prelude.{◌≢◌}
+use Rattle.bit_words.specs.declared.bounds.Bounds.{Bounds}
+use Rattle.bit_words.specs.declared.run.Run.{Run}
+use Rattle.bit_words.specs.Worlds.{WorldTables}
+use Rattle.accepted.specs.declared.program.Accepted.{Accepted}
+use Rattle.c_runs.specs.declared.profile.Profile.{Profile}
+use Rattle.c_runs.specs.Units.{IsAcceptedSource, source_run, source_size}
+use Rattle.c_tree.specs.declared.unit.External.{External}
+use Rattle.cert_text.specs.WorldTexts.{ReadsWorld}
+use Rattle.config_text.specs.declared.config.Config.{Config as ConfigType}
+use Rattle.first_form.specs.Form.{program_of}
+use Rattle.diagnoses.specs.declared.diagnosis.Kept.{Kept}
+use Rattle.log_text.specs.Lines.{line_count}
+use Rattle.must_facts.specs.Inquiries.{measure_of}
+use Rattle.site_text.specs.Lines.{AreMatchLines, site_lines}
+use Rattle.sl_io.specs.Counts.{Rose}
+use Rattle.sl_io.specs.ShelfStates.{Files, ShelfState}
+use Rattle.sl_io.specs.SinkStates.{SinkState}
+use Rattle.sl_io.specs.Writes.{AppendedPrefix}
+use Rattle.source_sites.specs.declared.listing.Site.{Site}
+use Rattle.sherlog.specs.Words.{Asked}
+use Rattle.sherlog.specs.Inputs.{IsInput}
+use Rattle.sherlog.specs.Sources.{IsRefusedFor}
+use Rattle.sherlog.specs.Causes.{AreInForce, Cause, IsAccepted, IsLogRead, IsRead, IsWorldRead, takes_log}
+use Rattle.sherlog.specs.Answers.{AreSitesIn, HasSites, IsOutputOf, IsReportOn}
+use Rattle.sherlog.specs.Lines.{end_line}
+use Rattle.sherlog.specs.Stages.{Forms, GetsLog, IsNotServed, IsParsed, Lists, Parses, ReadsWorldFile, Serves}
+use Rattle.sherlog.specs.declared.getting.Parsed.{Parsed}
+use Rattle.sherlog.specs.declared.output.Output.{Output}
+use Rattle.sherlog.specs.declared.request.Command.{Command}
+use Rattle.sherlog.specs.declared.request.Command.TheVariants.{Diagnose, Replay, Sites, Match}
+use Rattle.sherlog.specs.declared.refusal.InputFile.TheVariants.{World}
+use Rattle.sherlog.specs.declared.refusal.Refusal.{Refusal}
+use Rattle.sherlog.specs.declared.refusal.Refusal.TheVariants.{BadConfig, BadSource, NoMain, Broken, NotYetRead, TooManyLines, TooLarge, BadWorld, Fault, TooLong, Memory}
+use Rattle.sherlog.proofs.CauseLemmas.{cause_later}
+
+-- ---- what is read and accepted
+
+abbrev read_of : (asked : Asked) (files : Option Files) (x : Parsed) → IsParsed asked files x
+    → IsRead asked files x.config x.unit.externals
+read_of asked files x h = record {
+  configured = h.configured;
+  source = x.bytes;
+  input = h.input;
+  is_derived = h.is_unit.is_derived;
+}
+
+abbrev accepted_of : (asked : Asked) (files : Option Files) (x : Parsed) → IsParsed asked files x
+    → IsAcceptedSource x.unit.externals x.config.profile → IsAccepted asked files x.config x.unit.externals
+accepted_of asked files x h kept = record { read = read_of asked files x h; kept = kept }
+
+-- where nothing was got since
+still_accepted : (asked : Asked) (before mid : ShelfState) (x : Parsed) → Parses asked before mid (Ok x)
+    → IsAcceptedSource x.unit.externals x.config.profile → IsAccepted asked mid.files x.config x.unit.externals
+still_accepted asked before mid x h kept =
+    subst (λ (fs : Option Files). IsAccepted asked fs x.config x.unit.externals) (sym h.files)
+    (accepted_of asked before.files x h.parsed kept)
+
+-- ---- refused for a rule
+
+rule_cause : (asked : Asked) (before after : ShelfState) (x : Parsed) (r : Refusal) → IsParsed asked before.files x
+    → IsRefusedFor asked.source x.bytes x.unit.externals x.config.profile r
+    → (r ≡ NotYetRead → asked.command ≡ Diagnose → program_of x.unit.externals ≡ None) → Cause asked before after r
+rule_cause asked before after x NoMain h refused other =
+    record { config = x.config; externals = x.unit.externals; read = read_of asked before.files x h; refused = refused }
+rule_cause asked before after x (Broken rule spot) h refused other =
+    record { config = x.config; externals = x.unit.externals; read = read_of asked before.files x h; refused = refused }
+rule_cause asked before after x NotYetRead h refused other = record {
+  config = x.config;
+  externals = x.unit.externals;
+  accepted = accepted_of asked before.files x h refused;
+  other = other refl;
+}
+rule_cause asked before after x Memory h refused other = tt
+rule_cause asked before after x (BadConfig fault) h refused other = absurd refused
+rule_cause asked before after x (BadSource fault spot) h refused other = absurd refused
+rule_cause asked before after x (TooManyLines count) h refused other = absurd refused
+rule_cause asked before after x TooLarge h refused other = absurd refused
+rule_cause asked before after x (BadWorld line) h refused other = absurd refused
+rule_cause asked before after x Fault h refused other = absurd refused
+rule_cause asked before after x (TooLong file) h refused other = absurd refused
+
+pub not_formed : (asked : Asked) (before after : ShelfState) (x : Parsed) (r told : Refusal)
+    → Parses asked before after (Ok x) → IsRefusedFor asked.source x.bytes x.unit.externals x.config.profile r
+    → (r ≡ NotYetRead → asked.command ≡ Diagnose → program_of x.unit.externals ≡ None) → told ≡ r
+    → Forms asked before after (Err told)
+not_formed asked before after x r told h refused other is =
+    rw is (record {
+      files = h.files;
+      formed = tt;
+      refused = rule_cause asked before after x r h.parsed refused other;
+    })
+
+-- ---- `diagnose`
+
+log_read : (asked : Asked) (before mid after : ShelfState) (x : Parsed) (log : List ℕ) → takes_log asked.command ≡ true
+    → Parses asked before mid (Ok x) → GetsLog asked x.config.prefix x.config.drop_unmatched mid after (Ok log)
+    → IsLogRead asked before.files x.config log
+log_read asked before mid after x log command h got =
+    subst (λ (fs : Option Files). IsLogRead asked fs x.config log) h.files (got.read x.config command refl refl)
+
+pub log_not_read : (asked : Asked) (before mid after : ShelfState) (x : Parsed) (r told : Refusal)
+    → takes_log asked.command ≡ true → Parses asked before mid (Ok x) → IsAcceptedSource x.unit.externals x.config.profile
+    → GetsLog asked x.config.prefix x.config.drop_unmatched mid after (Err r) → told ≡ r → Forms asked before after (Err told)
+log_not_read asked before mid after x r told command h kept log is =
+    rw is (record {
+      files = log.files ∙ h.files;
+      formed = tt;
+      refused = cause_later asked before mid after r h.counts h.files
+          (log.refused x.config x.unit.externals command (still_accepted asked before mid x h kept));
+    })
+
+-- an accepted program of a source
+pub record IsOf (p : Accepted) (x : Parsed) : Type 0 where
+  pub externals : p.externals ≡ x.unit.externals
+  pub profile : p.profile ≡ x.config.profile
+
+kept_of : (p : Accepted) (x : Parsed) → IsOf p x → IsAcceptedSource x.unit.externals x.config.profile
+kept_of p x of = subst (λ xs. IsAcceptedSource xs x.config.profile) of.externals
+    (subst (λ f. IsAcceptedSource p.externals f) of.profile p.kept)
+
+pub log_not_read_of : (asked : Asked) (before mid after : ShelfState) (x : Parsed) (p : Accepted) (r told : Refusal)
+    → asked.command ≡ Diagnose → Parses asked before mid (Ok x) → IsOf p x
+    → GetsLog asked x.config.prefix x.config.drop_unmatched mid after (Err r) → told ≡ r → Forms asked before after (Err told)
+log_not_read_of asked before mid after x p r told command h of log is =
+    log_not_read asked before mid after x r told (ap takes_log command) h (kept_of p x of) log is
+
+pub report_formed : (asked : Asked) (before mid after : ShelfState) (x : Parsed) (p : Accepted) (bounds : Bounds)
+    (log : List ℕ) (output : Output) → asked.command ≡ Diagnose → Parses asked before mid (Ok x) → IsOf p x
+    → AreInForce asked x.config bounds → GetsLog asked x.config.prefix x.config.drop_unmatched mid after (Ok log)
+    → IsReportOn asked x.unit.places p bounds log output → Forms asked before after (Ok output)
+report_formed asked before mid after x p bounds log output command h of in_force got on = record {
+  files = got.files ∙ h.files;
+  formed = subst (λ (c : Command). IsOutputOf c asked before.files output) (sym command) (record {
+    config = x.config;
+    externals = x.unit.externals;
+    accepted = accepted_of asked before.files x h.parsed (kept_of p x of);
+    log = log;
+    read = log_read asked before mid after x log (ap takes_log command) h got;
+    bounds = bounds;
+    in_force = in_force;
+    program = p;
+    of_source = of.externals;
+    of_profile = of.profile;
+    places = x.unit.places;
+    is_places = h.parsed.is_unit.places;
+    is_files = h.parsed.is_unit.files;
+    on = on;
+  });
+  refused = tt;
+}
+
+pub too_large_to_diagnose : (asked : Asked) (before mid after : ShelfState) (x : Parsed) (p : Accepted) (bounds : Bounds)
+    (log : List ℕ) → asked.command ≡ Diagnose → Parses asked before mid (Ok x) → IsOf p x
+    → AreInForce asked x.config bounds → GetsLog asked x.config.prefix x.config.drop_unmatched mid after (Ok log)
+    → 2000000 < measure_of p bounds log → Forms asked before after (Err TooLarge)
+too_large_to_diagnose asked before mid after x p bounds log command h of in_force got larger = record {
+  files = got.files ∙ h.files;
+  formed = tt;
+  refused = inr (record {
+    diagnosed = command;
+    config = x.config;
+    externals = x.unit.externals;
+    accepted = accepted_of asked before.files x h.parsed (kept_of p x of);
+    log = log;
+    read = log_read asked before mid after x log (ap takes_log command) h got;
+    bounds = bounds;
+    in_force = in_force;
+    larger = subst (λ xs. 2000000 < source_size xs x.config.profile bounds * (line_count log + 1)) of.externals
+        (subst (λ f. 2000000 < source_size p.externals f bounds * (line_count log + 1)) of.profile larger);
+  });
+}
+
+unserved_cause : (asked : Asked) (before after : ShelfState) (x : Parsed) (r : Refusal) → IsParsed asked before.files x
+    → IsAcceptedSource x.unit.externals x.config.profile → IsNotServed x.unit.externals r → Cause asked before after r
+unserved_cause asked before after x NotYetRead h kept other = record {
+  config = x.config;
+  externals = x.unit.externals;
+  accepted = accepted_of asked before.files x h kept;
+  other = λ command. other;
+}
+unserved_cause asked before after x Memory h kept other = tt
+unserved_cause asked before after x NoMain h kept other = absurd other
+unserved_cause asked before after x (Broken rule spot) h kept other = absurd other
+unserved_cause asked before after x (BadConfig fault) h kept other = absurd other
+unserved_cause asked before after x (BadSource fault spot) h kept other = absurd other
+unserved_cause asked before after x (TooManyLines count) h kept other = absurd other
+unserved_cause asked before after x TooLarge h kept other = absurd other
+unserved_cause asked before after x (BadWorld line) h kept other = absurd other
+unserved_cause asked before after x Fault h kept other = absurd other
+unserved_cause asked before after x (TooLong file) h kept other = absurd other
+
+pub not_served : (asked : Asked) (before mid after : ShelfState) (x : Parsed) (p : Accepted) (log : List ℕ) (r : Refusal)
+    → Parses asked before mid (Ok x) → IsOf p x → GetsLog asked x.config.prefix x.config.drop_unmatched mid after (Ok log)
+    → IsNotServed x.unit.externals r → Forms asked before after (Err r)
+not_served asked before mid after x p log r h of got other = record {
+  files = got.files ∙ h.files;
+  formed = tt;
+  refused = unserved_cause asked before after x r h.parsed (kept_of p x of) other;
+}
+
+-- ---- `replay`
+
+pub world_not_read : (asked : Asked) (before mid after : ShelfState) (x : Parsed) (r told : Refusal)
+    → asked.command ≡ Replay → Parses asked before mid (Ok x) → IsAcceptedSource x.unit.externals x.config.profile
+    → ReadsWorldFile asked mid after (Err r) → told ≡ r → Forms asked before after (Err told)
+world_not_read asked before mid after x r told command h kept world is =
+    rw is (record {
+      files = world.files ∙ h.files;
+      formed = tt;
+      refused = cause_later asked before mid after r h.counts h.files
+          (world.refused x.config x.unit.externals command (still_accepted asked before mid x h kept));
+    })
+
+abbrev world_read : (asked : Asked) (before mid after : ShelfState) (x : Parsed) (world : WorldTables)
+    → asked.command ≡ Replay → Parses asked before mid (Ok x) → IsAcceptedSource x.unit.externals x.config.profile
+    → ReadsWorldFile asked mid after (Ok world) → IsWorldRead asked before.files x.config x.unit.externals (Ok world)
+world_read asked before mid after x world command h kept w = record {
+  replayed = command;
+  accepted = accepted_of asked before.files x h.parsed kept;
+  text = w.read.0;
+  input = subst (λ (fs : Option Files). IsInput asked World fs w.read.0) h.files w.read.1.0;
+  reads = w.read.1.1;
+}
+
+larger_than : (most size found : ℕ) → found ≡ min size (most + 1) → most < found → most < size
+larger_than most size found is larger = omega (arith, is)
+
+at_most : (most size found : ℕ) → found ≡ min size (most + 1) → found ≤ most → size ≤ most
+at_most most size found is within = omega (arith, is)
+
+pub too_large : (asked : Asked) (before mid after : ShelfState) (x : Parsed) (world : WorldTables) (bounds : Bounds)
+    (found : ℕ) → asked.command ≡ Replay → Parses asked before mid (Ok x) → IsAcceptedSource x.unit.externals x.config.profile
+    → ReadsWorldFile asked mid after (Ok world) → AreInForce asked x.config bounds
+    → found ≡ min (source_size x.unit.externals x.config.profile bounds) 2000001 → 2000000 < found
+    → Forms asked before after (Err TooLarge)
+too_large asked before mid after x world bounds found command h kept w in_force is larger = record {
+  files = w.files ∙ h.files;
+  formed = tt;
+  refused = inl (record {
+    config = x.config;
+    externals = x.unit.externals;
+    world = world;
+    read = world_read asked before mid after x world command h kept w;
+    bounds = bounds;
+    in_force = in_force;
+    larger = larger_than 2000000 (source_size x.unit.externals x.config.profile bounds) found is larger;
+  });
+}
+
+pub run_formed : (asked : Asked) (before mid after : ShelfState) (x : Parsed) (world : WorldTables) (bounds : Bounds)
+    (found : ℕ) (run : Run) (output : Output) → asked.command ≡ Replay → Parses asked before mid (Ok x)
+    → IsAcceptedSource x.unit.externals x.config.profile → ReadsWorldFile asked mid after (Ok world)
+    → AreInForce asked x.config bounds → found ≡ min (source_size x.unit.externals x.config.profile bounds) 2000001
+    → found ≤ 2000000 → run ≡ source_run x.unit.externals x.config.profile world bounds
+    → output.text ≡ run.printed → output.end ≡ end_line asked.source x.bytes run.finish → output.status ≡ 0
+    → Forms asked before after (Ok output)
+run_formed asked before mid after x world bounds found run output command h kept w in_force is within ran text end status =
+    record {
+      files = w.files ∙ h.files;
+      formed = subst (λ (c : Command). IsOutputOf c asked before.files output) (sym command) (record {
+        config = x.config;
+        externals = x.unit.externals;
+        world = world;
+        read = world_read asked before mid after x world command h kept w;
+        bounds = bounds;
+        in_force = in_force;
+        within = at_most 2000000 (source_size x.unit.externals x.config.profile bounds) found is within;
+        text = text ∙ ap (λ (r : Run). r.printed) ran;
+        end = end ∙ ap (λ (r : Run). end_line asked.source x.bytes r.finish) ran;
+        status = status;
+      });
+      refused = tt;
+    }
+
+-- ---- `sites` and `match`
+
+kept_in : (xs : List External) (f : Profile) (sites : List Site) → AreSitesIn xs f sites → IsAcceptedSource xs f
+kept_in xs f sites h = subst (λ ys. IsAcceptedSource ys f) h.of_source
+    (subst (λ g. IsAcceptedSource h.program.externals g) h.of_profile h.program.kept)
+
+abbrev listing_of : (asked : Asked) (files : Option Files) (x : Parsed) (sites : List Site) → IsParsed asked files x
+    → AreSitesIn x.unit.externals x.config.profile sites → HasSites asked files
+listing_of asked files x sites h are = record {
+  config = x.config;
+  externals = x.unit.externals;
+  accepted = accepted_of asked files x h (kept_in x.unit.externals x.config.profile sites are);
+  places = x.unit.places;
+  is_places = h.is_unit.places;
+  is_files = h.is_unit.files;
+  sites = sites;
+  are = are;
+}
+
+pub not_listed : (asked : Asked) (before after : ShelfState) (x : Parsed) (r told : Refusal) → asked.command ≢ Diagnose
+    → Parses asked before after (Ok x) → Lists asked.source x.bytes x.unit.externals x.config.profile (Err r) → told ≡ r
+    → Forms asked before after (Err told)
+not_listed asked before after x r told apart h list is =
+    not_formed asked before after x r told h list.refused (λ e command. absurd (apart command)) is
+
+pub listing_formed : (asked : Asked) (before after : ShelfState) (x : Parsed) (sites : List Site) (output : Output)
+    → asked.command ≡ Sites → Parses asked before after (Ok x)
+    → Lists asked.source x.bytes x.unit.externals x.config.profile (Ok sites)
+    → output.text ≡ site_lines x.unit.places sites → output.end ≡ [] → output.status ≡ 0 → Forms asked before after (Ok output)
+listing_formed asked before after x sites output command h list text end status = record {
+  files = h.files;
+  formed = subst (λ (c : Command). IsOutputOf c asked before.files output) (sym command) (record {
+    has = listing_of asked before.files x sites h.parsed list.found;
+    text = text;
+    end = end;
+    status = status;
+  });
+  refused = tt;
+}
+
+pub matches_formed : (asked : Asked) (before mid after : ShelfState) (x : Parsed) (sites : List Site) (log : List ℕ)
+    (output : Output) → asked.command ≡ Match → Parses asked before mid (Ok x)
+    → Lists asked.source x.bytes x.unit.externals x.config.profile (Ok sites)
+    → GetsLog asked x.config.prefix x.config.drop_unmatched mid after (Ok log)
+    → AreMatchLines x.unit.places log sites output.text → output.end ≡ [] → output.status ≡ 0
+    → Forms asked before after (Ok output)
+matches_formed asked before mid after x sites log output command h list got text end status = record {
+  files = got.files ∙ h.files;
+  formed = subst (λ (c : Command). IsOutputOf c asked before.files output) (sym command) (record {
+    has = listing_of asked before.files x sites h.parsed list.found;
+    log = log;
+    read = log_read asked before mid after x log (ap takes_log command) h got;
+    text = text;
+    end = end;
+    status = status;
+  });
+  refused = tt;
+}
+
+pub log_not_matched : (asked : Asked) (before mid after : ShelfState) (x : Parsed) (sites : List Site) (r told : Refusal)
+    → asked.command ≡ Match → Parses asked before mid (Ok x)
+    → Lists asked.source x.bytes x.unit.externals x.config.profile (Ok sites)
+    → GetsLog asked x.config.prefix x.config.drop_unmatched mid after (Err r) → told ≡ r → Forms asked before after (Err told)
+log_not_matched asked before mid after x sites r told command h list log is =
+    log_not_read asked before mid after x r told (ap takes_log command) h
+    (kept_in x.unit.externals x.config.profile sites list.found) log is
+
+-- ---- the output
+
+-- it was written up to a fault
+pub broke_off : (asked : Asked) (before after : ShelfState) (old new err : SinkState) (kept : Kept) (output : Output)
+    → Forms asked before after (Ok output) → Rose old.faults new.faults
+    → AppendedPrefix old.bytes new.bytes output.text → Serves asked before after old new err err kept (Err Fault)
+broke_off asked before after old new err kept output h fault written = record {
+  files = h.files;
+  answered = tt;
+  refused = inr (record { output = output; just = h.formed; fault = fault; written = written });
+  untold = refl;
+}
+
+-- what is replayed, listed or matched isn't diagnosed
+pub not_both : (c : Command) → c ≡ Replay → c ≡ Diagnose → ⊥
+not_both c e f = cc
+
+pub not_sites : (c : Command) → c ≡ Sites → c ≢ Diagnose
+not_sites c e f = cc
+
+pub not_match : (c : Command) → c ≡ Match → c ≢ Diagnose
+not_match c e f = cc
