@@ -1,14 +1,14 @@
 -- Accepted sources have no refusal, and refused ones the first; and a core that is a source's in every world has its runs.
 use Rattle.std.proofs.Common.{◌≡◌, Bool, true, false, cond, List, [], Option, Some, None, Result, Ok, Err, IfOk, refl, sym}
-use Rattle.bit_words.specs.declared.bounds.Bounds.{Bounds}
-use Rattle.c_tree.specs.declared.unit.External.{External}
+use Rattle.plain_data.specs.declared.bounds.Bounds.{Bounds}
+use Rattle.c_language.specs.declared.unit.External.{External}
 use Rattle.c_checks.specs.Refusals.{IsLeast, least_of}
 use Rattle.c_checks.proofs.Least.{is_least, none_broken}
-use Rattle.c_runs.specs.declared.breach.Breach.{Breach}
-use Rattle.c_runs.specs.declared.profile.Profile.{Profile}
-use Rattle.c_runs.specs.Checks.{IsAccepted, breaches_of, has_main}
-use Rattle.c_runs.specs.Runs.{Machine}
-use Rattle.c_runs.specs.Units.{IsAcceptedSource, limits_of, machine_in, machine_of, silent, source_room, source_run, source_size, world_of}
+use Rattle.c_means.specs.declared.breach.Breach.{Breach}
+use Rattle.c_means.specs.declared.profile.Profile.{Profile}
+use Rattle.c_means.specs.Checks.{IsAccepted, breaches_of, has_main}
+use Rattle.c_means.specs.Runs.{Machine}
+use Rattle.c_means.specs.Units.{IsAcceptedSource, limits_of, machine_in, machine_of, silent, source_room, source_run, source_size, world_of}
 use Rattle.c_item_notes.specs.Levels.{Judged}
 use Rattle.c_program_notes.specs.declared.accepting.Refusal.{Refusal}
 use Rattle.c_program_notes.specs.declared.accepting.Refusal.TheVariants as refusal_

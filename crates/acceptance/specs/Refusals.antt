@@ -1,14 +1,14 @@
--- Why a source is refused: as `c_runs` has its rules, in any world and bounds.
+-- Why a source is refused: as `c_means` has its rules, in any world and bounds.
 use Rattle.std.specs.Prelude.{◌≡◌, true, false, List, Option, Some, None, ⊤}
-use Rattle.c_tree.specs.declared.unit.External.{External}
+use Rattle.c_language.specs.declared.unit.External.{External}
 use Rattle.c_program_notes.specs.declared.accepting.Refusal.{Refusal}
 use Rattle.c_program_notes.specs.declared.accepting.Refusal.TheVariants.{NoMain, Broken}
 use Rattle.c_checks.specs.Refusals.{IsLeast}
-use Rattle.c_runs.specs.declared.breach.Breach.{Breach}
-use Rattle.c_runs.specs.declared.profile.Profile.{Profile}
-use Rattle.c_runs.specs.Checks.{breaches_of, has_main}
-use Rattle.c_runs.specs.Runs.{Machine}
-use Rattle.c_runs.specs.Units.{machine_of, silent, least, IsAcceptedSource}
+use Rattle.c_means.specs.declared.breach.Breach.{Breach}
+use Rattle.c_means.specs.declared.profile.Profile.{Profile}
+use Rattle.c_means.specs.Checks.{breaches_of, has_main}
+use Rattle.c_means.specs.Runs.{Machine}
+use Rattle.c_means.specs.Units.{machine_of, silent, least, IsAcceptedSource}
 use Rattle.acceptance.specs.declared.fault.CheckFault.{CheckFault}
 use Rattle.acceptance.specs.declared.fault.CheckFault.TheVariants.{Refused, NoCore, Memory}
 

@@ -2,16 +2,16 @@
 ghost use Rattle.std.specs.Prelude.{◌≡◌, IfOk, IfErr};
 ghost use Rattle.c_item_notes.specs.Levels.{judged};
 ghost use Rattle.c_program_notes.specs.Wholes.{overview as overview_in};
-ghost use Rattle.c_runs.specs.Units.{IsAcceptedSource};
+ghost use Rattle.c_means.specs.Units.{IsAcceptedSource};
 ghost use Rattle.acceptance.specs.Refusals.{Judges, Refuses};
 ghost use Rattle.accepted.specs.Cores.{HasItsRuns};
 
 use crate::fault::CheckFault;
 use accepted::Accepted;
 use c_item_notes::Source;
+use c_language::External;
+use c_means::Profile;
 use c_program_notes::{Overview, Refusal, read_source, why_refused};
-use c_runs::Profile;
-use c_tree::External;
 use core_forms::NoCore;
 use core_tree::Core;
 use core_units::core_of;

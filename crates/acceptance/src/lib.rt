@@ -1,4 +1,4 @@
-//! Which sources are accepted (C99 6.9, and the rules of `c_runs`): why one isn't, and what an accepted one is for all
+//! Which sources are accepted (C99 6.9, and the rules of `c_means`): why one isn't, and what an accepted one is for all
 //! that comes after it, a program that has its core.
 #![tactic(auto)]
 

@@ -1,10 +1,10 @@
 -- What a core is to its source.
 use Rattle.std.specs.Prelude.{◌≡◌, List, Some}
-use Rattle.bit_words.specs.declared.bounds.Bounds.{Bounds}
-use Rattle.bit_words.specs.Worlds.{WorldTables}
-use Rattle.c_tree.specs.declared.unit.External.{External}
-use Rattle.c_runs.specs.declared.profile.Profile.{Profile}
-use Rattle.c_runs.specs.Units.{limits_of, silent, source_room, source_run, source_size, world_of}
+use Rattle.plain_data.specs.declared.bounds.Bounds.{Bounds}
+use Rattle.plain_data.specs.Worlds.{WorldTables}
+use Rattle.c_language.specs.declared.unit.External.{External}
+use Rattle.c_means.specs.declared.profile.Profile.{Profile}
+use Rattle.c_means.specs.Units.{limits_of, silent, source_room, source_run, source_size, world_of}
 use Rattle.core_tree.specs.declared.program.Core.{Core}
 use Rattle.core_tree.specs.Programs.{machine, room_of, run_of, unrolled_size}
 use Rattle.core_tree.specs.States.{plain}

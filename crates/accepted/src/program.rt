@@ -1,9 +1,9 @@
 //! An accepted source.
-ghost use Rattle.c_runs.specs.Units.{IsAcceptedSource};
+ghost use Rattle.c_means.specs.Units.{IsAcceptedSource};
 ghost use Rattle.accepted.specs.Cores.{HasItsRuns};
 
-use c_runs::Profile;
-use c_tree::External;
+use c_language::External;
+use c_means::Profile;
 use core_tree::Core;
 use plain_data::{Items, Shared};
 

@@ -2,16 +2,16 @@
 use Rattle.std.proofs.Common.{◌≡◌, ℕ, Bool, cond, List, [], ◌∷◌, ◌++◌, map, reverse}
 use Rattle.std.proofs.Common.{Result, Ok, Err, IfOk, refl, ap, ◌∙◌}
 use Rattle.std.specs.Prelude.{nat_eq, ◌&&◌, ◌||◌}
-use Rattle.c_tree.specs.declared.unit.External.{External}
-use Rattle.c_says.specs.Scopes.{Name}
+use Rattle.c_language.specs.declared.unit.External.{External}
+use Rattle.c_language.specs.Scopes.{Name}
 use Rattle.c_means.specs.Parts.{Level, Site}
-use Rattle.c_runs.specs.declared.profile.Profile.{Profile}
-use Rattle.c_runs.specs.Checks.{breaches_of, call_breaches, function_breaches, item_breaches, outer_breaches}
-use Rattle.c_runs.specs.Checks.{rule_breaches, unread_breaches}
-use Rattle.c_runs.specs.Items.{Lasting}
-use Rattle.c_runs.specs.Programs.{Function, Needs, Program, functions_in, needed, needs_of, program_of, reached}
-use Rattle.c_runs.specs.Runs.{Machine, bare, rule_of}
-use Rattle.c_runs.specs.Units.{IsAcceptedSource}
+use Rattle.c_means.specs.declared.profile.Profile.{Profile}
+use Rattle.c_means.specs.Checks.{breaches_of, call_breaches, function_breaches, item_breaches, outer_breaches}
+use Rattle.c_means.specs.Checks.{rule_breaches, unread_breaches}
+use Rattle.c_means.specs.Items.{Lasting}
+use Rattle.c_means.specs.Programs.{Function, Needs, Program, functions_in, needed, needs_of, program_of, reached}
+use Rattle.c_means.specs.Runs.{Machine, bare, rule_of}
+use Rattle.c_means.specs.Units.{IsAcceptedSource}
 use Rattle.c_notes.specs.CallsTold.{told_calls, told_site}
 use Rattle.c_item_notes.specs.declared.items.LastingNote.{LastingNote}
 use Rattle.c_item_notes.specs.ItemTellings.{lasting_notes}

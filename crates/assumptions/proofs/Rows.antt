@@ -1,21 +1,21 @@
 -- Worked rows: whole programs, and what is assumed of them.
 use Rattle.std.proofs.Common.{◌≡◌, ℕ, List, [], ◌∷◌, Some, None, refl}
-use Rattle.c_tree.specs.declared.expr.StorageClass.TheVariants as class
-use Rattle.c_tree.specs.declared.expr.TypeWord.TheVariants as w
-use Rattle.c_tree.specs.Folds.{fold_specifier}
-use Rattle.c_type_terms.specs.Integers.{converted}
-use Rattle.c_type_terms.specs.Operators.{exact}
-use Rattle.c_says.specs.Scopes.{Name, Scope}
-use Rattle.c_says.specs.Declares.{Says}
-use Rattle.c_says.proofs.Built as built
-use Rattle.c_runs.specs.Notes.{ExprNoted, noting}
-use Rattle.c_runs.specs.Names.{ordinary}
-use Rattle.c_runs.specs.Programs.{Outer}
-use Rattle.c_runs.specs.Rules.{exit'}
-use Rattle.c_runs.specs.Runs.{Machine, level_of}
-use Rattle.c_runs.proofs.Rows.{declared_function, f', free', free_declared, machine, main_with, printf', printf_declared}
-use Rattle.c_runs.proofs.Rows.{silent, void_parameter, x, x'}
-use Rattle.c_runs.proofs.Scene.{OfSpecifier, call, does, int, name, omitted, parameter, returns, taking, text, word}
+use Rattle.c_language.specs.declared.expr.StorageClass.TheVariants as class
+use Rattle.c_language.specs.declared.expr.TypeWord.TheVariants as w
+use Rattle.c_language.specs.Folds.{fold_specifier}
+use Rattle.c_language.specs.Integers.{converted}
+use Rattle.c_language.specs.Operators.{exact}
+use Rattle.c_language.specs.Scopes.{Name, Scope}
+use Rattle.c_language.specs.Declares.{Says}
+use Rattle.c_language.proofs.Built as built
+use Rattle.c_means.specs.Notes.{ExprNoted, noting}
+use Rattle.c_means.specs.Names.{ordinary}
+use Rattle.c_means.specs.Programs.{Outer}
+use Rattle.c_means.specs.Rules.{exit'}
+use Rattle.c_means.specs.Runs.{Machine, level_of}
+use Rattle.c_means.proofs.RunRows.{declared_function, f', free', free_declared, machine, main_with, printf', printf_declared}
+use Rattle.c_means.proofs.RunRows.{silent, void_parameter, x, x'}
+use Rattle.c_means.proofs.RunScene.{OfSpecifier, call, does, int, name, omitted, parameter, returns, taking, text, word}
 use Rattle.assumptions.specs.Assumed.{outside_names, undefined_names}
 
 -- ---- int exit(int); int f(void); void free(void *); int printf();

@@ -1,10 +1,10 @@
 -- What is reached and needed is the same where the source is asked: log and identity functions are.
 use Rattle.std.proofs.Common.{◌≡◌, ℕ, zero, suc, ◌+◌, List, [], ◌∷◌, ◌++◌, length, refl, ap}
-use Rattle.c_says.specs.Scopes.{Name}
-use Rattle.c_runs.specs.declared.profile.Profile.{Profile}
-use Rattle.c_runs.specs.Names.{Word}
-use Rattle.c_runs.specs.Programs.{Function, Needs, Program, all_called, all_needs, all_uses, called_by, functions_of, main'}
-use Rattle.c_runs.specs.Programs.{need, needs_of, newly, reach, reached, run_body, used_by}
+use Rattle.c_language.specs.Scopes.{Name}
+use Rattle.c_means.specs.declared.profile.Profile.{Profile}
+use Rattle.c_means.specs.Names.{Word}
+use Rattle.c_means.specs.Programs.{Function, Needs, Program, all_called, all_needs, all_uses, called_by, functions_of, main'}
+use Rattle.c_means.specs.Programs.{need, needs_of, newly, reach, reached, run_body, used_by}
 use Rattle.assumptions.specs.Asked.{asked}
 
 reach_same : (p : Profile) (fs : List Function) (n : ℕ) (todo : List Name) (found : List Function) →

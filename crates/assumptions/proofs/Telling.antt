@@ -4,22 +4,22 @@ use Rattle.std.proofs.Common.{Option, Some, None, map, reverse, refl, sym, ap, �
 use Rattle.std.specs.Prelude.{not, ◌&&◌, ◌||◌, option_map, is_some}
 use Rattle.std.specs.Str.{bytes_eq}
 use Rattle.std.specs.Cmp.Lexicographic.{bytes_decides}
-use Rattle.c_type_terms.specs.declared.class.Class.{Class}
-use Rattle.c_type_terms.specs.declared.class.Class.TheVariants as l
-use Rattle.c_type_terms.specs.declared.ctype.CType.{CType}
-use Rattle.c_type_terms.specs.Types.{class_of, is_integer, is_pointer}
-use Rattle.c_says.specs.Scopes.{Name, last_where}
+use Rattle.c_language.specs.declared.class.Class.{Class}
+use Rattle.c_language.specs.declared.class.Class.TheVariants as l
+use Rattle.c_language.specs.declared.ctype.CType.{CType}
+use Rattle.c_language.specs.Types.{class_of, is_integer, is_pointer}
+use Rattle.c_language.specs.Scopes.{Name, last_where}
 use Rattle.c_means.specs.Parts.{Level, Site}
-use Rattle.c_runs.specs.declared.breach.Breach.{Breach}
-use Rattle.c_runs.specs.declared.profile.FillFunction.{FillFunction}
-use Rattle.c_runs.specs.declared.profile.LogFunction.{LogFunction}
-use Rattle.c_runs.specs.Checks.{meets, mismatch, rule_breaches, type_at}
-use Rattle.c_runs.specs.Items.{breach_if}
-use Rattle.c_runs.specs.Programs.{Function, function_named, functions_in}
-use Rattle.c_runs.specs.Rules.{Library, Taking, abort', body_or, callee_taking, calloc', exit', fill_of, free'}
-use Rattle.c_runs.specs.Rules.{identity_index, is_among, library_if, library_named, library_of, library_or, log_of, malloc'}
-use Rattle.c_runs.specs.Rules.{rule_by}
-use Rattle.c_runs.specs.Runs.{Machine, prelude_of, rule_of}
+use Rattle.c_means.specs.declared.breach.Breach.{Breach}
+use Rattle.c_means.specs.declared.profile.FillFunction.{FillFunction}
+use Rattle.c_means.specs.declared.profile.LogFunction.{LogFunction}
+use Rattle.c_means.specs.Checks.{meets, mismatch, rule_breaches, type_at}
+use Rattle.c_means.specs.Items.{breach_if}
+use Rattle.c_means.specs.Programs.{Function, function_named, functions_in}
+use Rattle.c_means.specs.Rules.{Library, Taking, abort', body_or, callee_taking, calloc', exit', fill_of, free'}
+use Rattle.c_means.specs.Rules.{identity_index, is_among, library_if, library_named, library_of, library_or, log_of, malloc'}
+use Rattle.c_means.specs.Rules.{rule_by}
+use Rattle.c_means.specs.Runs.{Machine, prelude_of, rule_of}
 use Rattle.c_checks.specs.Refusals.{least_of}
 use Rattle.c_notes.specs.CallsTold.{bodiless_least, library_least, outside_least, prelude_count, told_site}
 use Rattle.c_notes.specs.CallsTold.{strlen', strcmp', strncmp', strchr', strcpy', strcat', memset', memcpy', atoi'}

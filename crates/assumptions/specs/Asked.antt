@@ -2,13 +2,13 @@
 -- its own fills a buffer that is its own length. No argument is a pointer and an integer, so each call of one is wrong
 -- then that follows the rule of functions outside, and no other is.
 use Rattle.std.specs.Prelude.{List, [], ◌∷◌, ◌++◌, map}
-use Rattle.c_says.specs.Scopes.{Name}
+use Rattle.c_language.specs.Scopes.{Name}
 use Rattle.c_item_notes.specs.Levels.{Judged}
 use Rattle.c_notes.specs.CallsTold.{strlen', strcmp', strncmp', strchr', strcpy', strcat', memset', memcpy', atoi'}
-use Rattle.c_runs.specs.declared.profile.FillAnswer.TheVariants as answer
-use Rattle.c_runs.specs.declared.profile.FillFunction.{FillFunction}
-use Rattle.c_runs.specs.declared.profile.Profile.{Profile}
-use Rattle.c_runs.specs.Rules.{exit', abort', malloc', calloc', free'}
+use Rattle.c_means.specs.declared.profile.FillAnswer.TheVariants as answer
+use Rattle.c_means.specs.declared.profile.FillFunction.{FillFunction}
+use Rattle.c_means.specs.declared.profile.Profile.{Profile}
+use Rattle.c_means.specs.Rules.{exit', abort', malloc', calloc', free'}
 
 -- the functions with a meaning of their own, where they are declared with their types
 abbrev pub library_names : List Name

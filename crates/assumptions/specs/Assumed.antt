@@ -4,17 +4,17 @@ use Rattle.std.specs.Prelude.{ℕ, Bool, false, cond, ◌&&◌, ◌||◌, nat_eq
 use Rattle.std.specs.Ordering.{nat_cmp}
 use Rattle.std.specs.Cmp.Lexicographic.{slice_cmp}
 use Rattle.std.specs.BTreeSet.{insert_key}
-use Rattle.c_tree.specs.declared.unit.External.{External}
-use Rattle.c_says.specs.Scopes.{Name}
+use Rattle.c_language.specs.declared.unit.External.{External}
+use Rattle.c_language.specs.Scopes.{Name}
 use Rattle.c_means.specs.Parts.{Level, Site}
-use Rattle.c_runs.specs.declared.profile.FillFunction.{FillFunction}
-use Rattle.c_runs.specs.declared.profile.Profile.{Profile}
-use Rattle.c_runs.specs.Items.{Lasting}
-use Rattle.c_runs.specs.Programs.{Function, needs_of, reached}
-use Rattle.c_runs.specs.Rules.{Rules, LogCall, IdentityCall, BodyCall, LibraryCall, PreludeCall, OutsideCall}
-use Rattle.c_runs.specs.Rules.{fill_of, is_among}
-use Rattle.c_runs.specs.Runs.{Machine, bare, rule_of}
-use Rattle.c_runs.specs.Units.{least, machine_of, silent}
+use Rattle.c_means.specs.declared.profile.FillFunction.{FillFunction}
+use Rattle.c_means.specs.declared.profile.Profile.{Profile}
+use Rattle.c_means.specs.Items.{Lasting}
+use Rattle.c_means.specs.Programs.{Function, needs_of, reached}
+use Rattle.c_means.specs.Rules.{Rules, LogCall, IdentityCall, BodyCall, LibraryCall, PreludeCall, OutsideCall}
+use Rattle.c_means.specs.Rules.{fill_of, is_among}
+use Rattle.c_means.specs.Runs.{Machine, bare, rule_of}
+use Rattle.c_means.specs.Units.{least, machine_of, silent}
 use Rattle.diagnoses.specs.declared.assumption.Assumption.{Assumption}
 use Rattle.diagnoses.specs.declared.assumption.Assumption.TheVariants as assumption
 use Rattle.diagnoses.specs.declared.assumption.Filling.{Filling}

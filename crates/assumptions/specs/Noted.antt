@@ -1,6 +1,6 @@
 -- What is assumed, over what was noted of a source as it is asked; functions are in reversed order.
 use Rattle.std.specs.Prelude.{ℕ, Bool, false, cond, not, ◌&&◌, ◌||◌, nat_eq, List, [], ◌∷◌, ◌++◌, map, reverse, is_some}
-use Rattle.c_says.specs.Scopes.{Name}
+use Rattle.c_language.specs.Scopes.{Name}
 use Rattle.c_notes.specs.declared.calls.CallNote.{CallNote}
 use Rattle.c_item_notes.specs.declared.items.LastingNote.{LastingNote}
 use Rattle.c_reach.specs.declared.summaries.FunctionNotes.{FunctionNotes}
@@ -9,8 +9,8 @@ use Rattle.c_program_notes.specs.declared.whole.Overview.{Overview}
 use Rattle.c_program_notes.specs.Wholes.{functions_in}
 use Rattle.diagnoses.specs.declared.assumption.Assumption.{Assumption}
 use Rattle.assumptions.specs.Assumed.{by_name, object, outside}
-use Rattle.c_runs.specs.declared.profile.Profile.{Profile}
-use Rattle.c_runs.specs.Rules.{fill_of}
+use Rattle.c_means.specs.declared.profile.Profile.{Profile}
+use Rattle.c_means.specs.Rules.{fill_of}
 
 -- a function with a meaning of its own is called by the rule of functions outside where the call is wrong
 abbrev pub is_foreign : Profile → CallNote → Bool

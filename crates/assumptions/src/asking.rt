@@ -3,9 +3,8 @@ ghost use Rattle.std.specs.Prelude.{◌≡◌, ◌++◌, ◌∷◌, [], map, IfO
 ghost use Rattle.assumptions.specs.Asked as spec;
 
 use crate::names::name_of;
-use bit_words::Bytes;
-use c_runs::{FillAnswer, FillFunction, IdentityFunction, LogFunction, LogText, Profile};
-use plain_data::Items;
+use c_means::{FillAnswer, FillFunction, IdentityFunction, LogFunction, LogText, Profile};
+use plain_data::{Bytes, Items};
 use std::alloc::{AllocError, Global};
 
 /// A function that fills a buffer that is its own length, as no call does that breaks no rule.

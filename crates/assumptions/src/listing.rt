@@ -1,8 +1,8 @@
 //! What is assumed of a source, in order.
 ghost use Rattle.std.specs.Prelude.{◌≡◌, ◌++◌, ◌∷◌, [], map, IfOk, OnOk, option_map};
 ghost use Rattle.std.specs.Option.{option_copied};
-ghost use Rattle.c_runs.specs.Rules as rules;
-ghost use Rattle.c_runs.specs.Units.{IsAcceptedSource};
+ghost use Rattle.c_means.specs.Rules as rules;
+ghost use Rattle.c_means.specs.Units.{IsAcceptedSource};
 ghost use Rattle.c_item_notes.specs.Levels.{judged};
 ghost use Rattle.c_program_notes.specs.Wholes.{overview as overview_in};
 ghost use Rattle.assumptions.specs.Asked as asked_by;
@@ -15,9 +15,9 @@ use crate::objects::undefined_in;
 use crate::outside::outside_noted;
 use c_checks::filling_function;
 use c_item_notes::Source;
+use c_language::Name;
+use c_means::{FillFunction, Profile};
 use c_program_notes::{Overview, read_source};
-use c_runs::{FillFunction, Profile};
-use c_tokens::Name;
 use diagnoses::{Assumption, Filling};
 use plain_data::Items;
 use std::alloc::{AllocError, Global};

@@ -2,9 +2,8 @@
 ghost use Rattle.std.specs.Prelude.{◌≡◌, map, IfOk};
 ghost use Rattle.assumptions.specs.Assumed as spec;
 
-use bit_words::Bytes;
-use c_tokens::Name;
-use plain_data::Shared;
+use c_language::Name;
+use plain_data::{Bytes, Shared};
 use std::alloc::{AllocError, Global};
 use std::collections::BTreeSet;
 

@@ -5,7 +5,7 @@ ghost use Rattle.std.specs.BTreeSet.{contains as has};
 ghost use Rattle.assumptions.specs.Noted as spec;
 
 use c_item_notes::LastingNote;
-use c_tokens::Name;
+use c_language::Name;
 use plain_data::Items;
 use std::alloc::{AllocError, Global};
 use std::collections::BTreeSet;

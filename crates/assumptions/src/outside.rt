@@ -4,11 +4,11 @@ ghost use Rattle.c_program_notes.specs.Wholes as wholes;
 ghost use Rattle.assumptions.specs.Noted as spec;
 
 use c_checks::filling_function;
+use c_language::Name;
+use c_means::Profile;
 use c_notes::CallNote;
 use c_program_notes::{OuterNotes, Overview};
 use c_reach::{FunctionNotes, named_functions};
-use c_runs::Profile;
-use c_tokens::Name;
 use c_type_scope::Named;
 use plain_data::{Items, Shared};
 use std::alloc::{AllocError, Global};

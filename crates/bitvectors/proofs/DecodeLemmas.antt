@@ -3,7 +3,7 @@ use Rattle.std.proofs.Common.{◌≡◌, ◌<◌, ◌≤◌, ◌++◌, ◌∷◌
 use Rattle.std.proofs.Math.Nat.{mod-eq_of_lt, pow-le-pow_right}
 use Rattle.std.proofs.lemmas.Bool.{cases_eq}
 use Rattle.std.proofs.lemmas.List.{take_more}
-use Rattle.bit_words.specs.Worlds.{Sets, WorldTables, value_at}
+use Rattle.plain_data.specs.Worlds.{Sets, WorldTables, value_at}
 use Rattle.cnf_core.specs.Truth.{Valuation, formula_holds}
 use Rattle.gates.specs.declared.bit.Bit.{Bit}
 use Rattle.gates.specs.Nets.{bit_holds}

@@ -7,8 +7,8 @@ use Rattle.gates.specs.declared.bit.Bit.{Bit}
 use Rattle.gates.specs.declared.gates.BlastFault.{BlastFault}
 use Rattle.gates.specs.Nets.{Net, IsGate}
 use Rattle.gates.proofs.BitLemmas.{same-grows}
-use Rattle.bit_words.specs.Words.{bits, word, signed, sdiv, srem, shl, lshr, ashr, add_over, sub_over, mul_over, shl_over, slt}
-use Rattle.bit_words.specs.declared.width.Width.{Width}
+use Rattle.plain_data.specs.Words.{bits, word, signed, sdiv, srem, shl, lshr, ashr, add_over, sub_over, mul_over, shl_over, slt}
+use Rattle.plain_data.specs.declared.width.Width.{Width}
 use Rattle.word_gates.specs.declared.operators.BitOperator.{BitOperator}
 use Rattle.word_gates.specs.declared.operators.BitOperator.TheVariants as bitwise
 use Rattle.word_gates.specs.declared.quotients.Division.{Division}

@@ -6,10 +6,10 @@ use Rattle.gates.specs.declared.bit.Bit.{Bit}
 use Rattle.gates.specs.declared.bit.Bit.TheVariants.{Known}
 use Rattle.gates.specs.Nets.{Net, Extension, Grows, IsBit, IsGate, bit_holds, opposite}
 use Rattle.gates.proofs.BitLemmas.{same-grows, then-grows, opposite-bit, opposite-holds}
-use Rattle.bit_words.specs.Words.{bits}
-use Rattle.bit_words.specs.declared.width.Width.{Width}
-use Rattle.bit_words.specs.declared.width.Width.TheVariants.{W8, W16, W32, W64}
-use Rattle.bit_words.proofs.WordLaws.{word-word}
+use Rattle.plain_data.specs.Words.{bits}
+use Rattle.plain_data.specs.declared.width.Width.{Width}
+use Rattle.plain_data.specs.declared.width.Width.TheVariants.{W8, W16, W32, W64}
+use Rattle.plain_data.proofs.WordLaws.{word-word}
 use Rattle.word_gates.specs.Spelling.{AreBits, HasTruths, IsWord, number, spelled, truths}
 use Rattle.word_gates.proofs.WordLemmas.{bits-push, chosen-word}
 use Rattle.signed_gates.proofs.NetLemmas.{word-after, zero-extended-of}

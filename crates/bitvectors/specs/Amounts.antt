@@ -3,7 +3,7 @@ use Rattle.std.specs.Prelude.{ℕ, Bool, List, [], nat_eq, bit_and, bit_or, bit_
 use Rattle.std.specs.HashMap.{HashMap, get}
 use Rattle.std.specs.declared.hash.FoldHasher.{FoldHasher}
 use Rattle.std.specs.declared.hash.BuildHasherDefault.{BuildHasherDefault}
-use Rattle.bit_words.specs.Words.{bits}
+use Rattle.plain_data.specs.Words.{bits}
 use Rattle.gates.specs.declared.bit.Bit.{Bit}
 use Rattle.word_gates.specs.Spelling.{number}
 use Rattle.word_gates.specs.declared.operators.BitOperator.{BitOperator}

@@ -1,6 +1,6 @@
 -- A formula for the values of roots.
 use Rattle.std.specs.Prelude.{◌≡◌, ◌<◌, ◌+◌, ◌^◌, ◌++◌, ℕ, true, false, List, [], ◌∷◌, length}
-use Rattle.bit_words.specs.Worlds.{WorldTables, value_at}
+use Rattle.plain_data.specs.Worlds.{WorldTables, value_at}
 use Rattle.cnf_core.specs.Literal.{Literal}
 use Rattle.cnf_core.specs.Truth.{Valuation, formula_holds}
 use Rattle.gates.specs.declared.bit.Bit.{Bit}

@@ -1,7 +1,7 @@
 -- What is asked of the world.
 use Rattle.std.specs.Prelude.{◌≡◌, ◌%◌, ◌^◌, List, length}
-use Rattle.bit_words.specs.Words.{bits}
-use Rattle.bit_words.specs.declared.width.Width.{Width}
+use Rattle.plain_data.specs.Words.{bits}
+use Rattle.plain_data.specs.declared.width.Width.{Width}
 use Rattle.cnf_core.specs.Truth.{Valuation}
 use Rattle.gates.specs.declared.bit.Bit.{Bit}
 use Rattle.gates.specs.Nets.{Net, IsModel}

@@ -1,5 +1,5 @@
 ghost use Rattle.std.specs.Prelude.{◌≡◌, ◌<◌, ◌≤◌, ◌*◌, ◌^◌, true, length, IfOk, OnOk};
-ghost use Rattle.bit_words.specs.Worlds.{Sets};
+ghost use Rattle.plain_data.specs.Worlds.{Sets};
 ghost use Rattle.cnf_core.specs.Truth.{formula_holds, value_of};
 ghost use Rattle.gates.specs.Nets.{bit_holds};
 ghost use Rattle.word_gates.specs.Spelling.{number, spelled};
@@ -9,10 +9,10 @@ ghost use Rattle.bitvectors.specs.declared.blasting.Blasted.{Blasted as BlastedT
 
 use crate::blasting::Blasted;
 use crate::inputs::Inputs;
-use bit_words::World;
 use cnf_core::Assignment;
 use gates::{Bit, BlastFault};
 use input_tables::Row;
+use plain_data::World;
 use std::alloc::Global;
 
 /// A bit's value.

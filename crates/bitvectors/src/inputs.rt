@@ -1,13 +1,12 @@
 ghost use Rattle.std.specs.Prelude.{◌≡◌, ◌≤◌, ◌%◌, ◌^◌, length, IfOk};
-ghost use Rattle.bit_words.specs.Words.{bits};
+ghost use Rattle.plain_data.specs.Words.{bits};
 ghost use Rattle.word_gates.specs.Spelling.{AreBits};
 ghost use Rattle.bitvectors.specs.Signals.{AreInputs};
 ghost use Rattle.bitvectors.specs.Leaves.{AreSettled, IsByteSignal, IsEmptyInputs, IsWordSignal};
 
-use bit_words::Width;
 use gates::{Bit, BlastFault, Gates};
 use input_tables::Table;
-use plain_data::Items;
+use plain_data::{Items, Width};
 use std::alloc::{AllocError, Global};
 use word_gates::resize;
 

@@ -1,5 +1,5 @@
 ghost use Rattle.std.specs.Prelude.{◌<◌, ◌^◌, IfOk};
-ghost use Rattle.bit_words.specs.Words.{bits};
+ghost use Rattle.plain_data.specs.Words.{bits};
 ghost use Rattle.term_bank.specs.Shapes.{Each, parts};
 ghost use Rattle.term_bank.specs.declared.shape.Shape.TheVariants.{Flag, Constant, WorldWord, InitialByte};
 ghost use Rattle.bitvectors.specs.Amounts.{bits_at};
@@ -8,9 +8,8 @@ ghost use Rattle.bitvectors.specs.Signals.{AreInputs, HasBits, IsSignal};
 use crate::inputs::Inputs;
 use crate::signals::bits_of;
 use crate::truths::one_bit;
-use bit_words::Width;
 use gates::{Bit, BlastFault, Gates};
-use plain_data::Items;
+use plain_data::{Items, Width};
 use std::collections::HashMap;
 use word_gates::constant;
 

@@ -1,14 +1,13 @@
 ghost use Rattle.std.specs.Prelude.{◌≡◌, length, IfOk};
-ghost use Rattle.bit_words.specs.Words.{bits};
+ghost use Rattle.plain_data.specs.Words.{bits};
 ghost use Rattle.gates.specs.Nets.{IsGate};
 ghost use Rattle.word_gates.specs.Spelling.{AreBits, IsWord, spelled};
 ghost use Rattle.term_bank.specs.Values.{result_of, outcome_of, converted};
 ghost use Rattle.term_bank.specs.declared.shape.WordOperator.TheVariants.{Udiv, Urem};
 ghost use Rattle.bitvectors.specs.Amounts.{bit_result};
 
-use bit_words::Width;
 use gates::{Bit, BlastFault, Gates};
-use plain_data::Items;
+use plain_data::{Items, Width};
 use signed_gates::{
     add_overflows, arithmetic_shift, below, divide_overflows, logical_shift, multiply_overflows,
     shift_overflows, shift_up, sign_extended, signed_below, signed_quotient, signed_remainder,

@@ -8,9 +8,8 @@ use crate::leaves::{blast_constant, blast_flag, blast_initial_byte, blast_world_
 use crate::operators::{compare, extend, operate};
 use crate::signals::bits_of;
 use crate::truths::{connect, negate, one_bit, select};
-use bit_words::Width;
 use gates::{Bit, BlastFault, Gates};
-use plain_data::Items;
+use plain_data::{Items, Width};
 use std::collections::HashMap;
 use term_bank::{Connective, Extension, Shape, Sort, WordOperator, WordTest};
 

@@ -1,15 +1,15 @@
 -- Which labels each kind of statement has, in terms of what stands in it.
 use Rattle.std.proofs.Common.{◌≡◌, ℕ, List, [], ◌∷◌, ◌++◌, Option, map, refl, sym, ap, ◌∙◌}
 use Rattle.std.specs.Prelude.{option_map}
-use Rattle.c_tree.specs.declared.expr.Expr.{Expr}
-use Rattle.c_tree.specs.declared.unit.Declaration.{Declaration}
-use Rattle.c_tree.specs.declared.unit.ForStart.{ForStart}
-use Rattle.c_tree.specs.declared.unit.Stmt.{Stmt}
-use Rattle.c_tree.specs.declared.unit.Stmt.TheVariants as tree
-use Rattle.c_says.specs.Scopes.{Name}
-use Rattle.c_runs.specs.Items.{Code, Label, labels_of, every_of}
-use Rattle.c_runs.specs.Statements.{stmt, every_if}
-use Rattle.c_runs.proofs.Equations as eq
+use Rattle.c_language.specs.declared.expr.Expr.{Expr}
+use Rattle.c_language.specs.declared.unit.Declaration.{Declaration}
+use Rattle.c_language.specs.declared.unit.ForStart.{ForStart}
+use Rattle.c_language.specs.declared.unit.Stmt.{Stmt}
+use Rattle.c_language.specs.declared.unit.Stmt.TheVariants as tree
+use Rattle.c_language.specs.Scopes.{Name}
+use Rattle.c_means.specs.Items.{Code, Label, labels_of, every_of}
+use Rattle.c_means.specs.Statements.{stmt, every_if}
+use Rattle.c_means.proofs.RunEquations as eq
 
 -- what a statement has in front of it, in the block that it is, and in all
 pub record Has (x : Stmt) (front block all : List Label) : Type 0 where

@@ -3,13 +3,13 @@ use Rattle.std.proofs.Common.{◌≡◌, ℕ, ◌<◌, ◌+◌, ◌*◌, Bool, t
 use Rattle.std.proofs.Common.{Option, Some, None, refl, sym, ap, subst, ◌∙◌, arith, inl, inr}
 use Rattle.std.specs.Prelude.{unwrap_or}
 use Rattle.std.proofs.lemmas.Option.{none-some}
-use Rattle.c_says.specs.declared.scope.Fault.{Fault}
-use Rattle.c_says.specs.declared.scope.Rule.{Rule}
-use Rattle.c_says.specs.declared.scope.Rule.TheVariants as rule
-use Rattle.c_runs.specs.declared.breach.Breach.{Breach}
-use Rattle.c_runs.specs.declared.breach.BrokenRule.{BrokenRule}
-use Rattle.c_runs.specs.declared.breach.BrokenRule.TheVariants as broken
-use Rattle.c_runs.specs.Items.{typing}
+use Rattle.c_language.specs.declared.scope.Fault.{Fault}
+use Rattle.c_language.specs.declared.scope.Rule.{Rule}
+use Rattle.c_language.specs.declared.scope.Rule.TheVariants as rule
+use Rattle.c_means.specs.declared.breach.Breach.{Breach}
+use Rattle.c_means.specs.declared.breach.BrokenRule.{BrokenRule}
+use Rattle.c_means.specs.declared.breach.BrokenRule.TheVariants as broken
+use Rattle.c_means.specs.Items.{typing}
 use Rattle.c_checks.specs.Refusals.{typing_number, number_of, comes_before, lesser_of, lesser, least_of, NoneBefore, IsLeast}
 
 -- ---- places by one number

@@ -1,14 +1,14 @@
 -- What a type is as a plain one, by the kind of integer that it is.
 use Rattle.std.proofs.Common.{◌≡◌, List, [], ◌∷◌, Bool, false, Option, Some, None, refl}
-use Rattle.c_type_terms.specs.declared.ctype.Base.{Base}
-use Rattle.c_type_terms.specs.declared.ctype.Base.TheVariants as base
-use Rattle.c_type_terms.specs.declared.ctype.CType.{CType}
-use Rattle.c_type_terms.specs.declared.ctype.Derivation.{Derivation}
-use Rattle.c_type_terms.specs.declared.ctype.Derivation.TheVariants as d
-use Rattle.c_type_terms.specs.declared.ctype.IntegerKind.{IntegerKind}
-use Rattle.c_type_terms.specs.declared.ctype.IntegerKind.TheVariants as int_
-use Rattle.c_runs.specs.Rules.{plain_from, plain_type, same_plain, same_kind, PlainInteger}
-use Rattle.c_runs.specs.Checks.{is_int, is_char}
+use Rattle.c_language.specs.declared.ctype.Base.{Base}
+use Rattle.c_language.specs.declared.ctype.Base.TheVariants as base
+use Rattle.c_language.specs.declared.ctype.CType.{CType}
+use Rattle.c_language.specs.declared.ctype.Derivation.{Derivation}
+use Rattle.c_language.specs.declared.ctype.Derivation.TheVariants as d
+use Rattle.c_language.specs.declared.ctype.IntegerKind.{IntegerKind}
+use Rattle.c_language.specs.declared.ctype.IntegerKind.TheVariants as int_
+use Rattle.c_means.specs.Rules.{plain_from, plain_type, same_plain, same_kind, PlainInteger}
+use Rattle.c_means.specs.Checks.{is_int, is_char}
 use Rattle.c_checks.specs.PlainTypes.{kind_from, plain_kind}
 
 abbrev pub same_if : Option IntegerKind → IntegerKind → Bool

@@ -1,10 +1,10 @@
 -- The repeated cases of a `switch`, found from left to right.
 use Rattle.std.proofs.Common.{◌≡◌, ℤ, Bool, true, false, ◌||◌, List, [], ◌∷◌, ◌++◌, Option, Some, None}
 use Rattle.std.proofs.Common.{refl, sym, ap, ◌∙◌}
-use Rattle.c_runs.specs.declared.breach.Breach.{Breach}
-use Rattle.c_runs.specs.declared.breach.BrokenRule.TheVariants as broken
-use Rattle.c_runs.specs.Items.{Case, breach_if}
-use Rattle.c_runs.specs.Statements.{same_case, is_among, repeated_cases}
+use Rattle.c_means.specs.declared.breach.Breach.{Breach}
+use Rattle.c_means.specs.declared.breach.BrokenRule.TheVariants as broken
+use Rattle.c_means.specs.Items.{Case, breach_if}
+use Rattle.c_means.specs.Statements.{same_case, is_among, repeated_cases}
 use Rattle.c_checks.specs.Refusals.{lesser, least_of}
 use Rattle.c_checks.proofs.Least.{grouping, of_both}
 

@@ -1,16 +1,16 @@
--- The lists of broken rules that the contracts speak of are those that `c_runs` has of its items and sites.
+-- The lists of broken rules that the contracts speak of are those that `c_means` has of its items and sites.
 use Rattle.std.proofs.Common.{◌≡◌, ℕ, ◌++◌, length, Some, None, refl}
-use Rattle.c_says.specs.Scopes.{Name}
-use Rattle.c_says.specs.Typing.{told_of}
+use Rattle.c_language.specs.Scopes.{Name}
+use Rattle.c_language.specs.Typing.{told_of}
 use Rattle.c_means.specs.Parts.{Site}
-use Rattle.c_runs.specs.declared.profile.FillFunction.{FillFunction}
-use Rattle.c_runs.specs.declared.profile.LogText.{LogText}
-use Rattle.c_runs.specs.declared.profile.LogText.TheVariants as log_
-use Rattle.c_runs.specs.Notes.{Noted}
-use Rattle.c_runs.specs.Items.{Code, Context}
-use Rattle.c_runs.specs.Programs.{Function}
-use Rattle.c_runs.specs.Statements as statements
-use Rattle.c_runs.specs.Checks as checks
+use Rattle.c_means.specs.declared.profile.FillFunction.{FillFunction}
+use Rattle.c_means.specs.declared.profile.LogText.{LogText}
+use Rattle.c_means.specs.declared.profile.LogText.TheVariants as log_
+use Rattle.c_means.specs.Notes.{Noted}
+use Rattle.c_means.specs.Items.{Code, Context}
+use Rattle.c_means.specs.Programs.{Function}
+use Rattle.c_means.specs.Statements as statements
+use Rattle.c_means.specs.Checks as checks
 use Rattle.c_checks.specs.Rules as rules
 use Rattle.c_checks.specs.Calls as calls
 

@@ -1,13 +1,13 @@
--- The rules of calls, over the types and texts of their arguments: the lists that the sites of `c_runs` have.
+-- The rules of calls, over the types and texts of their arguments: the lists that the sites of `c_means` have.
 use Rattle.std.specs.Prelude.{ℕ, suc, nat_eq, not, ◌&&◌, List, length, drop, Option, None, slice_get, unwrap_or}
 use Rattle.printf_text.specs.Pieces.{pieces_of}
-use Rattle.c_type_terms.specs.declared.ctype.CType.{CType}
-use Rattle.c_type_terms.specs.Types.{is_integer, is_pointer, is_scalar}
-use Rattle.c_runs.specs.declared.breach.Breach.{Breach}
-use Rattle.c_runs.specs.declared.profile.LogText.{LogText}
-use Rattle.c_runs.specs.declared.profile.LogText.TheVariants as log_
-use Rattle.c_runs.specs.Items.{breach_if}
-use Rattle.c_runs.specs.Checks.{mismatch, meets, type_at, literal_breaches, pieces_breaches}
+use Rattle.c_language.specs.declared.ctype.CType.{CType}
+use Rattle.c_language.specs.Types.{is_integer, is_pointer, is_scalar}
+use Rattle.c_means.specs.declared.breach.Breach.{Breach}
+use Rattle.c_means.specs.declared.profile.LogText.{LogText}
+use Rattle.c_means.specs.declared.profile.LogText.TheVariants as log_
+use Rattle.c_means.specs.Items.{breach_if}
+use Rattle.c_means.specs.Checks.{mismatch, meets, type_at, literal_breaches, pieces_breaches}
 
 -- what is handed on is a scalar
 abbrev pub identity_breaches : ℕ → List (Option CType) → ℕ → List Breach

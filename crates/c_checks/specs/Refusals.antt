@@ -2,11 +2,11 @@
 -- refusals.
 use Rattle.std.specs.Prelude.{◌≡◌, ℕ, Bool, false, cond, ◌&&◌, ◌||◌, nat_eq, nat_lt, List, [], ◌∷◌, Option, Some, None}
 use Rattle.std.specs.Prelude.{◌⊎◌, ⊤}
-use Rattle.c_says.specs.declared.scope.Rule.{Rule}
-use Rattle.c_says.specs.declared.scope.Rule.TheVariants as rule
-use Rattle.c_runs.specs.declared.breach.Breach.{Breach}
-use Rattle.c_runs.specs.declared.breach.BrokenRule.{BrokenRule}
-use Rattle.c_runs.specs.declared.breach.BrokenRule.TheVariants as broken
+use Rattle.c_language.specs.declared.scope.Rule.{Rule}
+use Rattle.c_language.specs.declared.scope.Rule.TheVariants as rule
+use Rattle.c_means.specs.declared.breach.Breach.{Breach}
+use Rattle.c_means.specs.declared.breach.BrokenRule.{BrokenRule}
+use Rattle.c_means.specs.declared.breach.BrokenRule.TheVariants as broken
 
 -- the number of a rule in the order of refusals; that there is no `main` is the first
 abbrev pub typing_number : Rule → ℕ

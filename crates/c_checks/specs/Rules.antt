@@ -1,18 +1,18 @@
 -- The rules of statements, over what is told of the expressions in them (C99 6.8): the lists of broken rules that the
--- items of `c_runs` have.
+-- items of `c_means` have.
 use Rattle.std.specs.Prelude.{ℕ, List, ◌++◌, not, Option}
-use Rattle.c_type_terms.specs.declared.ctype.CType.{CType}
-use Rattle.c_type_terms.specs.declared.ctype.IntegerKind.{IntegerKind}
-use Rattle.c_says.specs.declared.scope.Rule.TheVariants as rule
-use Rattle.c_says.specs.declared.shown.Told.{Told}
-use Rattle.c_says.specs.Scopes.{Name}
-use Rattle.c_says.specs.Typing.{Typed, used, not_constant_of, condition_faults}
+use Rattle.c_language.specs.declared.ctype.CType.{CType}
+use Rattle.c_language.specs.declared.ctype.IntegerKind.{IntegerKind}
+use Rattle.c_language.specs.declared.scope.Rule.TheVariants as rule
+use Rattle.c_language.specs.declared.shown.Told.{Told}
+use Rattle.c_language.specs.Scopes.{Name}
+use Rattle.c_language.specs.Typing.{Typed, used, not_constant_of, condition_faults}
 use Rattle.c_means.specs.Operators.{value_type, kind_in}
-use Rattle.c_runs.specs.declared.breach.Breach.{Breach}
-use Rattle.c_runs.specs.declared.breach.BrokenRule.{BrokenRule}
-use Rattle.c_runs.specs.declared.breach.BrokenRule.TheVariants as broken
-use Rattle.c_runs.specs.Items.{Label, typing, breach_if}
-use Rattle.c_runs.specs.Statements.{compared_in, integer_fault, return_breaches, returns_void, is_chosen, leads, stood_before}
+use Rattle.c_means.specs.declared.breach.Breach.{Breach}
+use Rattle.c_means.specs.declared.breach.BrokenRule.{BrokenRule}
+use Rattle.c_means.specs.declared.breach.BrokenRule.TheVariants as broken
+use Rattle.c_means.specs.Items.{Label, typing, breach_if}
+use Rattle.c_means.specs.Statements.{compared_in, integer_fault, return_breaches, returns_void, is_chosen, leads, stood_before}
 
 abbrev pub mismatch : BrokenRule
 mismatch = broken.Typing rule.TypeMismatch

@@ -1,7 +1,7 @@
 -- The types that functions of the C library have here, every pointer taken as one to void and without qualifiers.
 use Rattle.std.specs.Prelude.{List, [], ◌∷◌, Option, Some}
-use Rattle.c_type_terms.specs.declared.ctype.IntegerKind.TheVariants as int_
-use Rattle.c_runs.specs.Rules.{Plain, PlainVoid, PlainPointer, PlainInteger, Taking}
+use Rattle.c_language.specs.declared.ctype.IntegerKind.TheVariants as int_
+use Rattle.c_means.specs.Rules.{Plain, PlainVoid, PlainPointer, PlainInteger, Taking}
 use Rattle.c_checks.specs.declared.takings.PlainType.{PlainType}
 use Rattle.c_checks.specs.declared.takings.PlainType.TheVariants as plain
 

@@ -4,15 +4,15 @@
 ghost use Rattle.std.specs.Prelude.{◌≡◌, suc, drop, None, IfOk, slice_get, unwrap_or};
 ghost use Rattle.std.specs.Option.{option_copied};
 ghost use Rattle.printf_text.specs.Pieces.{pieces_of};
-ghost use Rattle.c_type_terms.specs.Types as types_;
-ghost use Rattle.c_runs.specs.Checks as checks;
+ghost use Rattle.c_language.specs.Types as types_;
+ghost use Rattle.c_means.specs.Checks as checks;
 ghost use Rattle.c_checks.specs.Refusals.{least_of};
 ghost use Rattle.c_checks.specs.Calls as spec;
 
 use crate::statements::mismatch_if;
-use bit_words::Bytes;
-use c_runs::{Breach, BrokenRule, LogText};
-use c_type_terms::{CType, Class};
+use c_language::{CType, Class};
+use c_means::{Breach, BrokenRule, LogText};
+use plain_data::Bytes;
 use printf_text::{FormatFault, Kind, kinds, parse_format};
 use std::alloc::{AllocError, Global};
 

@@ -1,12 +1,12 @@
 //! The cases of a `switch` (C99 6.8.4.2).
 
 ghost use Rattle.std.specs.Prelude.{◌≡◌, [], IfOk};
-ghost use Rattle.c_runs.specs.Statements as statements;
+ghost use Rattle.c_means.specs.Statements as statements;
 ghost use Rattle.c_checks.specs.Refusals.{least_of};
 
 use crate::order::lesser;
 use crate::statements::misplaced_if;
-use c_runs::Breach;
+use c_means::Breach;
 use plain_data::Items;
 use std::alloc::{AllocError, Global};
 use std::marker::Model;
@@ -19,7 +19,7 @@ pub struct Case {
 }
 
 impl Model for Case {
-    ghost use Rattle.c_runs.specs.Items.{Case as Spec};
+    ghost use Rattle.c_means.specs.Items.{Case as Spec};
 
     ghost Value = { Spec };
 

@@ -1,11 +1,11 @@
 //! The labels of statements, in the order in which they stand (C99 6.8.1): of a whole function, and of one block.
 
 ghost use Rattle.std.specs.Prelude.{◌≡◌, ◌++◌, map, option_map, OnOk};
-ghost use Rattle.c_runs.specs.Items as items_;
-ghost use Rattle.c_runs.specs.Statements as statements;
+ghost use Rattle.c_means.specs.Items as items_;
+ghost use Rattle.c_means.specs.Statements as statements;
 
 use crate::labels::Label;
-use c_tree::Stmt;
+use c_language::Stmt;
 use plain_data::{Items, Shared};
 use std::alloc::AllocError;
 

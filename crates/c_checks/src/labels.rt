@@ -1,13 +1,13 @@
 //! Labels, and where a `goto` leads (C99 6.8.1, 6.8.6.1).
 
 ghost use Rattle.std.specs.Prelude.{◌≡◌};
-ghost use Rattle.c_runs.specs.Statements as statements;
+ghost use Rattle.c_means.specs.Statements as statements;
 ghost use Rattle.c_checks.specs.Refusals.{least_of};
 ghost use Rattle.c_checks.specs.Rules as spec;
 
 use crate::statements::misplaced_if;
-use c_runs::Breach;
-use c_tokens::Name;
+use c_language::Name;
+use c_means::Breach;
 use std::marker::Model;
 
 /// A label, by the offset of its name.
@@ -18,7 +18,7 @@ pub struct Label {
 }
 
 impl Model for Label {
-    ghost use Rattle.c_runs.specs.Items.{Label as Spec};
+    ghost use Rattle.c_means.specs.Items.{Label as Spec};
 
     ghost Value = { Spec };
 

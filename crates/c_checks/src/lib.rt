@@ -1,4 +1,4 @@
-//! The rules of statements and programs (C99 6.8, 6.9), over what their parts say: exactly those of `c_runs`, and which of
+//! The rules of statements and programs (C99 6.8, 6.9), over what their parts say: exactly those of `c_means`, and which of
 //! several broken ones is the refusal.
 #![tactic(auto)]
 

@@ -2,11 +2,10 @@
 //! their type.
 
 ghost use Rattle.std.specs.Prelude.{◌≡◌, IfOk, is_some};
-ghost use Rattle.c_runs.specs.Rules as rules;
+ghost use Rattle.c_means.specs.Rules as rules;
 
 use crate::takings::{PlainType, means_function_of};
-use c_says::Entry;
-use c_type_terms::Tables;
+use c_language::{Entry, Tables};
 use std::alloc::{AllocError, Global};
 
 /// Whether a name as it is declared is that of `exit`, `abort`, `malloc`, `calloc` or `free` with its type: `void

@@ -1,14 +1,13 @@
 //! What a program wants of `main` (C99 5.1.2.2.1p1): `int main(void)`, `int main()` or `int main(int, char **)`.
 
 ghost use Rattle.std.specs.Prelude.{◌≡◌, ◌∷◌, IfOk, slice_get};
-ghost use Rattle.c_type_terms.specs.Types.{returned_of};
-ghost use Rattle.c_type_terms.specs.declared.ctype.IntegerKind.TheVariants as int_;
-ghost use Rattle.c_runs.specs.Rules.{plain_type, plain_result, same_kind};
-ghost use Rattle.c_runs.specs.Checks as checks;
+ghost use Rattle.c_language.specs.Types.{returned_of};
+ghost use Rattle.c_language.specs.declared.ctype.IntegerKind.TheVariants as int_;
+ghost use Rattle.c_means.specs.Rules.{plain_type, plain_result, same_kind};
+ghost use Rattle.c_means.specs.Checks as checks;
 ghost use Rattle.c_checks.specs.PlainTypes as spec;
 
-use c_says::Means;
-use c_type_terms::{Base, CType, Derivation, IntegerKind, Prototype, Tables};
+use c_language::{Base, CType, Derivation, IntegerKind, Means, Prototype, Tables};
 use std::alloc::{AllocError, Global};
 
 fn is_int_kind(kind: IntegerKind) -> bool

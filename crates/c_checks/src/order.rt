@@ -1,11 +1,11 @@
 //! Which of several broken rules is the refusal.
 
 ghost use Rattle.std.specs.Prelude.{◌≡◌, ◌≤◌};
-ghost use Rattle.c_runs.specs.Items as items;
+ghost use Rattle.c_means.specs.Items as items;
 ghost use Rattle.c_checks.specs.Refusals as spec;
 
-use c_runs::{Breach, BrokenRule};
-use c_says::{Fault, Rule};
+use c_language::{Fault, Rule};
+use c_means::{Breach, BrokenRule};
 
 fn typing_number(rule: Rule) -> u8
     ensures { result ≡ spec.typing_number rule }

@@ -2,9 +2,9 @@
 
 ghost use Rattle.std.specs.Prelude.{◌≡◌, not, ◌||◌, is_some};
 ghost use Rattle.std.specs.Option.{option_copied};
-ghost use Rattle.c_runs.specs.Rules as rules;
+ghost use Rattle.c_means.specs.Rules as rules;
 
-use c_runs::{FillFunction, IdentityFunction, LogFunction, Profile};
+use c_means::{FillFunction, IdentityFunction, LogFunction, Profile};
 
 /// The log function of a name.
 pub fn log_function<'a>(profile: &'a Profile, name: &[u8]) -> Option<&'a LogFunction>

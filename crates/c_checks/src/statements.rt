@@ -1,19 +1,18 @@
 //! The rules of statements over what their expressions say (C99 6.8.1, 6.8.4 to 6.8.6).
 
 ghost use Rattle.std.specs.Prelude.{◌≡◌, Bool, IfOk};
-ghost use Rattle.c_says.specs.Typing as typing;
-ghost use Rattle.c_runs.specs.Items as items;
-ghost use Rattle.c_runs.specs.Statements as statements;
-ghost use Rattle.c_runs.specs.declared.breach.BrokenRule.TheVariants as broken;
+ghost use Rattle.c_language.specs.Typing as typing;
+ghost use Rattle.c_means.specs.Items as items;
+ghost use Rattle.c_means.specs.Statements as statements;
+ghost use Rattle.c_means.specs.declared.breach.BrokenRule.TheVariants as broken;
 ghost use Rattle.c_checks.specs.Refusals.{least_of};
 ghost use Rattle.c_checks.specs.Rules as spec;
 
 use crate::order::{least_fault, lesser};
-use c_runs::{Breach, BrokenRule};
-use c_says::{LayoutRule, Rule, Shown, Told};
+use c_language::{CType, IntegerKind, LayoutRule, Rule, Shown, Told};
+use c_means::{Breach, BrokenRule};
 use c_type_forms::{is_assignable, is_floating, is_void, used};
 use c_type_scope::Scope;
-use c_type_terms::{CType, IntegerKind};
 use std::alloc::{AllocError, Global};
 
 /// A jump, a label or a case that may not stand where it does.

@@ -2,14 +2,13 @@
 //! qualifiers; and the functions that have a meaning of their own where they have their type (C99 7.20.3, 7.20.4).
 
 ghost use Rattle.std.specs.Prelude.{◌≡◌, [], Option, Some, IfOk, slice_get};
-ghost use Rattle.c_type_terms.specs.declared.ctype.IntegerKind.TheVariants as int_;
-ghost use Rattle.c_type_terms.specs.Types.{returned_of};
-ghost use Rattle.c_runs.specs.Rules as rules;
+ghost use Rattle.c_language.specs.declared.ctype.IntegerKind.TheVariants as int_;
+ghost use Rattle.c_language.specs.Types.{returned_of};
+ghost use Rattle.c_means.specs.Rules as rules;
 ghost use Rattle.c_checks.specs.Takings as spec;
 
 use crate::main_function::{is_int, plain_kind};
-use c_says::Means;
-use c_type_terms::{Base, CType, Derivation, IntegerKind, Prototype, Tables};
+use c_language::{Base, CType, Derivation, IntegerKind, Means, Prototype, Tables};
 use std::alloc::{AllocError, Global};
 
 /// A type as such functions have it.

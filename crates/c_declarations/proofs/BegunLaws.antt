@@ -1,14 +1,14 @@
 -- A declarator with its initializer, from what is in force in front of the initializer.
 use Rattle.std.proofs.Common.{◌≡◌, ℕ, true, false, List, [], Option, Some, None, Ok, Err, refl, sym, ap, ◌∙◌}
 use Rattle.std.proofs.lemmas.List.{append-nil}
-use Rattle.c_tree.specs.declared.expr.StorageClass.{StorageClass}
-use Rattle.c_says.specs.declared.scope.Fault.{Fault}
-use Rattle.c_says.specs.declared.scope.Means.{Means}
-use Rattle.c_says.specs.declared.scope.Means.TheVariants as means
-use Rattle.c_says.specs.Scopes.{Name, Scope}
-use Rattle.c_says.specs.Typing.{NamedType}
-use Rattle.c_says.specs.Declarations.{Again, InitialSays, completed_by, declared_again, declared_formed, means_of}
-use Rattle.c_says.specs.Declarations.{redeclared_as, declared_completely, declared_initialised}
+use Rattle.c_language.specs.declared.expr.StorageClass.{StorageClass}
+use Rattle.c_language.specs.declared.scope.Fault.{Fault}
+use Rattle.c_language.specs.declared.scope.Means.{Means}
+use Rattle.c_language.specs.declared.scope.Means.TheVariants as means
+use Rattle.c_language.specs.Scopes.{Name, Scope}
+use Rattle.c_language.specs.Typing.{NamedType}
+use Rattle.c_language.specs.Declarations.{Again, InitialSays, completed_by, declared_again, declared_formed, means_of}
+use Rattle.c_language.specs.Declarations.{redeclared_as, declared_completely, declared_initialised}
 use Rattle.c_declarations.specs.Beginnings.{begun, begun_again, plainly, filled_by}
 
 plainly_again : (at : ℕ) (name : Name) (again : Again) (faults : List Fault) (s : Scope)

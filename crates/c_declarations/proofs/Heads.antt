@@ -1,12 +1,12 @@
 -- The head of a function definition, by what it takes of its specifiers and its declarator.
 use Rattle.std.proofs.Common.{◌≡◌, ℕ, ◌++◌, List, Option, Some, None, Result, Ok, Err, refl, ap}
-use Rattle.c_tree.specs.declared.expr.StorageClass.{StorageClass}
-use Rattle.c_type_terms.specs.declared.ctype.CType.{CType}
-use Rattle.c_says.specs.declared.scope.Fault.{Fault}
-use Rattle.c_says.specs.Scopes.{Name, Scope, enter_with}
-use Rattle.c_says.specs.Typing.{NamedType}
-use Rattle.c_says.specs.Declares.{Parameters, Formed, formed_type, derived_from}
-use Rattle.c_says.specs.Declarations.{inside_with, function_named, function_from}
+use Rattle.c_language.specs.declared.expr.StorageClass.{StorageClass}
+use Rattle.c_language.specs.declared.ctype.CType.{CType}
+use Rattle.c_language.specs.declared.scope.Fault.{Fault}
+use Rattle.c_language.specs.Scopes.{Name, Scope, enter_with}
+use Rattle.c_language.specs.Typing.{NamedType}
+use Rattle.c_language.specs.Declares.{Parameters, Formed, formed_type, derived_from}
+use Rattle.c_language.specs.Declarations.{inside_with, function_named, function_from}
 use Rattle.c_declares.specs.declared.said.Said.{Said}
 use Rattle.c_declares.specs.Views.{said_in}
 use Rattle.c_declarations.specs.Views.{block_in, formed_with}

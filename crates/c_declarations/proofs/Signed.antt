@@ -1,16 +1,16 @@
 -- An empty list of parameters in a definition.
 use Rattle.std.proofs.Common.{◌≡◌, ℕ, zero, suc, Bool, true, false, List, [], ◌∷◌, Option, Some, None, refl}
 use Rattle.std.specs.Prelude.{slice_get}
-use Rattle.c_type_terms.specs.declared.ctype.CType.{CType}
-use Rattle.c_type_terms.specs.declared.ctype.Derivation.{Derivation}
-use Rattle.c_type_terms.specs.declared.ctype.Derivation.TheVariants as d
-use Rattle.c_type_terms.specs.declared.tables.Prototype.{Prototype}
-use Rattle.c_type_terms.specs.declared.tables.Prototype.TheVariants as prototype_
-use Rattle.c_type_terms.specs.declared.tables.Signature.{Signature}
-use Rattle.c_type_terms.specs.declared.tables.Tables.{Tables}
-use Rattle.c_type_terms.specs.Types.{function, rest_of}
-use Rattle.c_says.specs.Scopes.{Scope, next_signature, with_signature}
-use Rattle.c_says.specs.Declarations.{defined_signature}
+use Rattle.c_language.specs.declared.ctype.CType.{CType}
+use Rattle.c_language.specs.declared.ctype.Derivation.{Derivation}
+use Rattle.c_language.specs.declared.ctype.Derivation.TheVariants as d
+use Rattle.c_language.specs.declared.tables.Prototype.{Prototype}
+use Rattle.c_language.specs.declared.tables.Prototype.TheVariants as prototype_
+use Rattle.c_language.specs.declared.tables.Signature.{Signature}
+use Rattle.c_language.specs.declared.tables.Tables.{Tables}
+use Rattle.c_language.specs.Types.{function, rest_of}
+use Rattle.c_language.specs.Scopes.{Scope, next_signature, with_signature}
+use Rattle.c_language.specs.Declarations.{defined_signature}
 use Rattle.c_declarations.specs.Views.{is_unspecified}
 
 module _ (tables : Tables) (t : CType) (ds : List Derivation) (s : Scope) where

@@ -1,13 +1,13 @@
 -- A whole declaration, by the storage class and the type that its specifiers say.
 use Rattle.std.proofs.Common.{◌≡◌, Bool, List, [], ◌∷◌, map, Option, Some, None, refl, ap, sym, ◌∙◌}
-use Rattle.c_tree.specs.declared.unit.Declaration.{Declaration}
-use Rattle.c_tree.specs.declared.unit.InitDeclarator.{InitDeclarator}
-use Rattle.c_type_terms.specs.declared.ctype.CType.{CType}
-use Rattle.c_says.specs.Scopes.{Scope}
-use Rattle.c_says.specs.Declares.{Said, Whole, said_by, specified, specified_as}
-use Rattle.c_says.specs.Declarations.{Declares, Item, each_item, and_declared, declares, is_alone, behind_specifiers}
-use Rattle.c_says.specs.Trees.{specifier_says}
-use Rattle.c_says.specs.Units.{declaration_says}
+use Rattle.c_language.specs.declared.unit.Declaration.{Declaration}
+use Rattle.c_language.specs.declared.unit.InitDeclarator.{InitDeclarator}
+use Rattle.c_language.specs.declared.ctype.CType.{CType}
+use Rattle.c_language.specs.Scopes.{Scope}
+use Rattle.c_language.specs.Declares.{Said, Whole, said_by, specified, specified_as}
+use Rattle.c_language.specs.Declarations.{Declares, Item, each_item, and_declared, declares, is_alone, behind_specifiers}
+use Rattle.c_language.specs.Trees.{specifier_says}
+use Rattle.c_language.specs.Units.{declaration_says}
 use Rattle.c_declares.specs.declared.said.Said.{Said as Held}
 use Rattle.c_declares.specs.Views.{said_in}
 use Rattle.c_declarations.specs.Views.{each_as, item_of}

@@ -1,19 +1,19 @@
 -- A declared name in front of its initializer, where it is in force already (C99 6.2.1p7), and behind it: between the
 -- two the initializer is read.
 use Rattle.std.specs.Prelude.{ℕ, Bool, true, false, cond, List, [], ◌++◌, Option, Some, None}
-use Rattle.c_tree.specs.declared.expr.StorageClass.{StorageClass}
-use Rattle.c_type_terms.specs.declared.ctype.CType.{CType}
-use Rattle.c_says.specs.declared.scope.Fault.{Fault}
-use Rattle.c_says.specs.declared.scope.Means.{Means}
-use Rattle.c_says.specs.declared.scope.Means.TheVariants as means
-use Rattle.c_says.specs.declared.scope.Rule.TheVariants as rule
-use Rattle.c_says.specs.Scopes.{Name, Scope, declared, in_file, linked_as}
-use Rattle.c_says.specs.Typing.{NamedType, fault_at}
-use Rattle.c_says.specs.Declares.{type_in, faults_in}
-use Rattle.c_says.specs.Declarations.{Again, Declared, Initialised, InitialSays, declared_again, declared_initialised}
-use Rattle.c_says.specs.Declarations.{declares_name, initial_faults, initialised_by, means_of, object_type}
-use Rattle.c_says.specs.Declarations.{twice_defined}
-use Rattle.c_says.specs.Declarations as says
+use Rattle.c_language.specs.declared.expr.StorageClass.{StorageClass}
+use Rattle.c_language.specs.declared.ctype.CType.{CType}
+use Rattle.c_language.specs.declared.scope.Fault.{Fault}
+use Rattle.c_language.specs.declared.scope.Means.{Means}
+use Rattle.c_language.specs.declared.scope.Means.TheVariants as means
+use Rattle.c_language.specs.declared.scope.Rule.TheVariants as rule
+use Rattle.c_language.specs.Scopes.{Name, Scope, declared, in_file, linked_as}
+use Rattle.c_language.specs.Typing.{NamedType, fault_at}
+use Rattle.c_language.specs.Declares.{type_in, faults_in}
+use Rattle.c_language.specs.Declarations.{Again, Declared, Initialised, InitialSays, declared_again, declared_initialised}
+use Rattle.c_language.specs.Declarations.{declares_name, initial_faults, initialised_by, means_of, object_type}
+use Rattle.c_language.specs.Declarations.{twice_defined}
+use Rattle.c_language.specs.Declarations as says
 use Rattle.c_declarations.specs.declared.beginnings.Begun.{Begun}
 use Rattle.c_declarations.specs.declared.beginnings.NamedMeans.{NamedMeans}
 

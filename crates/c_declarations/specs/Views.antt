@@ -1,16 +1,16 @@
--- What the code holds of declarations, in front of the scope behind them: the values that `c_says` speaks of.
+-- What the code holds of declarations, in front of the scope behind them: the values that `c_language` speaks of.
 use Rattle.std.specs.Prelude.{◌≡◌, ℕ, Bool, true, false, List, [], ◌∷◌, Option, Some, None}
-use Rattle.c_tree.specs.declared.expr.StorageClass.{StorageClass}
-use Rattle.c_tree.specs.declared.unit.InitDeclarator.{InitDeclarator}
-use Rattle.c_type_terms.specs.declared.ctype.CType.{CType}
-use Rattle.c_type_terms.specs.declared.tables.Prototype.{Prototype}
-use Rattle.c_type_terms.specs.declared.tables.Prototype.TheVariants as prototype_
-use Rattle.c_type_terms.specs.declared.tables.Signature.{Signature}
-use Rattle.c_says.specs.Scopes.{Block, Scope, empty, no_names, enter_with}
-use Rattle.c_says.specs.Declares.{Formed, Parameters, named, formed_type, derived_from}
-use Rattle.c_says.specs.Declarations as spec
-use Rattle.c_says.specs.Trees.{typed, declarator_says}
-use Rattle.c_says.specs.Units.{item_by}
+use Rattle.c_language.specs.declared.expr.StorageClass.{StorageClass}
+use Rattle.c_language.specs.declared.unit.InitDeclarator.{InitDeclarator}
+use Rattle.c_language.specs.declared.ctype.CType.{CType}
+use Rattle.c_language.specs.declared.tables.Prototype.{Prototype}
+use Rattle.c_language.specs.declared.tables.Prototype.TheVariants as prototype_
+use Rattle.c_language.specs.declared.tables.Signature.{Signature}
+use Rattle.c_language.specs.Scopes.{Block, Scope, empty, no_names, enter_with}
+use Rattle.c_language.specs.Declares.{Formed, Parameters, named, formed_type, derived_from}
+use Rattle.c_language.specs.Declarations as spec
+use Rattle.c_language.specs.Trees.{typed, declarator_says}
+use Rattle.c_language.specs.Units.{item_by}
 use Rattle.c_declarations.specs.declared.declarators.Declared.{Declared}
 use Rattle.c_declarations.specs.declared.declarations.DeclarationSaid.{DeclarationSaid}
 use Rattle.c_declarations.specs.declared.functions.FunctionSaid.{FunctionSaid}

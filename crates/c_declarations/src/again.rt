@@ -1,14 +1,12 @@
 //! Declaring a name again (C99 6.7p3, p4, 6.2.7).
 
 ghost use Rattle.std.specs.Prelude.{◌≡◌, IfOk};
-ghost use Rattle.c_type_terms.specs.Compatible.{composite};
-ghost use Rattle.c_says.specs.Declarations as spec;
+ghost use Rattle.c_language.specs.Compatible.{composite};
+ghost use Rattle.c_language.specs.Declarations as spec;
 
 use crate::linkage::has_linkage;
-use c_says::Means;
-use c_tokens::Name;
+use c_language::{CType, Means, Name, Tables};
 use c_type_scope::Scope;
-use c_type_terms::{CType, Tables};
 use plain_data::Shared;
 use std::alloc::{AllocError, Global};
 

@@ -2,10 +2,10 @@
 //! 6.7.8): whoever reads the initializer does so between the two.
 
 ghost use Rattle.std.specs.Prelude.{◌≡◌, [], None, Some, IfOk};
-ghost use Rattle.c_says.specs.declared.scope.Means.TheVariants as means_;
-ghost use Rattle.c_says.specs.Scopes as scopes;
-ghost use Rattle.c_says.specs.Declarations as says;
-ghost use Rattle.c_says.specs.Declares as forms;
+ghost use Rattle.c_language.specs.declared.scope.Means.TheVariants as means_;
+ghost use Rattle.c_language.specs.Scopes as scopes;
+ghost use Rattle.c_language.specs.Declarations as says;
+ghost use Rattle.c_language.specs.Declares as forms;
 ghost use Rattle.c_declarations.specs.Beginnings as spec;
 ghost use Rattle.c_declarations.specs.Views.{declared_in};
 
@@ -14,11 +14,8 @@ use crate::completeness::{complete_fault, completed_by, may_be_initialised, obje
 use crate::declarators::{Declared, declared_lastly, with_definition, with_rule};
 use crate::linkage::{copied, declare, declares_name, means_of, twice_defined};
 use c_declares::{Formed, derived_from, formed_type};
-use c_says::{Fault, Means, Rule};
-use c_tokens::Name;
-use c_tree::StorageClass;
+use c_language::{CType, Fault, Means, Name, Rule, StorageClass};
 use c_type_scope::Scope;
-use c_type_terms::CType;
 use plain_data::{Items, Shared};
 use std::alloc::{AllocError, Global};
 

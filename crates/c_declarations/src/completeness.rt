@@ -2,13 +2,12 @@
 //! 6.7.8p22).
 
 ghost use Rattle.std.specs.Prelude.{◌≡◌, IfOk, Some};
-ghost use Rattle.c_says.specs.declared.scope.Linkage.TheVariants as linkage;
+ghost use Rattle.c_language.specs.declared.scope.Linkage.TheVariants as linkage;
 ghost use Rattle.std.specs.Option.{option_copied};
-ghost use Rattle.c_says.specs.Declarations as spec;
+ghost use Rattle.c_language.specs.Declarations as spec;
 
-use c_says::{Fault, LayoutRule, Linkage, Means, Rule};
+use c_language::{CType, Derivation, Fault, LayoutRule, Linkage, Means, Rule, Tables};
 use c_type_forms::{has_size, one_fault};
-use c_type_terms::{CType, Derivation, Tables};
 use plain_data::{Items, Shared};
 use std::alloc::{AllocError, Global};
 

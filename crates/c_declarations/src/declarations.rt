@@ -1,19 +1,17 @@
 //! Whole declarations (C99 6.7).
 
 ghost use Rattle.std.specs.Prelude.{◌≡◌, map, IfOk};
-ghost use Rattle.c_says.specs.Scopes as scopes;
-ghost use Rattle.c_says.specs.Declares as forms;
-ghost use Rattle.c_says.specs.Declarations as spec;
-ghost use Rattle.c_says.specs.Units as units;
+ghost use Rattle.c_language.specs.Scopes as scopes;
+ghost use Rattle.c_language.specs.Declares as forms;
+ghost use Rattle.c_language.specs.Declarations as spec;
+ghost use Rattle.c_language.specs.Units as units;
 ghost use Rattle.c_declares.specs.Views.{said_in};
 ghost use Rattle.c_declarations.specs.Views as views;
 
 use crate::declarators::{Declared, declares};
 use c_declares::Said;
-use c_says::{Entry, Fault};
-use c_tree::{Declaration, InitDeclarator, StorageClass};
+use c_language::{CType, Declaration, Entry, Fault, InitDeclarator, StorageClass};
 use c_type_scope::Scope;
-use c_type_terms::CType;
 use c_typing::{declarator, specifiers};
 use plain_data::{Items, Shared};
 use std::alloc::{AllocError, Global};

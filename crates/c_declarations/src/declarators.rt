@@ -1,12 +1,12 @@
 //! One declarator with its initializer (C99 6.7, 6.7.8).
 
 ghost use Rattle.std.specs.Prelude.{◌≡◌, ◌++◌, [], cond, IfOk};
-ghost use Rattle.c_says.specs.declared.scope.Rule.TheVariants as rule;
-ghost use Rattle.c_says.specs.Typing.{fault_at};
-ghost use Rattle.c_says.specs.Declares as forms;
-ghost use Rattle.c_says.specs.Declarations as spec;
-ghost use Rattle.c_says.specs.Trees as trees;
-ghost use Rattle.c_says.specs.Units as units;
+ghost use Rattle.c_language.specs.declared.scope.Rule.TheVariants as rule;
+ghost use Rattle.c_language.specs.Typing.{fault_at};
+ghost use Rattle.c_language.specs.Declares as forms;
+ghost use Rattle.c_language.specs.Declarations as spec;
+ghost use Rattle.c_language.specs.Trees as trees;
+ghost use Rattle.c_language.specs.Units as units;
 ghost use Rattle.c_declarations.specs.Beginnings as beginnings;
 ghost use Rattle.c_declarations.specs.Views.{declared_in};
 
@@ -16,11 +16,8 @@ use crate::beginnings::{
 use crate::completeness::faults_of_rule;
 use c_declares::Formed;
 use c_initials::{Filling, filling_of};
-use c_says::{Entry, Fault, Rule};
-use c_tokens::Name;
-use c_tree::{Initializer, StorageClass};
+use c_language::{CType, Entry, Fault, Initializer, Name, Rule, StorageClass};
 use c_type_scope::Scope;
-use c_type_terms::CType;
 use plain_data::{Items, Shared};
 use std::alloc::{AllocError, Global};
 

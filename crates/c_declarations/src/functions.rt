@@ -1,10 +1,10 @@
 //! The heads of function definitions (C99 6.9.1).
 
 ghost use Rattle.std.specs.Prelude.{◌≡◌, ◌++◌, Some, slice_get, IfOk, OnOk};
-ghost use Rattle.c_says.specs.declared.scope.Means.TheVariants as means_;
-ghost use Rattle.c_says.specs.Scopes as scopes;
-ghost use Rattle.c_says.specs.Declarations as spec;
-ghost use Rattle.c_says.specs.Units as units;
+ghost use Rattle.c_language.specs.declared.scope.Means.TheVariants as means_;
+ghost use Rattle.c_language.specs.Scopes as scopes;
+ghost use Rattle.c_language.specs.Declarations as spec;
+ghost use Rattle.c_language.specs.Units as units;
 ghost use Rattle.c_declares.specs.Views.{said_in, formed_in, inside_of};
 ghost use Rattle.c_declarations.specs.Views.{declared_in, function_in, formed_with, signed};
 ghost use Rattle.c_declarations.specs.Views as views;
@@ -14,16 +14,15 @@ use crate::completeness::INCOMPLETE;
 use crate::declarations::specified_by;
 use crate::declarators::{Declared, declared_lastly, with_definition, with_rule};
 use crate::linkage::{declare, declares_name, means_of, twice_defined};
-use bit_words::Bytes;
 use c_declares::{Formed, Parameters, Said, derived_from, formed_type};
-use c_says::{Entry, Fault, Means, Rule};
-use c_tokens::Name;
-use c_tree::{Declarator, Specifier, StorageClass};
+use c_language::{
+    CType, Declarator, Derivation, Entry, Fault, Means, Name, Prototype, Rule, Specifier,
+    StorageClass, Tables,
+};
 use c_type_forms::{has_size, is_void, one_fault};
 use c_type_scope::{Block, Scope};
-use c_type_terms::{CType, Derivation, Prototype, Tables};
 use c_typing::{declarator, specifiers};
-use plain_data::{Items, Shared};
+use plain_data::{Bytes, Items, Shared};
 use std::alloc::{AllocError, Global};
 
 /// What the head of a function definition says, apart from the scope behind it: the entry of the function, the type

@@ -1,4 +1,4 @@
-//! What declarations and the heads of function definitions say (C99 6.7, 6.9): exactly the definitions of `c_says`.
+//! What declarations and the heads of function definitions say (C99 6.7, 6.9): exactly the definitions of `c_language`.
 #![tactic(auto)]
 
 mod again;

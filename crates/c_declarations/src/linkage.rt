@@ -2,15 +2,12 @@
 
 ghost use Rattle.std.specs.Prelude.{◌≡◌, IfOk, OnOk};
 ghost use Rattle.std.specs.Option.{option_copied};
-ghost use Rattle.c_says.specs.Scopes as scopes;
-ghost use Rattle.c_says.specs.Declarations as spec;
+ghost use Rattle.c_language.specs.Scopes as scopes;
+ghost use Rattle.c_language.specs.Declarations as spec;
 
-use c_says::{Duration, Entry, Linkage, Linked, Means};
-use c_tokens::Name;
-use c_tree::StorageClass;
+use c_language::{CType, Duration, Entry, Linkage, Linked, Means, Name, StorageClass};
 use c_type_forms::is_function;
 use c_type_scope::Scope;
-use c_type_terms::CType;
 use plain_data::Shared;
 use std::alloc::{AllocError, Global};
 

@@ -3,9 +3,9 @@ use Rattle.std.proofs.Common.{◌≡◌, refl, ◌∙◌, sym, ◌<◌, ◌+◌,
 use Rattle.std.specs.List.{list_any, count_by}
 use Rattle.std.proofs.lemmas.Bool.Decides.{nat_tests}
 use Rattle.std.proofs.lemmas.List.Sums.{sum_by-cons}
-use Rattle.c_tree.specs.declared.expr.TypeWord.{TypeWord}
-use Rattle.c_type_terms.specs.declared.ctype.Domain.TheVariants as domain
-use Rattle.c_says.specs.Declares.{
+use Rattle.c_language.specs.declared.expr.TypeWord.{TypeWord}
+use Rattle.c_language.specs.declared.ctype.Domain.TheVariants as domain
+use Rattle.c_language.specs.Declares.{
   count,
   has,
   is_char,

@@ -1,8 +1,8 @@
 -- Which form a structure or union of a number has.
 use Rattle.std.proofs.Common.{◌≡◌, refl, ap, ℕ, zero, suc, ◌<◌, ◌≤◌, List, [], ◌∷◌, length, get_or, arith}
-use Rattle.c_type_terms.specs.declared.tables.Aggregate.{Aggregate}
-use Rattle.c_type_terms.specs.declared.tables.AggregateForm.TheVariants as form_
-use Rattle.c_says.specs.Declares.{form_at}
+use Rattle.c_language.specs.declared.tables.Aggregate.{Aggregate}
+use Rattle.c_language.specs.declared.tables.AggregateForm.TheVariants as form_
+use Rattle.c_language.specs.Declares.{form_at}
 
 pub form_at_in : (aggregates : List Aggregate) (n : ℕ) (a : Aggregate) → a ≡ get_or aggregates n a → n < length aggregates
     → a.form ≡ form_at aggregates n

@@ -1,8 +1,8 @@
 -- Qualifiers that words say together.
 use Rattle.std.proofs.Common.{◌≡◌, refl, Bool, true, false}
 use Rattle.std.specs.Prelude.{◌||◌}
-use Rattle.c_type_terms.specs.declared.ctype.Qualifiers.{Qualifiers}
-use Rattle.c_type_terms.specs.Types.{unqualified, with_both}
+use Rattle.c_language.specs.declared.ctype.Qualifiers.{Qualifiers}
+use Rattle.c_language.specs.Types.{unqualified, with_both}
 
 or_assoc : (a b c : Bool) → ((a || b) || c) ≡ (a || (b || c))
 or_assoc true b c = refl

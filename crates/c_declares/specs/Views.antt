@@ -1,4 +1,4 @@
--- What the code holds of a declaration, in front of the scope that it leaves: the values that `c_says` speaks of.
+-- What the code holds of a declaration, in front of the scope that it leaves: the values that `c_language` speaks of.
 use Rattle.std.specs.Prelude.{Option, Some, None}
 use Rattle.c_declares.specs.declared.declarators.Counted.{Counted}
 use Rattle.c_declares.specs.declared.declarators.Formed.{Formed}
@@ -10,8 +10,8 @@ use Rattle.c_declares.specs.declared.parameters.Named.{Named}
 use Rattle.c_declares.specs.declared.said.Said.{Said}
 use Rattle.c_declares.specs.declared.tags.Begun.{Begun}
 use Rattle.c_declares.specs.declared.type_names.TypeSaid.{TypeSaid}
-use Rattle.c_says.specs.Scopes.{Scope}
-use Rattle.c_says.specs.Declares as spec
+use Rattle.c_language.specs.Scopes.{Scope}
+use Rattle.c_language.specs.Declares as spec
 
 abbrev pub said_in : Said → Scope → spec.Said
 said_in x s = record {

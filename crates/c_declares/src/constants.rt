@@ -1,10 +1,10 @@
 //! Expressions that must be constant (C99 6.6).
 
 ghost use Rattle.std.specs.Prelude.{◌≡◌, ◌++◌, OnOk};
-ghost use Rattle.c_says.specs.Typing.{value_in, not_constant_of};
+ghost use Rattle.c_language.specs.Typing.{value_in, not_constant_of};
 
 use crate::types::NOT_CONSTANT;
-use c_says::{Fault, Shown, Told};
+use c_language::{Fault, Shown, Told};
 use plain_data::Items;
 use std::alloc::AllocError;
 

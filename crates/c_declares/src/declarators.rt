@@ -1,21 +1,20 @@
 //! What declarators say (C99 6.7.5), derivation by derivation from the name outward.
 
 ghost use Rattle.std.specs.Prelude.{◌≡◌, ◌++◌, [], ◌∷◌, IfOk, OnOk};
-ghost use Rattle.c_type_terms.specs.Types.{with_both};
-ghost use Rattle.c_says.specs.Scopes as scopes;
-ghost use Rattle.c_says.specs.Typing.{typed_in};
-ghost use Rattle.c_says.specs.Declares as spec;
+ghost use Rattle.c_language.specs.Types.{with_both};
+ghost use Rattle.c_language.specs.Scopes as scopes;
+ghost use Rattle.c_language.specs.Typing.{typed_in};
+ghost use Rattle.c_language.specs.Declares as spec;
 ghost use Rattle.c_declares.specs.Views.{formed_in, counted_in, listed_in};
 
 use crate::constants::value_of;
 use crate::parameters::{Listed, add_signature, has_no_parameter};
 use crate::said::of_qualifier;
 use crate::types::NOT_CONSTANT;
-use c_says::{Fault, Shown, Told};
-use c_tokens::Name;
-use c_tree::{ArrayWord, Qualifier};
+use c_language::{
+    ArrayWord, Derivation, Fault, Name, Prototype, Qualifier, Qualifiers, Shown, Told,
+};
 use c_type_scope::{Block, Scope};
-use c_type_terms::{Derivation, Prototype, Qualifiers};
 use plain_data::Items;
 use std::alloc::{AllocError, Global};
 

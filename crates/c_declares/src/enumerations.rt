@@ -1,16 +1,14 @@
 //! Enumerations, constant by constant (C99 6.7.2.2).
 
 ghost use Rattle.std.specs.Prelude.{◌≡◌, ◌++◌, pos, OnOk};
-ghost use Rattle.c_says.specs.Typing.{typed_in};
-ghost use Rattle.c_says.specs.Declares as spec;
+ghost use Rattle.c_language.specs.Typing.{typed_in};
+ghost use Rattle.c_language.specs.Declares as spec;
 ghost use Rattle.c_declares.specs.Views.{counting_in};
 
 use crate::constants::{add_constant, value_of};
 use crate::names::{add_duplicate, declare};
-use c_says::{Fault, Means, Rule, Told};
-use c_tokens::Name;
+use c_language::{Fault, IntegerKind, Means, Name, Rule, Told};
 use c_type_scope::Scope;
-use c_type_terms::IntegerKind;
 use plain_data::Items;
 use std::alloc::{AllocError, Global};
 

@@ -1,4 +1,4 @@
-//! What declarations that stand in expressions say (C99 6.7): the steps of `c_says` over what the trees in them say, as
+//! What declarations that stand in expressions say (C99 6.7): the steps of `c_language` over what the trees in them say, as
 //! code.
 #![tactic(auto)]
 

@@ -1,21 +1,21 @@
 //! Structures and unions, member by member (C99 6.7.2.1).
 
 ghost use Rattle.std.specs.Prelude.{◌≡◌, ◌++◌, ◌||◌, ◌&&◌, not, [], true, IfOk, OnOk};
-ghost use Rattle.c_type_terms.specs.Layouts.{is_sized, is_opaque};
-ghost use Rattle.c_says.specs.Scopes as scopes;
-ghost use Rattle.c_says.specs.Typing.{typed_in, fault_at};
-ghost use Rattle.c_says.specs.Declares as spec;
+ghost use Rattle.c_language.specs.Layouts.{is_sized, is_opaque};
+ghost use Rattle.c_language.specs.Scopes as scopes;
+ghost use Rattle.c_language.specs.Typing.{typed_in, fault_at};
+ghost use Rattle.c_language.specs.Declares as spec;
 ghost use Rattle.c_declares.specs.Views.{said_in, laid_in, formed_in};
 
 use crate::constants::add_constant;
 use crate::declarators::Formed;
 use crate::said::Said;
 use crate::types::{INCOMPLETE, derived_from, formed_type, has_size, is_function_type};
-use c_says::{Fault, Rule, Told};
-use c_tokens::Name;
-use c_tree::AggregateKind;
+use c_language::{
+    AggregateForm, AggregateKind, CType, Derivation, Extent, Fault, Layout, Name, Rule, Tables,
+    Told,
+};
 use c_type_scope::Scope;
-use c_type_terms::{AggregateForm, CType, Derivation, Extent, Layout, Tables};
 use plain_data::Items;
 use std::alloc::{AllocError, Global};
 use std::mem;

@@ -2,11 +2,10 @@
 
 ghost use Rattle.std.specs.Prelude.{◌≡◌, ◌++◌, OnOk};
 ghost use Rattle.std.specs.Option.{option_copied};
-ghost use Rattle.c_says.specs.Scopes as scopes;
-ghost use Rattle.c_says.specs.Declares as spec;
+ghost use Rattle.c_language.specs.Scopes as scopes;
+ghost use Rattle.c_language.specs.Declares as spec;
 
-use c_says::{Entry, Fault, Means, Rule};
-use c_tokens::Name;
+use c_language::{Entry, Fault, Means, Name, Rule};
 use c_type_scope::Scope;
 use plain_data::{Items, Shared};
 use std::alloc::{AllocError, Global};

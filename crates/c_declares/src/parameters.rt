@@ -1,20 +1,19 @@
 //! Parameters (C99 6.7.5.3): of array or function type they are pointers, and their names have a scope of their own.
 
 ghost use Rattle.std.specs.Prelude.{◌≡◌, ◌++◌, [], true, cond, map, IfOk, OnOk};
-ghost use Rattle.c_says.specs.Scopes as scopes;
-ghost use Rattle.c_says.specs.Declares as spec;
-ghost use Rattle.c_tree.specs.declared.expr.Parameter.{Parameter as Tree};
+ghost use Rattle.c_language.specs.Scopes as scopes;
+ghost use Rattle.c_language.specs.Declares as spec;
+ghost use Rattle.c_language.specs.declared.expr.Parameter.{Parameter as Tree};
 ghost use Rattle.c_declares.specs.Views.{said_in, formed_in, named_in, listed_in};
 
 use crate::declarators::Formed;
 use crate::names::{add_duplicate, declare};
 use crate::said::Said;
 use crate::types::{adjusted_type, derived_from};
-use c_says::{Duration, Fault, Linkage, Means, Rule};
-use c_tokens::Name;
-use c_tree::Parameter;
+use c_language::{
+    CType, Class, Derivation, Duration, Fault, Linkage, Means, Name, Parameter, Prototype, Rule,
+};
 use c_type_scope::Scope;
-use c_type_terms::{CType, Class, Derivation, Prototype};
 use plain_data::{Items, Shared};
 use std::alloc::{AllocError, Global};
 

@@ -1,18 +1,15 @@
 //! What declaration specifiers say (C99 6.7), each behind what was said before it.
 
 ghost use Rattle.std.specs.Prelude.{◌≡◌, ◌++◌, [], ◌∷◌, true, false, IfOk, OnOk};
-ghost use Rattle.c_type_terms.specs.Types.{unqualified, with_both};
-ghost use Rattle.c_says.specs.Scopes as scopes;
-ghost use Rattle.c_says.specs.Typing.{fault_at};
-ghost use Rattle.c_says.specs.Declares as spec;
+ghost use Rattle.c_language.specs.Types.{unqualified, with_both};
+ghost use Rattle.c_language.specs.Scopes as scopes;
+ghost use Rattle.c_language.specs.Typing.{fault_at};
+ghost use Rattle.c_language.specs.Declares as spec;
 ghost use Rattle.c_declares.specs.Views.{said_in};
 
 use crate::words::type_of_words;
-use c_says::{Fault, Means, Rule};
-use c_tokens::Name;
-use c_tree::{Qualifier, StorageClass, TypeWord};
+use c_language::{CType, Fault, Means, Name, Qualifier, Qualifiers, Rule, StorageClass, TypeWord};
 use c_type_scope::Scope;
-use c_type_terms::{CType, Qualifiers};
 use plain_data::Items;
 use std::alloc::{AllocError, Global};
 

@@ -1,20 +1,20 @@
 //! Tags (C99 6.7.2.3), and where a list of members or enumerators begins and ends.
 
 ghost use Rattle.std.specs.Prelude.{◌≡◌, ◌++◌, [], cond, IfOk, OnOk};
-ghost use Rattle.c_type_terms.specs.Layouts.{finished};
-ghost use Rattle.c_says.specs.Scopes as scopes;
-ghost use Rattle.c_says.specs.Typing.{fault_at};
-ghost use Rattle.c_says.specs.Declares as spec;
+ghost use Rattle.c_language.specs.Layouts.{finished};
+ghost use Rattle.c_language.specs.Scopes as scopes;
+ghost use Rattle.c_language.specs.Typing.{fault_at};
+ghost use Rattle.c_language.specs.Declares as spec;
 ghost use Rattle.c_declares.specs.Views.{said_in, begun_in, laid_in, counting_in};
 
 use crate::enumerations::Counting;
 use crate::members::{Laid, form_of};
 use crate::said::Said;
-use c_says::{Fault, Rule, Tag, TagMeans};
-use c_tokens::Name;
-use c_tree::{AggregateKind, TagName};
+use c_language::{
+    Aggregate, AggregateForm, AggregateKind, Base, CType, Content, Fault, Layout, Name,
+    OpaqueCause, Rule, Tag, TagMeans, TagName,
+};
 use c_type_scope::Scope;
-use c_type_terms::{Aggregate, AggregateForm, Base, CType, Content, Layout, OpaqueCause};
 use plain_data::{Items, Shared};
 use std::alloc::{AllocError, Global};
 use std::mem;

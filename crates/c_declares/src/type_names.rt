@@ -1,16 +1,15 @@
 //! Type names (C99 6.7.6).
 
 ghost use Rattle.std.specs.Prelude.{◌≡◌, IfOk};
-ghost use Rattle.c_says.specs.Scopes as scopes;
-ghost use Rattle.c_says.specs.Declares as spec;
+ghost use Rattle.c_language.specs.Scopes as scopes;
+ghost use Rattle.c_language.specs.Declares as spec;
 ghost use Rattle.c_declares.specs.Views.{said_in, formed_in, type_said_in};
 
 use crate::declarators::Formed;
 use crate::said::Said;
 use crate::types::{derived_from, formed_type};
-use c_says::{Fault, Rule};
+use c_language::{CType, Fault, Rule};
 use c_type_scope::Scope;
-use c_type_terms::CType;
 use plain_data::Items;
 use std::alloc::{AllocError, Global};
 

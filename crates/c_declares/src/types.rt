@@ -1,13 +1,12 @@
 //! Types made of the derivations that a declarator says (C99 6.7.5), and the rules that they may break.
 
 ghost use Rattle.std.specs.Prelude.{◌≡◌, IfOk};
-ghost use Rattle.c_type_terms.specs.Types.{rest_of, is_function};
-ghost use Rattle.c_type_terms.specs.Layouts.{is_sized};
-ghost use Rattle.c_type_terms.specs.Compatible.{adjusted};
-ghost use Rattle.c_says.specs.Declares as spec;
+ghost use Rattle.c_language.specs.Types.{rest_of, is_function};
+ghost use Rattle.c_language.specs.Layouts.{is_sized};
+ghost use Rattle.c_language.specs.Compatible.{adjusted};
+ghost use Rattle.c_language.specs.Declares as spec;
 
-use c_says::{LayoutRule, Rule};
-use c_type_terms::{CType, Class, Derivation, Qualifiers, Tables};
+use c_language::{CType, Class, Derivation, LayoutRule, Qualifiers, Rule, Tables};
 use plain_data::Items;
 use std::alloc::{AllocError, Global};
 

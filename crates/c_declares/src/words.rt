@@ -2,11 +2,10 @@
 
 ghost use Rattle.std.specs.Prelude.{◌≡◌, ◌∷◌, cond, MatchOption};
 ghost use Rattle.std.specs.List.{list_any, count_by};
-ghost use Rattle.c_type_terms.specs.Types.{basic};
-ghost use Rattle.c_says.specs.Declares as spec;
+ghost use Rattle.c_language.specs.Types.{basic};
+ghost use Rattle.c_language.specs.Declares as spec;
 
-use c_tree::TypeWord;
-use c_type_terms::{Base, CType, Domain, FloatingKind, IntegerKind, RealKind};
+use c_language::{Base, CType, Domain, FloatingKind, IntegerKind, RealKind, TypeWord};
 use std::alloc::Global;
 
 fn has_char(words: &[TypeWord]) -> bool

@@ -1,7 +1,7 @@
 -- Adjacent string literals, in one list.
 use Rattle.std.proofs.Common.{◌≡◌, ℕ, suc, List, [], ◌∷◌, length, Some, None, refl, ◌∙◌}
-use Rattle.c_tree.specs.declared.expr.Expr.{Expr}
-use Rattle.c_tree.specs.declared.expr.Expr.TheVariants as expr
+use Rattle.c_language.specs.declared.expr.Expr.{Expr}
+use Rattle.c_language.specs.declared.expr.Expr.TheVariants as expr
 use Rattle.c_grammar.specs.Parts.{State}
 use Rattle.c_grammar.specs.Reading.{Reading, ◌>>=◌, run_at, a_literal, literal_at}
 use Rattle.c_reading.specs.declared.fault.ParseFault.{ParseFault}

@@ -23,7 +23,7 @@ use Rattle.std.proofs.Common.{
   inr,
 }
 use Rattle.std.proofs.lemmas.Bool.Decides.{nat_tests}
-use Rattle.c_tree.specs.declared.expr.Expr.{Expr}
+use Rattle.c_language.specs.declared.expr.Expr.{Expr}
 use Rattle.c_grammar.specs.Parts.{State}
 use Rattle.c_grammar.specs.Reading.{Rules, ◌>>=◌, binds, more_at, expr_by}
 use Rattle.c_reading.specs.declared.fault.ParseFault.{ParseFault}

@@ -19,8 +19,8 @@ use Rattle.std.proofs.Common.{
   arith,
 }
 use Rattle.std.specs.Prelude.{max, map}
-use Rattle.c_tokens.specs.declared.token.Punctuator.TheVariants as mark
-use Rattle.c_tree.specs.declared.expr.Enumerator.{Enumerator}
+use Rattle.c_language.specs.declared.token.Punctuator.TheVariants as mark
+use Rattle.c_language.specs.declared.expr.Enumerator.{Enumerator}
 use Rattle.c_grammar.specs.Grammar.{enumerator_of, highest}
 use Rattle.c_grammar.specs.Parts.{State}
 use Rattle.c_grammar.specs.Reading.{Reading, Rules, ◌>>=◌, begins, expect, enumerator_at, more_enumerators_at}

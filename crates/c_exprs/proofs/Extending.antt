@@ -22,9 +22,9 @@ use Rattle.std.proofs.Common.{
   Result,
 }
 use Rattle.std.proofs.lemmas.Bool.Decides.{nat_tests}
-use Rattle.c_tokens.specs.declared.token.Punctuator.{Punctuator}
-use Rattle.c_tokens.specs.declared.token.Punctuator.TheVariants as mark
-use Rattle.c_tree.specs.declared.expr.Expr.{Expr}
+use Rattle.c_language.specs.declared.token.Punctuator.{Punctuator}
+use Rattle.c_language.specs.declared.token.Punctuator.TheVariants as mark
+use Rattle.c_language.specs.declared.expr.Expr.{Expr}
 use Rattle.c_grammar.specs.Operators.{infix_of}
 use Rattle.c_grammar.specs.Grammar.{shape}
 use Rattle.c_grammar.specs.Parts.{State}

@@ -1,9 +1,9 @@
 -- Lists that a loop reads to its end.
 use Rattle.std.proofs.Common.{◌≡◌, ℕ, suc, List, [], ◌∷◌, ◌++◌, Some, None, Bool, true, false, refl, ap, ◌∙◌, ◌||◌}
-use Rattle.c_tokens.specs.declared.token.Punctuator.TheVariants as mark
-use Rattle.c_tree.specs.declared.expr.Specifier.{Specifier}
-use Rattle.c_tree.specs.declared.expr.Field.{Field}
-use Rattle.c_tree.specs.declared.expr.MemberDeclaration.{MemberDeclaration}
+use Rattle.c_language.specs.declared.token.Punctuator.TheVariants as mark
+use Rattle.c_language.specs.declared.expr.Specifier.{Specifier}
+use Rattle.c_language.specs.declared.expr.Field.{Field}
+use Rattle.c_language.specs.declared.expr.MemberDeclaration.{MemberDeclaration}
 use Rattle.c_grammar.specs.declared.type_words.TypeKind.{TypeKind}
 use Rattle.c_grammar.specs.Grammar.{specifier_of}
 use Rattle.c_grammar.specs.TypeWords.{is_type}

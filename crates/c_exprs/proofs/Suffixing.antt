@@ -18,7 +18,7 @@ use Rattle.std.proofs.Common.{
   cond,
 }
 use Rattle.std.proofs.lemmas.Bool.Decides.{nat_tests}
-use Rattle.c_tree.specs.declared.expr.Declarator.{Declarator}
+use Rattle.c_language.specs.declared.expr.Declarator.{Declarator}
 use Rattle.c_grammar.specs.declared.declarator_place.DeclaratorPlace.{DeclaratorPlace}
 use Rattle.c_grammar.specs.Grammar.{form}
 use Rattle.c_grammar.specs.Parts.{State}

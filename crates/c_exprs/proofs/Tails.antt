@@ -1,7 +1,7 @@
 -- Lists that a loop reads to an end that says more.
 use Rattle.std.proofs.Common.{◌≡◌, ℕ, suc, List, [], ◌∷◌, ◌++◌, Some, None, Bool, true, false, refl, sym, ap, ◌∙◌}
-use Rattle.c_tokens.specs.declared.token.Punctuator.TheVariants as mark
-use Rattle.c_tree.specs.declared.expr.Parameter.{Parameter}
+use Rattle.c_language.specs.declared.token.Punctuator.TheVariants as mark
+use Rattle.c_language.specs.declared.expr.Parameter.{Parameter}
 use Rattle.c_grammar.specs.Parts.{State}
 use Rattle.c_grammar.specs.Reading.{Reading, Rules, ◌>>=◌, begins, expect, parameter_at, more_parameters_at}
 use Rattle.c_reading.specs.declared.fault.ParseFault.{ParseFault}

@@ -3,7 +3,7 @@ use Rattle.std.specs.Prelude.{◌≤◌, ℕ, List, Result, IfOk}
 use Rattle.std.specs.declared.alloc.Global.{Global}
 use denote.Ref.{Bor, MutBor}
 use denote.Param.Members.{Shared}
-use Rattle.c_tokens.specs.declared.token.Token.{Token}
+use Rattle.c_language.specs.declared.token.Token.{Token}
 use Rattle.c_grammar.specs.declared.declarator_place.DeclaratorPlace.{DeclaratorPlace}
 use Rattle.c_grammar.specs.Parts.{Frame}
 use Rattle.c_grammar.specs.Reading.{rules}

@@ -1,8 +1,8 @@
 -- What a method of the parser promises of what it found.
 use Rattle.std.specs.Prelude.{ℕ, Result}
-use Rattle.c_tree.specs.declared.expr.Expr.{Expr}
-use Rattle.c_tree.specs.declared.expr.Specifier.{Specifier}
-use Rattle.c_tree.specs.declared.expr.Declarator.{Declarator}
+use Rattle.c_language.specs.declared.expr.Expr.{Expr}
+use Rattle.c_language.specs.declared.expr.Specifier.{Specifier}
+use Rattle.c_language.specs.declared.expr.Declarator.{Declarator}
 use Rattle.c_grammar.specs.Parts.{State}
 use Rattle.c_grammar.specs.Reading.{Reading}
 use Rattle.c_nodes.specs.declared.found.FoundExpr.{FoundExpr}

@@ -8,11 +8,10 @@ ghost use Rattle.c_exprs.specs.Reads.{ReadsSpecifier};
 
 use crate::below::Below;
 use c_grammar::DeclaratorPlace;
+use c_language::{AggregateKind, Punctuator, TagName, Token};
 use c_nodes::{FoundDeclarator, FoundExpr, FoundMembers, FoundSpecifier, pieces, specifier};
 use c_reading::{Cursor, ParseFault};
 use c_scope::FileNames;
-use c_tokens::{Punctuator, Token};
-use c_tree::{AggregateKind, TagName};
 use std::alloc::Global;
 
 impl<

@@ -11,11 +11,10 @@ ghost use Rattle.c_exprs.specs.Reads.{ReadsExpr};
 use crate::below::Below;
 use crate::discarding::discard_expr;
 use c_grammar::DeclaratorPlace;
+use c_language::{Expr, Punctuator, Token};
 use c_nodes::{FoundDeclarator, FoundExpr, FoundSpecifier, expr};
 use c_reading::{Cursor, ParseFault};
 use c_scope::FileNames;
-use c_tokens::{Punctuator, Token};
-use c_tree::Expr;
 use plain_data::{Items, Shared};
 use std::alloc::{AllocError, Global};
 

@@ -6,10 +6,10 @@ ghost use Rattle.c_exprs.specs.Below.{ReachesExpr, ReachesSpecifier, ReachesDecl
 ghost use Rattle.c_exprs.specs.Reads.{ReadsExpr, ReadsSpecifier, ReadsDeclarator};
 
 use c_grammar::DeclaratorPlace;
+use c_language::Token;
 use c_nodes::{FoundDeclarator, FoundExpr, FoundSpecifier};
 use c_reading::{Cursor, ParseFault, Source};
 use c_scope::FileNames;
-use c_tokens::Token;
 use std::alloc::Global;
 
 /// What reads the parts of a tree: each of the three functions is handed the allocator, the tokens, the names of the

@@ -10,12 +10,11 @@ ghost use Rattle.c_exprs.specs.Reads.{ReadsSpecifier};
 
 use crate::below::Below;
 use c_grammar::DeclaratorPlace;
+use c_language::{Enumerator, Punctuator, TagName, Token};
 use c_nodes::expr::most;
 use c_nodes::{FoundDeclarator, FoundEnumerator, FoundExpr, FoundSpecifier, specifier};
 use c_reading::{Cursor, ParseFault};
 use c_scope::FileNames;
-use c_tokens::{Punctuator, Token};
-use c_tree::{Enumerator, TagName};
 use plain_data::{Items, Shared};
 use std::alloc::{AllocError, Global};
 

@@ -6,12 +6,12 @@ ghost use Rattle.c_reading.specs.Reads.{ReadsLow};
 
 use crate::below::Below;
 use c_grammar::DeclaratorPlace;
+use c_language::{Punctuator, Token};
 use c_nodes::{
     FoundDeclarator, FoundEnumerator, FoundExpr, FoundOptional, FoundSpecifier, expr, pieces,
 };
 use c_reading::{Cursor, ParseFault};
 use c_scope::FileNames;
-use c_tokens::{Punctuator, Token};
 use std::alloc::Global;
 
 impl<

@@ -6,10 +6,10 @@ ghost use Rattle.c_exprs.specs.Reads.{ReadsExpr, ReadsSpecifier, ReadsDeclarator
 
 use crate::below::Below;
 use c_grammar::DeclaratorPlace;
+use c_language::Token;
 use c_nodes::{FoundDeclarator, FoundExpr, FoundSpecifier};
 use c_reading::{Cursor, ParseFault, Source};
 use c_scope::FileNames;
-use c_tokens::Token;
 use std::alloc::Global;
 
 /// An expression at a rank of the grammar, of at most this height (C99 6.5).

@@ -8,13 +8,13 @@ ghost use Rattle.c_reading.specs.Reads.{ReadsLow};
 
 use crate::below::Below;
 use c_grammar::DeclaratorPlace;
+use c_language::{Punctuator, Token};
 use c_nodes::{
     FoundDeclarator, FoundExpr, FoundField, FoundFieldName, FoundFields, FoundMember,
     FoundSpecifier, pieces,
 };
 use c_reading::{Cursor, ParseFault};
 use c_scope::FileNames;
-use c_tokens::{Punctuator, Token};
 use std::alloc::Global;
 
 impl<

@@ -8,11 +8,10 @@ ghost use Rattle.c_exprs.specs.Reads.{ReadsExpr};
 use crate::below::Below;
 use crate::discarding::discard_expr;
 use c_grammar::{DeclaratorPlace, infix_of};
+use c_language::{PostfixOperator, Punctuator, Token, TokenKind};
 use c_nodes::{FoundDeclarator, FoundExpr, FoundSpecifier, expr};
 use c_reading::{Cursor, ParseFault};
 use c_scope::FileNames;
-use c_tokens::{Punctuator, Token, TokenKind};
-use c_tree::PostfixOperator;
 use std::alloc::Global;
 
 impl<

@@ -10,12 +10,12 @@ ghost use Rattle.c_exprs.specs.Reads.{ReadsDeclarator};
 use crate::below::Below;
 use crate::discarding::discard_declarator;
 use c_grammar::DeclaratorPlace;
+use c_language::{Punctuator, Token};
 use c_nodes::{
     FoundDeclarator, FoundExpr, FoundParameter, FoundParameters, FoundSpecifier, declarator,
 };
 use c_reading::{Cursor, ParseFault};
 use c_scope::FileNames;
-use c_tokens::{Punctuator, Token};
 use std::alloc::Global;
 
 impl<

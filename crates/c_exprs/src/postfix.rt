@@ -10,11 +10,10 @@ ghost use Rattle.c_exprs.specs.Conditional.{arms_at, chosen_at};
 use crate::below::Below;
 use crate::discarding::discard_expr;
 use c_grammar::{DeclaratorPlace, Infix};
+use c_language::{BinaryOperator, Punctuator, Token};
 use c_nodes::{FoundDeclarator, FoundExpr, FoundSpecifier, expr};
 use c_reading::{Cursor, ParseFault, right_rank};
 use c_scope::FileNames;
-use c_tokens::{Punctuator, Token};
-use c_tree::BinaryOperator;
 use std::alloc::Global;
 
 impl<

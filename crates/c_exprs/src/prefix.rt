@@ -8,10 +8,10 @@ ghost use Rattle.c_exprs.specs.Reads.{ReadsExpr};
 
 use crate::below::Below;
 use c_grammar::DeclaratorPlace;
+use c_language::{Keyword, Punctuator, Token};
 use c_nodes::{FoundDeclarator, FoundExpr, FoundSpecifier, FoundType, expr};
 use c_reading::{Cursor, ParseFault};
 use c_scope::FileNames;
-use c_tokens::{Keyword, Punctuator, Token};
 use std::alloc::Global;
 
 impl<

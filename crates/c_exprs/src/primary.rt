@@ -7,13 +7,12 @@ ghost use Rattle.c_exprs.specs.Reads.{ReadsExpr};
 
 use crate::below::Below;
 use crate::discarding::discard_expr;
-use bit_words::Bytes;
 use c_grammar::{DeclaratorPlace, operand_rank};
+use c_language::{Name, Punctuator, Token, TokenKind};
 use c_nodes::{FoundDeclarator, FoundExpr, FoundSpecifier, expr};
 use c_reading::{Cursor, ParseFault};
 use c_scope::FileNames;
-use c_tokens::{Name, Punctuator, Token, TokenKind};
-use plain_data::Shared;
+use plain_data::{Bytes, Shared};
 use std::alloc::Global;
 
 impl<

@@ -7,10 +7,10 @@ ghost use Rattle.c_exprs.specs.Reads.{ReadsExpr};
 
 use crate::below::Below;
 use c_grammar::DeclaratorPlace;
+use c_language::{Keyword, Token};
 use c_nodes::{FoundDeclarator, FoundExpr, FoundSpecifier};
 use c_reading::{Cursor, ParseFault};
 use c_scope::FileNames;
-use c_tokens::{Keyword, Token};
 use std::alloc::Global;
 
 impl<

@@ -8,10 +8,10 @@ ghost use Rattle.c_exprs.specs.Reads.{ReadsSpecifier};
 
 use crate::below::Below;
 use c_grammar::{DeclaratorPlace, aggregate_of, class_of, qualifier_of, type_word_of};
+use c_language::{Keyword, Token, TokenKind};
 use c_nodes::{FoundDeclarator, FoundExpr, FoundSpecifier, specifier};
 use c_reading::{Cursor, ParseFault};
 use c_scope::FileNames;
-use c_tokens::{Keyword, Token, TokenKind};
 use std::alloc::Global;
 
 /// The declaration specifier that a keyword at an offset is by itself.

@@ -8,10 +8,10 @@ ghost use Rattle.c_reading.specs.Reads.{ReadsLow};
 
 use crate::below::Below;
 use c_grammar::{DeclaratorPlace, TypeKind};
+use c_language::Token;
 use c_nodes::{FoundDeclarator, FoundExpr, FoundSpecifier, FoundSpecifiers, FoundType, specifier};
 use c_reading::{Cursor, ParseFault};
 use c_scope::FileNames;
-use c_tokens::Token;
 use std::alloc::Global;
 
 /// Whether a type was read, after a specifier that says this of the type.

@@ -8,10 +8,10 @@ ghost use Rattle.c_exprs.specs.Reads.{ReadsDeclarator};
 use crate::below::Below;
 use crate::discarding::discard_declarator;
 use c_grammar::DeclaratorPlace;
+use c_language::{Name, Punctuator, Token, TokenKind};
 use c_nodes::{FoundDeclarator, FoundExpr, FoundSpecifier, declarator};
 use c_reading::{Cursor, ParseFault, may_omit};
 use c_scope::FileNames;
-use c_tokens::{Name, Punctuator, Token, TokenKind};
 use std::alloc::Global;
 
 impl<

@@ -27,26 +27,26 @@ use Rattle.std.proofs.Common.{
   inr,
 }
 use Rattle.std.specs.Prelude.{map, ◌||◌, not, ◌&&◌}
-use Rattle.c_tokens.specs.declared.token.Token.{Token}
-use Rattle.c_tokens.specs.declared.token.TokenKind.{TokenKind}
-use Rattle.c_tokens.specs.declared.token.TokenKind.TheVariants as kind
-use Rattle.c_tokens.specs.declared.token.Keyword.{Keyword}
-use Rattle.c_tokens.specs.declared.token.Keyword.TheVariants as keyword
-use Rattle.c_tokens.specs.declared.token.Punctuator.{Punctuator}
-use Rattle.c_tokens.specs.declared.token.Punctuator.TheVariants as mark
-use Rattle.c_tree.specs.declared.expr.UnaryOperator.{UnaryOperator}
-use Rattle.c_tree.specs.declared.expr.UnaryOperator.TheVariants as unary
-use Rattle.c_tree.specs.declared.expr.PostfixOperator.{PostfixOperator}
-use Rattle.c_tree.specs.declared.expr.PostfixOperator.TheVariants as postfix
-use Rattle.c_tree.specs.declared.expr.BinaryOperator.{BinaryOperator}
-use Rattle.c_tree.specs.declared.expr.BinaryOperator.TheVariants as binary
-use Rattle.c_tree.specs.declared.expr.StorageClass.{StorageClass}
-use Rattle.c_tree.specs.declared.expr.Qualifier.{Qualifier}
-use Rattle.c_tree.specs.declared.expr.TypeWord.{TypeWord}
-use Rattle.c_tree.specs.declared.expr.AggregateKind.{AggregateKind}
-use Rattle.c_tree.specs.declared.expr.Expr.{Expr}
-use Rattle.c_tree.specs.declared.expr.Specifier.{Specifier}
-use Rattle.c_tree.specs.declared.expr.Declarator.{Declarator}
+use Rattle.c_language.specs.declared.token.Token.{Token}
+use Rattle.c_language.specs.declared.token.TokenKind.{TokenKind}
+use Rattle.c_language.specs.declared.token.TokenKind.TheVariants as kind
+use Rattle.c_language.specs.declared.token.Keyword.{Keyword}
+use Rattle.c_language.specs.declared.token.Keyword.TheVariants as keyword
+use Rattle.c_language.specs.declared.token.Punctuator.{Punctuator}
+use Rattle.c_language.specs.declared.token.Punctuator.TheVariants as mark
+use Rattle.c_language.specs.declared.expr.UnaryOperator.{UnaryOperator}
+use Rattle.c_language.specs.declared.expr.UnaryOperator.TheVariants as unary
+use Rattle.c_language.specs.declared.expr.PostfixOperator.{PostfixOperator}
+use Rattle.c_language.specs.declared.expr.PostfixOperator.TheVariants as postfix
+use Rattle.c_language.specs.declared.expr.BinaryOperator.{BinaryOperator}
+use Rattle.c_language.specs.declared.expr.BinaryOperator.TheVariants as binary
+use Rattle.c_language.specs.declared.expr.StorageClass.{StorageClass}
+use Rattle.c_language.specs.declared.expr.Qualifier.{Qualifier}
+use Rattle.c_language.specs.declared.expr.TypeWord.{TypeWord}
+use Rattle.c_language.specs.declared.expr.AggregateKind.{AggregateKind}
+use Rattle.c_language.specs.declared.expr.Expr.{Expr}
+use Rattle.c_language.specs.declared.expr.Specifier.{Specifier}
+use Rattle.c_language.specs.declared.expr.Declarator.{Declarator}
 use Rattle.c_grammar.specs.declared.declarator_place.DeclaratorPlace.{DeclaratorPlace}
 use Rattle.c_grammar.specs.Parts.{
   Name,
@@ -96,7 +96,7 @@ use Rattle.c_grammar.specs.Grammar.{
 }
 use Rattle.c_grammar.specs.Reading.{a_mark, a_keyword, a_unary, begins_by, begins_keyword, typed_in}
 use Rattle.c_grammar.proofs.Spans.{split, no_more, one_less, mark_is}
-use Rattle.c_tree.proofs.Induction.{Steps, of_expr, of_specifier, of_declarator}
+use Rattle.c_language.proofs.Induction.{Steps, of_expr, of_specifier, of_declarator}
 use Rattle.c_grammar.proofs.Equations.{
   shape-Integer,
   shape-Floating,

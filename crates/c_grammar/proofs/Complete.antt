@@ -1,10 +1,10 @@
 -- What the grammar derives is read: expressions, declaration specifiers and declarators.
 use Rattle.std.proofs.Common.{◌≡◌, ◌≤◌, ◌<◌, ℕ, List, [], ◌∷◌, Some, Bool, true, false}
-use Rattle.c_tokens.specs.declared.token.Punctuator.TheVariants as mark
-use Rattle.c_tree.specs.declared.expr.Expr.{Expr}
-use Rattle.c_tree.specs.declared.expr.Specifier.{Specifier}
-use Rattle.c_tree.specs.declared.expr.Declarator.{Declarator}
-use Rattle.c_tree.specs.declared.expr.TypeName.{TypeName}
+use Rattle.c_language.specs.declared.token.Punctuator.TheVariants as mark
+use Rattle.c_language.specs.declared.expr.Expr.{Expr}
+use Rattle.c_language.specs.declared.expr.Specifier.{Specifier}
+use Rattle.c_language.specs.declared.expr.Declarator.{Declarator}
+use Rattle.c_language.specs.declared.expr.TypeName.{TypeName}
 use Rattle.c_grammar.specs.declared.declarator_place.DeclaratorPlace.{DeclaratorPlace}
 use Rattle.c_grammar.specs.Parts.{State, Spans, specifies_in}
 use Rattle.c_grammar.specs.Grammar.{
@@ -18,7 +18,7 @@ use Rattle.c_grammar.specs.Grammar.{
   type_name_of,
 }
 use Rattle.c_grammar.specs.Reading.{rules, begins, binds, specification_at, type_name_at}
-use Rattle.c_tree.proofs.Induction.{Each, Steps, of_expr, of_specifier, of_declarator, of_type_name}
+use Rattle.c_language.proofs.Induction.{Each, Steps, of_expr, of_specifier, of_declarator, of_type_name}
 use Rattle.c_grammar.proofs.Begins.{specifies}
 use Rattle.c_grammar.proofs.Reach.{ExprRead, read_from, inner}
 use Rattle.c_grammar.proofs.Read.{

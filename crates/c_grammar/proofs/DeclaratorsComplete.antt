@@ -28,21 +28,21 @@ use Rattle.std.proofs.Common.{
   inr,
 }
 use Rattle.std.specs.Prelude.{map, option_map, ◌||◌, ◌&&◌, not}
-use Rattle.c_tokens.specs.declared.token.Token.{Token}
-use Rattle.c_tokens.specs.declared.token.TokenKind.{TokenKind}
-use Rattle.c_tokens.specs.declared.token.TokenKind.TheVariants as kind
-use Rattle.c_tokens.specs.declared.token.Keyword.TheVariants as keyword
-use Rattle.c_tokens.specs.declared.token.Punctuator.TheVariants as mark
-use Rattle.c_tree.specs.declared.expr.Qualifier.{Qualifier}
-use Rattle.c_tree.specs.declared.expr.Qualifier.TheVariants as qualifier
-use Rattle.c_tree.specs.declared.expr.ArrayWord.{ArrayWord}
-use Rattle.c_tree.specs.declared.expr.ArrayWord.TheVariants as array_word
-use Rattle.c_tree.specs.declared.expr.Expr.{Expr}
-use Rattle.c_tree.specs.declared.expr.TypeName.{TypeName}
-use Rattle.c_tree.specs.declared.expr.Declarator.{Declarator}
-use Rattle.c_tree.specs.declared.expr.Declarator.TheVariants as declarator
-use Rattle.c_tree.specs.declared.expr.Parameter.{Parameter}
-use Rattle.c_tree.specs.declared.expr.Declarator.TheOpen as open_
+use Rattle.c_language.specs.declared.token.Token.{Token}
+use Rattle.c_language.specs.declared.token.TokenKind.{TokenKind}
+use Rattle.c_language.specs.declared.token.TokenKind.TheVariants as kind
+use Rattle.c_language.specs.declared.token.Keyword.TheVariants as keyword
+use Rattle.c_language.specs.declared.token.Punctuator.TheVariants as mark
+use Rattle.c_language.specs.declared.expr.Qualifier.{Qualifier}
+use Rattle.c_language.specs.declared.expr.Qualifier.TheVariants as qualifier
+use Rattle.c_language.specs.declared.expr.ArrayWord.{ArrayWord}
+use Rattle.c_language.specs.declared.expr.ArrayWord.TheVariants as array_word
+use Rattle.c_language.specs.declared.expr.Expr.{Expr}
+use Rattle.c_language.specs.declared.expr.TypeName.{TypeName}
+use Rattle.c_language.specs.declared.expr.Declarator.{Declarator}
+use Rattle.c_language.specs.declared.expr.Declarator.TheVariants as declarator
+use Rattle.c_language.specs.declared.expr.Parameter.{Parameter}
+use Rattle.c_language.specs.declared.expr.Declarator.TheOpen as open_
 use Rattle.c_grammar.specs.declared.declarator_place.DeclaratorPlace.{DeclaratorPlace}
 use Rattle.c_grammar.specs.declared.declarator_place.DeclaratorPlace.TheVariants as place
 use Rattle.c_grammar.specs.Parts.{
@@ -117,7 +117,7 @@ use Rattle.c_grammar.specs.Reading.{
   type_name_at,
 }
 use Rattle.c_grammar.proofs.Spans.{join, split, no_more, one_less}
-use Rattle.c_tree.proofs.Induction.{Each, Maybe}
+use Rattle.c_language.proofs.Induction.{Each, Maybe}
 use Rattle.c_grammar.proofs.Equations.{
   form-Name,
   form-Omitted,

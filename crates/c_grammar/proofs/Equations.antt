@@ -1,29 +1,29 @@
 -- What the grammar says of each kind of tree, in terms of the trees in it.
 use Rattle.std.proofs.Common.{◌≡◌, ℕ, ℤ, List, Option, Bool}
 use Rattle.std.specs.Prelude.{map, option_map}
-use Rattle.c_tokens.specs.declared.token.IntegerConstant.{IntegerConstant}
-use Rattle.c_tree.specs.declared.expr.UnaryOperator.{UnaryOperator}
-use Rattle.c_tree.specs.declared.expr.PostfixOperator.{PostfixOperator}
-use Rattle.c_tree.specs.declared.expr.BinaryOperator.{BinaryOperator}
-use Rattle.c_tree.specs.declared.expr.StorageClass.{StorageClass}
-use Rattle.c_tree.specs.declared.expr.Qualifier.{Qualifier}
-use Rattle.c_tree.specs.declared.expr.TypeWord.{TypeWord}
-use Rattle.c_tree.specs.declared.expr.AggregateKind.{AggregateKind}
-use Rattle.c_tree.specs.declared.expr.TagName.{TagName}
-use Rattle.c_tree.specs.declared.expr.ArrayWord.{ArrayWord}
-use Rattle.c_tree.specs.declared.expr.Expr.{Expr}
-use Rattle.c_tree.specs.declared.expr.Declarator.{Declarator}
-use Rattle.c_tree.specs.declared.expr.Enumerator.{Enumerator}
-use Rattle.c_tree.specs.declared.expr.MemberDeclaration.{MemberDeclaration}
-use Rattle.c_tree.specs.declared.expr.Parameter.{Parameter}
-use Rattle.c_tree.specs.declared.expr.TypeName.{TypeName}
-use Rattle.c_tree.specs.declared.expr.Expr.TheVariants as expr
-use Rattle.c_tree.specs.declared.expr.Declarator.TheVariants as declarator
-use Rattle.c_tree.specs.declared.expr.Specifier.TheVariants as specifier
-use Rattle.c_tree.specs.declared.expr.Field.TheVariants as field
-use Rattle.c_tree.specs.declared.expr.Declarator.TheOpen as open_
+use Rattle.c_language.specs.declared.token.IntegerConstant.{IntegerConstant}
+use Rattle.c_language.specs.declared.expr.UnaryOperator.{UnaryOperator}
+use Rattle.c_language.specs.declared.expr.PostfixOperator.{PostfixOperator}
+use Rattle.c_language.specs.declared.expr.BinaryOperator.{BinaryOperator}
+use Rattle.c_language.specs.declared.expr.StorageClass.{StorageClass}
+use Rattle.c_language.specs.declared.expr.Qualifier.{Qualifier}
+use Rattle.c_language.specs.declared.expr.TypeWord.{TypeWord}
+use Rattle.c_language.specs.declared.expr.AggregateKind.{AggregateKind}
+use Rattle.c_language.specs.declared.expr.TagName.{TagName}
+use Rattle.c_language.specs.declared.expr.ArrayWord.{ArrayWord}
+use Rattle.c_language.specs.declared.expr.Expr.{Expr}
+use Rattle.c_language.specs.declared.expr.Declarator.{Declarator}
+use Rattle.c_language.specs.declared.expr.Enumerator.{Enumerator}
+use Rattle.c_language.specs.declared.expr.MemberDeclaration.{MemberDeclaration}
+use Rattle.c_language.specs.declared.expr.Parameter.{Parameter}
+use Rattle.c_language.specs.declared.expr.TypeName.{TypeName}
+use Rattle.c_language.specs.declared.expr.Expr.TheVariants as expr
+use Rattle.c_language.specs.declared.expr.Declarator.TheVariants as declarator
+use Rattle.c_language.specs.declared.expr.Specifier.TheVariants as specifier
+use Rattle.c_language.specs.declared.expr.Field.TheVariants as field
+use Rattle.c_language.specs.declared.expr.Declarator.TheOpen as open_
 use Rattle.c_grammar.specs.Parts.{Name}
-use Rattle.c_tree.proofs.Folds.{
+use Rattle.c_language.proofs.Folds.{
   fold-Aggregate,
   fold-Array,
   fold-Arrow,

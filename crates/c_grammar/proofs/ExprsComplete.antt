@@ -26,21 +26,21 @@ use Rattle.std.proofs.Common.{
 }
 use Rattle.std.specs.Prelude.{map}
 use Rattle.std.proofs.lemmas.Option.{same_Some}
-use Rattle.c_tokens.specs.declared.token.IntegerConstant.{IntegerConstant}
-use Rattle.c_tokens.specs.declared.token.Token.{Token}
-use Rattle.c_tokens.specs.declared.token.TokenKind.{TokenKind}
-use Rattle.c_tokens.specs.declared.token.TokenKind.TheVariants as kind
-use Rattle.c_tokens.specs.declared.token.Punctuator.{Punctuator}
-use Rattle.c_tokens.specs.declared.token.Punctuator.TheVariants as mark
-use Rattle.c_tree.specs.declared.expr.UnaryOperator.{UnaryOperator}
-use Rattle.c_tree.specs.declared.expr.UnaryOperator.TheVariants as unary
-use Rattle.c_tree.specs.declared.expr.PostfixOperator.{PostfixOperator}
-use Rattle.c_tree.specs.declared.expr.PostfixOperator.TheVariants as postfix
-use Rattle.c_tree.specs.declared.expr.BinaryOperator.{BinaryOperator}
-use Rattle.c_tree.specs.declared.expr.BinaryOperator.TheVariants as binary
-use Rattle.c_tree.specs.declared.expr.Expr.{Expr}
-use Rattle.c_tree.specs.declared.expr.Expr.TheVariants as expr
-use Rattle.c_tree.specs.declared.expr.TypeName.{TypeName}
+use Rattle.c_language.specs.declared.token.IntegerConstant.{IntegerConstant}
+use Rattle.c_language.specs.declared.token.Token.{Token}
+use Rattle.c_language.specs.declared.token.TokenKind.{TokenKind}
+use Rattle.c_language.specs.declared.token.TokenKind.TheVariants as kind
+use Rattle.c_language.specs.declared.token.Punctuator.{Punctuator}
+use Rattle.c_language.specs.declared.token.Punctuator.TheVariants as mark
+use Rattle.c_language.specs.declared.expr.UnaryOperator.{UnaryOperator}
+use Rattle.c_language.specs.declared.expr.UnaryOperator.TheVariants as unary
+use Rattle.c_language.specs.declared.expr.PostfixOperator.{PostfixOperator}
+use Rattle.c_language.specs.declared.expr.PostfixOperator.TheVariants as postfix
+use Rattle.c_language.specs.declared.expr.BinaryOperator.{BinaryOperator}
+use Rattle.c_language.specs.declared.expr.BinaryOperator.TheVariants as binary
+use Rattle.c_language.specs.declared.expr.Expr.{Expr}
+use Rattle.c_language.specs.declared.expr.Expr.TheVariants as expr
+use Rattle.c_language.specs.declared.expr.TypeName.{TypeName}
 use Rattle.c_grammar.specs.Parts.{Name, Part, takes, holds, Scope, State, Takes, Spans}
 use Rattle.c_grammar.specs.Spelling.{unary_mark, operand_rank, postfix_mark, binary_mark, rank_of, assign_mark}
 use Rattle.c_grammar.specs.Operators.{unary_of, binding_of}
@@ -90,7 +90,7 @@ use Rattle.c_grammar.specs.Reading.{
   cast_at,
 }
 use Rattle.c_grammar.proofs.Spans.{split, no_more, one_less}
-use Rattle.c_tree.proofs.Induction.{Each}
+use Rattle.c_language.proofs.Induction.{Each}
 use Rattle.c_grammar.proofs.Equations.{
   shape-Integer,
   shape-Floating,

@@ -25,11 +25,11 @@ use Rattle.std.proofs.Common.{
 }
 use Rattle.std.specs.Prelude.{map, ◌||◌, not}
 use Rattle.std.proofs.lemmas.Option.{same_Some}
-use Rattle.c_tree.specs.declared.expr.Expr.{Expr}
-use Rattle.c_tree.specs.declared.expr.TypeName.{TypeName}
-use Rattle.c_tree.specs.declared.expr.Specifier.{Specifier}
-use Rattle.c_tree.specs.declared.expr.Declarator.{Declarator}
-use Rattle.c_tokens.specs.declared.token.Punctuator.TheVariants as mark
+use Rattle.c_language.specs.declared.expr.Expr.{Expr}
+use Rattle.c_language.specs.declared.expr.TypeName.{TypeName}
+use Rattle.c_language.specs.declared.expr.Specifier.{Specifier}
+use Rattle.c_language.specs.declared.expr.Declarator.{Declarator}
+use Rattle.c_language.specs.declared.token.Punctuator.TheVariants as mark
 use Rattle.c_grammar.specs.declared.declarator_place.DeclaratorPlace.{DeclaratorPlace}
 use Rattle.c_grammar.specs.declared.declarator_place.DeclaratorPlace.TheVariants as place
 use Rattle.c_grammar.specs.TypeWords.{are_allowed, is_type}

@@ -21,19 +21,19 @@ use Rattle.std.proofs.Common.{
   subst,
   arith,
 }
-use Rattle.c_tokens.specs.declared.token.Token.{Token}
-use Rattle.c_tokens.specs.declared.token.TokenKind.{TokenKind}
-use Rattle.c_tokens.specs.declared.token.TokenKind.TheVariants as kind
-use Rattle.c_tokens.specs.declared.token.Keyword.TheVariants as keyword
-use Rattle.c_tokens.specs.declared.token.Punctuator.TheVariants as mark
-use Rattle.c_tree.specs.declared.expr.Specifier.{Specifier}
-use Rattle.c_tree.specs.declared.expr.Declarator.{Declarator}
-use Rattle.c_tree.specs.declared.expr.Declarator.TheVariants as declarator
-use Rattle.c_tree.specs.declared.expr.TypeName.{TypeName}
-use Rattle.c_tree.specs.declared.expr.Parameter.{Parameter}
-use Rattle.c_tree.specs.declared.expr.Field.{Field}
-use Rattle.c_tree.specs.declared.expr.Enumerator.{Enumerator}
-use Rattle.c_tree.specs.declared.expr.MemberDeclaration.{MemberDeclaration}
+use Rattle.c_language.specs.declared.token.Token.{Token}
+use Rattle.c_language.specs.declared.token.TokenKind.{TokenKind}
+use Rattle.c_language.specs.declared.token.TokenKind.TheVariants as kind
+use Rattle.c_language.specs.declared.token.Keyword.TheVariants as keyword
+use Rattle.c_language.specs.declared.token.Punctuator.TheVariants as mark
+use Rattle.c_language.specs.declared.expr.Specifier.{Specifier}
+use Rattle.c_language.specs.declared.expr.Declarator.{Declarator}
+use Rattle.c_language.specs.declared.expr.Declarator.TheVariants as declarator
+use Rattle.c_language.specs.declared.expr.TypeName.{TypeName}
+use Rattle.c_language.specs.declared.expr.Parameter.{Parameter}
+use Rattle.c_language.specs.declared.expr.Field.{Field}
+use Rattle.c_language.specs.declared.expr.Enumerator.{Enumerator}
+use Rattle.c_language.specs.declared.expr.MemberDeclaration.{MemberDeclaration}
 use Rattle.c_grammar.specs.declared.declarator_place.DeclaratorPlace.{DeclaratorPlace}
 use Rattle.c_grammar.specs.Parts.{Part, takes, Scope, State, Spans, specifies_by, specifies_in}
 use Rattle.c_grammar.specs.Grammar.{

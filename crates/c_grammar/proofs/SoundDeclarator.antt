@@ -28,24 +28,24 @@ use Rattle.std.proofs.Common.{
 }
 use Rattle.std.specs.Prelude.{map, option_map, not, ◌&&◌, ◌||◌, nat_le}
 use Rattle.std.proofs.lemmas.Option.{same_Some}
-use Rattle.c_tokens.specs.declared.token.Token.{Token}
-use Rattle.c_tokens.specs.declared.token.TokenKind.{TokenKind}
-use Rattle.c_tokens.specs.declared.token.TokenKind.TheVariants as kind
-use Rattle.c_tokens.specs.declared.token.Keyword.{Keyword}
-use Rattle.c_tokens.specs.declared.token.Punctuator.TheVariants as mark
-use Rattle.c_tree.specs.declared.expr.Qualifier.{Qualifier}
-use Rattle.c_tree.specs.declared.expr.ArrayWord.{ArrayWord}
-use Rattle.c_tree.specs.declared.expr.Expr.{Expr}
-use Rattle.c_tree.specs.declared.expr.Parameter.{Parameter}
-use Rattle.c_tree.specs.declared.expr.Declarator.{Declarator, fold_out-Declarator}
-use Rattle.c_tree.specs.declared.expr.Declarator.TheVariants as declarator
-use Rattle.c_tree.specs.declared.expr.Declarator.TheOpen as open_
+use Rattle.c_language.specs.declared.token.Token.{Token}
+use Rattle.c_language.specs.declared.token.TokenKind.{TokenKind}
+use Rattle.c_language.specs.declared.token.TokenKind.TheVariants as kind
+use Rattle.c_language.specs.declared.token.Keyword.{Keyword}
+use Rattle.c_language.specs.declared.token.Punctuator.TheVariants as mark
+use Rattle.c_language.specs.declared.expr.Qualifier.{Qualifier}
+use Rattle.c_language.specs.declared.expr.ArrayWord.{ArrayWord}
+use Rattle.c_language.specs.declared.expr.Expr.{Expr}
+use Rattle.c_language.specs.declared.expr.Parameter.{Parameter}
+use Rattle.c_language.specs.declared.expr.Declarator.{Declarator, fold_out-Declarator}
+use Rattle.c_language.specs.declared.expr.Declarator.TheVariants as declarator
+use Rattle.c_language.specs.declared.expr.Declarator.TheOpen as open_
 use Rattle.c_grammar.specs.declared.declarator_place.DeclaratorPlace.{DeclaratorPlace}
 use Rattle.c_grammar.specs.declared.declarator_place.DeclaratorPlace.TheVariants as place
 use Rattle.c_grammar.specs.Spelling.{qualifier_keyword, array_word_keyword}
 use Rattle.c_grammar.specs.Operators.{array_word_of}
 use Rattle.c_grammar.specs.Parts.{Name, Part, holds, opens, entered, Scope, State, Takes, Spans, specifies_in}
-use Rattle.c_tree.specs.Folds.{DeclaratorLayer, fold_declarator}
+use Rattle.c_language.specs.Folds.{DeclaratorLayer, fold_declarator}
 use Rattle.c_grammar.specs.Grammar.{
   Form,
   Shape,

@@ -28,19 +28,19 @@ use Rattle.std.proofs.Common.{
 }
 use Rattle.std.specs.Prelude.{map, nat_eq, nat_le}
 use Rattle.std.proofs.lemmas.Option.{same_Some}
-use Rattle.c_tokens.specs.declared.token.Token.{Token}
-use Rattle.c_tokens.specs.declared.token.TokenKind.{TokenKind}
-use Rattle.c_tokens.specs.declared.token.TokenKind.TheVariants as kind
-use Rattle.c_tokens.specs.declared.token.Keyword.TheVariants as keyword
-use Rattle.c_tokens.specs.declared.token.Punctuator.{Punctuator}
-use Rattle.c_tokens.specs.declared.token.Punctuator.TheVariants as mark
-use Rattle.c_tree.specs.declared.expr.UnaryOperator.{UnaryOperator}
-use Rattle.c_tree.specs.declared.expr.UnaryOperator.TheVariants as unary
-use Rattle.c_tree.specs.declared.expr.PostfixOperator.{PostfixOperator}
-use Rattle.c_tree.specs.declared.expr.PostfixOperator.TheVariants as postfix
-use Rattle.c_tree.specs.declared.expr.BinaryOperator.{BinaryOperator}
-use Rattle.c_tree.specs.declared.expr.Expr.{Expr}
-use Rattle.c_tree.specs.declared.expr.Expr.TheVariants as expr
+use Rattle.c_language.specs.declared.token.Token.{Token}
+use Rattle.c_language.specs.declared.token.TokenKind.{TokenKind}
+use Rattle.c_language.specs.declared.token.TokenKind.TheVariants as kind
+use Rattle.c_language.specs.declared.token.Keyword.TheVariants as keyword
+use Rattle.c_language.specs.declared.token.Punctuator.{Punctuator}
+use Rattle.c_language.specs.declared.token.Punctuator.TheVariants as mark
+use Rattle.c_language.specs.declared.expr.UnaryOperator.{UnaryOperator}
+use Rattle.c_language.specs.declared.expr.UnaryOperator.TheVariants as unary
+use Rattle.c_language.specs.declared.expr.PostfixOperator.{PostfixOperator}
+use Rattle.c_language.specs.declared.expr.PostfixOperator.TheVariants as postfix
+use Rattle.c_language.specs.declared.expr.BinaryOperator.{BinaryOperator}
+use Rattle.c_language.specs.declared.expr.Expr.{Expr}
+use Rattle.c_language.specs.declared.expr.Expr.TheVariants as expr
 use Rattle.c_grammar.specs.declared.operators.Infix.{Infix}
 use Rattle.c_grammar.specs.declared.operators.Infix.TheVariants as between
 use Rattle.c_grammar.specs.Spelling.{unary_mark, operand_rank, postfix_mark, binary_mark, rank_of, assign_mark}

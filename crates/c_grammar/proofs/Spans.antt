@@ -31,13 +31,13 @@ use Rattle.std.proofs.Common.{
 use Rattle.std.specs.Prelude.{nat_eq, nat_le, ◌&&◌}
 use Rattle.std.proofs.lemmas.Option.{same_Some, cond_some}
 use denote.Enum.Bare.{same_true, sameb}
-use Rattle.c_tokens.specs.declared.token.Token.{Token}
-use Rattle.c_tokens.specs.declared.token.TokenKind.{TokenKind}
-use Rattle.c_tokens.specs.declared.token.TokenKind.TheVariants as kind
-use Rattle.c_tokens.specs.declared.token.Keyword.{Keyword}
-use Rattle.c_tokens.specs.declared.token.Punctuator.{Punctuator}
-use Rattle.c_tokens.specs.contracts.token.Keyword.{the_type as keyword_type}
-use Rattle.c_tokens.specs.contracts.token.Punctuator.{the_type as punctuator_type}
+use Rattle.c_language.specs.declared.token.Token.{Token}
+use Rattle.c_language.specs.declared.token.TokenKind.{TokenKind}
+use Rattle.c_language.specs.declared.token.TokenKind.TheVariants as kind
+use Rattle.c_language.specs.declared.token.Keyword.{Keyword}
+use Rattle.c_language.specs.declared.token.Punctuator.{Punctuator}
+use Rattle.c_language.specs.contracts.token.Keyword.{the_type as keyword_type}
+use Rattle.c_language.specs.contracts.token.Punctuator.{the_type as punctuator_type}
 use Rattle.c_grammar.specs.Parts.{
   Name,
   Part,

@@ -25,26 +25,26 @@ use Rattle.std.proofs.Common.{
   arith,
 }
 use Rattle.std.specs.Prelude.{map, option_map, ◌||◌}
-use Rattle.c_tokens.specs.declared.token.Token.{Token}
-use Rattle.c_tokens.specs.declared.token.TokenKind.TheVariants as kind
-use Rattle.c_tokens.specs.declared.token.Punctuator.TheVariants as mark
-use Rattle.c_tree.specs.declared.expr.StorageClass.{StorageClass}
-use Rattle.c_tree.specs.declared.expr.StorageClass.TheVariants as class
-use Rattle.c_tree.specs.declared.expr.Qualifier.{Qualifier}
-use Rattle.c_tree.specs.declared.expr.Qualifier.TheVariants as qualifier
-use Rattle.c_tree.specs.declared.expr.TypeWord.{TypeWord}
-use Rattle.c_tree.specs.declared.expr.TypeWord.TheVariants as word
-use Rattle.c_tree.specs.declared.expr.AggregateKind.{AggregateKind}
-use Rattle.c_tree.specs.declared.expr.AggregateKind.TheVariants as aggregate
-use Rattle.c_tree.specs.declared.expr.Expr.{Expr}
-use Rattle.c_tree.specs.declared.expr.Specifier.{Specifier}
-use Rattle.c_tree.specs.declared.expr.Specifier.TheVariants as specifier
-use Rattle.c_tree.specs.declared.expr.Declarator.{Declarator}
-use Rattle.c_tree.specs.declared.expr.Field.{Field}
-use Rattle.c_tree.specs.declared.expr.Field.TheVariants as field
-use Rattle.c_tree.specs.declared.expr.TagName.{TagName}
-use Rattle.c_tree.specs.declared.expr.Enumerator.{Enumerator}
-use Rattle.c_tree.specs.declared.expr.MemberDeclaration.{MemberDeclaration}
+use Rattle.c_language.specs.declared.token.Token.{Token}
+use Rattle.c_language.specs.declared.token.TokenKind.TheVariants as kind
+use Rattle.c_language.specs.declared.token.Punctuator.TheVariants as mark
+use Rattle.c_language.specs.declared.expr.StorageClass.{StorageClass}
+use Rattle.c_language.specs.declared.expr.StorageClass.TheVariants as class
+use Rattle.c_language.specs.declared.expr.Qualifier.{Qualifier}
+use Rattle.c_language.specs.declared.expr.Qualifier.TheVariants as qualifier
+use Rattle.c_language.specs.declared.expr.TypeWord.{TypeWord}
+use Rattle.c_language.specs.declared.expr.TypeWord.TheVariants as word
+use Rattle.c_language.specs.declared.expr.AggregateKind.{AggregateKind}
+use Rattle.c_language.specs.declared.expr.AggregateKind.TheVariants as aggregate
+use Rattle.c_language.specs.declared.expr.Expr.{Expr}
+use Rattle.c_language.specs.declared.expr.Specifier.{Specifier}
+use Rattle.c_language.specs.declared.expr.Specifier.TheVariants as specifier
+use Rattle.c_language.specs.declared.expr.Declarator.{Declarator}
+use Rattle.c_language.specs.declared.expr.Field.{Field}
+use Rattle.c_language.specs.declared.expr.Field.TheVariants as field
+use Rattle.c_language.specs.declared.expr.TagName.{TagName}
+use Rattle.c_language.specs.declared.expr.Enumerator.{Enumerator}
+use Rattle.c_language.specs.declared.expr.MemberDeclaration.{MemberDeclaration}
 use Rattle.c_grammar.specs.declared.declarator_place.DeclaratorPlace.TheVariants as place
 use Rattle.c_grammar.specs.declared.type_words.TypeKind.{TypeKind}
 use Rattle.c_grammar.specs.declared.type_words.TypeKind.TheVariants as type_kind
@@ -101,7 +101,7 @@ use Rattle.c_grammar.specs.Reading.{
   specifier_by,
 }
 use Rattle.c_grammar.proofs.Spans.{join, split, no_more, one_less}
-use Rattle.c_tree.proofs.Induction.{Each, Maybe}
+use Rattle.c_language.proofs.Induction.{Each, Maybe}
 use Rattle.c_grammar.proofs.Equations.{
   specifier-Storage,
   specifier-Qualifier,

@@ -1,7 +1,7 @@
 -- The tables of the grammar are those that C99 lists.
 use Rattle.std.proofs.Common.{◌≡◌, rules}
-use Rattle.c_tokens.specs.declared.token.Keyword.{Keyword}
-use Rattle.c_tree.specs.declared.expr.BinaryOperator.{BinaryOperator}
+use Rattle.c_language.specs.declared.token.Keyword.{Keyword}
+use Rattle.c_language.specs.declared.expr.BinaryOperator.{BinaryOperator}
 use Rattle.c_grammar.specs.Spelling.{rank_of}
 use Rattle.c_grammar.specs.Parts.{begins_type}
 use Rattle.c_grammar.specs.Tables.{binary_levels, level_from, specifier_words, is_word_of}

@@ -32,7 +32,7 @@ use Rattle.std.proofs.Common.{
 }
 use Rattle.std.proofs.Math.Bool.{or-true}
 use Rattle.std.proofs.lemmas.Bool.{or_cases}
-use Rattle.c_tree.specs.declared.expr.TypeWord.TheVariants as word
+use Rattle.c_language.specs.declared.expr.TypeWord.TheVariants as word
 use Rattle.c_grammar.specs.declared.type_words.TypeKind.{TypeKind}
 use Rattle.c_grammar.specs.declared.type_words.TypeKind.TheVariants as kind
 use Rattle.c_grammar.specs.declared.type_words.TypeWords.{TypeWords}

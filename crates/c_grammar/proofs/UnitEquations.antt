@@ -3,39 +3,39 @@
 use Rattle.std.proofs.Common.{◌≡◌, ℕ, List, [], ◌∷◌, Option, Some, None, Bool, sym, ap, ◌∙◌, subst}
 use Rattle.std.specs.Prelude.{map, option_map}
 use denote.Hole.Holds.{Such}
-use Rattle.c_tree.specs.declared.expr.Expr.{Expr}
-use Rattle.c_tree.specs.declared.unit.Initializer.{
+use Rattle.c_language.specs.declared.expr.Expr.{Expr}
+use Rattle.c_language.specs.declared.unit.Initializer.{
   Initializer,
   fold-roll-Initializer,
   ind-Initializer,
   roll-Initializer,
   map-Initializer,
 }
-use Rattle.c_tree.specs.declared.unit.InitializerItem.{
+use Rattle.c_language.specs.declared.unit.InitializerItem.{
   InitializerItem,
   fold-roll-InitializerItem,
   roll-InitializerItem,
 }
-use Rattle.c_tree.specs.declared.unit.Initializer.TheBlock.{
+use Rattle.c_language.specs.declared.unit.Initializer.TheBlock.{
   the_family as initial_family,
   member-Initializer,
   member-InitializerItem,
 }
-use Rattle.c_tree.specs.declared.unit.Initializer.TheFolds.{claims as initial_claims}
-use Rattle.c_tree.specs.declared.unit.Initializer.TheOpen as initial_open
-use Rattle.c_tree.specs.declared.unit.Initializer.TheVariants as initial
-use Rattle.c_tree.specs.declared.unit.Initializer.TheVariants.{
+use Rattle.c_language.specs.declared.unit.Initializer.TheFolds.{claims as initial_claims}
+use Rattle.c_language.specs.declared.unit.Initializer.TheOpen as initial_open
+use Rattle.c_language.specs.declared.unit.Initializer.TheVariants as initial
+use Rattle.c_language.specs.declared.unit.Initializer.TheVariants.{
   rolls-Value as rolls-Initializer-Value,
   rolls-List as rolls-Initializer-List,
 }
-use Rattle.c_tree.specs.declared.unit.Declaration.{Declaration}
-use Rattle.c_tree.specs.declared.unit.ForStart.{ForStart}
-use Rattle.c_tree.specs.declared.unit.Stmt.{Stmt, fold-roll-Stmt, ind-Stmt, roll-Stmt, map-Stmt}
-use Rattle.c_tree.specs.declared.unit.Stmt.TheBlock.{the_family, member-Stmt}
-use Rattle.c_tree.specs.declared.unit.Stmt.TheFolds.{claims}
-use Rattle.c_tree.specs.declared.unit.Stmt.TheOpen as open_
-use Rattle.c_tree.specs.declared.unit.Stmt.TheVariants as stmt
-use Rattle.c_tree.specs.declared.unit.Stmt.TheVariants.{
+use Rattle.c_language.specs.declared.unit.Declaration.{Declaration}
+use Rattle.c_language.specs.declared.unit.ForStart.{ForStart}
+use Rattle.c_language.specs.declared.unit.Stmt.{Stmt, fold-roll-Stmt, ind-Stmt, roll-Stmt, map-Stmt}
+use Rattle.c_language.specs.declared.unit.Stmt.TheBlock.{the_family, member-Stmt}
+use Rattle.c_language.specs.declared.unit.Stmt.TheFolds.{claims}
+use Rattle.c_language.specs.declared.unit.Stmt.TheOpen as open_
+use Rattle.c_language.specs.declared.unit.Stmt.TheVariants as stmt
+use Rattle.c_language.specs.declared.unit.Stmt.TheVariants.{
   rolls-Block,
   rolls-Declared,
   rolls-Value,

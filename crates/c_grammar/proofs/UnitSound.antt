@@ -1,11 +1,11 @@
 -- What is read of a unit, and of its parts, is what the grammar derives.
 use Rattle.std.proofs.Common.{◌≡◌, ℕ, List, Some}
-use Rattle.c_tokens.specs.declared.token.Token.{Token}
-use Rattle.c_tree.specs.declared.unit.Initializer.{Initializer}
-use Rattle.c_tree.specs.declared.unit.Declaration.{Declaration}
-use Rattle.c_tree.specs.declared.unit.Stmt.{Stmt}
-use Rattle.c_tree.specs.declared.unit.Body.{Body}
-use Rattle.c_tree.specs.declared.unit.External.{External}
+use Rattle.c_language.specs.declared.token.Token.{Token}
+use Rattle.c_language.specs.declared.unit.Initializer.{Initializer}
+use Rattle.c_language.specs.declared.unit.Declaration.{Declaration}
+use Rattle.c_language.specs.declared.unit.Stmt.{Stmt}
+use Rattle.c_language.specs.declared.unit.Body.{Body}
+use Rattle.c_language.specs.declared.unit.External.{External}
 use Rattle.c_grammar.specs.Parts.{State}
 use Rattle.c_grammar.specs.Reading.{rules}
 use Rattle.c_grammar.specs.Units.{initializer_of, declaration_of, DerivesStmt, DerivesBody, DerivesExternal, derives}

@@ -19,27 +19,27 @@ use Rattle.std.specs.Prelude.{
   None,
   map,
 }
-use Rattle.c_tokens.specs.declared.token.Token.{Token}
-use Rattle.c_tokens.specs.declared.token.TokenKind.{TokenKind}
-use Rattle.c_tokens.specs.declared.token.TokenKind.TheVariants as kind
-use Rattle.c_tokens.specs.declared.token.Keyword.{Keyword}
-use Rattle.c_tokens.specs.declared.token.Keyword.TheVariants as keyword
-use Rattle.c_tokens.specs.declared.token.Punctuator.{Punctuator}
-use Rattle.c_tokens.specs.declared.token.Punctuator.TheVariants as mark
-use Rattle.c_tree.specs.declared.expr.BinaryOperator.{BinaryOperator}
-use Rattle.c_tree.specs.declared.expr.Qualifier.{Qualifier}
-use Rattle.c_tree.specs.declared.expr.ArrayWord.{ArrayWord}
-use Rattle.c_tree.specs.declared.expr.Expr.{Expr}
-use Rattle.c_tree.specs.declared.expr.TypeName.{TypeName}
-use Rattle.c_tree.specs.declared.expr.Specifier.{Specifier}
-use Rattle.c_tree.specs.declared.expr.MemberDeclaration.{MemberDeclaration}
-use Rattle.c_tree.specs.declared.expr.Field.{Field}
-use Rattle.c_tree.specs.declared.expr.Enumerator.{Enumerator}
-use Rattle.c_tree.specs.declared.expr.Declarator.{Declarator}
-use Rattle.c_tree.specs.declared.expr.Parameter.{Parameter}
-use Rattle.c_tree.specs.declared.expr.Declarator.TheOpen as open_
-use Rattle.c_tree.specs.declared.expr.TagName.{TagName}
-use Rattle.c_tree.specs.Folds.{
+use Rattle.c_language.specs.declared.token.Token.{Token}
+use Rattle.c_language.specs.declared.token.TokenKind.{TokenKind}
+use Rattle.c_language.specs.declared.token.TokenKind.TheVariants as kind
+use Rattle.c_language.specs.declared.token.Keyword.{Keyword}
+use Rattle.c_language.specs.declared.token.Keyword.TheVariants as keyword
+use Rattle.c_language.specs.declared.token.Punctuator.{Punctuator}
+use Rattle.c_language.specs.declared.token.Punctuator.TheVariants as mark
+use Rattle.c_language.specs.declared.expr.BinaryOperator.{BinaryOperator}
+use Rattle.c_language.specs.declared.expr.Qualifier.{Qualifier}
+use Rattle.c_language.specs.declared.expr.ArrayWord.{ArrayWord}
+use Rattle.c_language.specs.declared.expr.Expr.{Expr}
+use Rattle.c_language.specs.declared.expr.TypeName.{TypeName}
+use Rattle.c_language.specs.declared.expr.Specifier.{Specifier}
+use Rattle.c_language.specs.declared.expr.MemberDeclaration.{MemberDeclaration}
+use Rattle.c_language.specs.declared.expr.Field.{Field}
+use Rattle.c_language.specs.declared.expr.Enumerator.{Enumerator}
+use Rattle.c_language.specs.declared.expr.Declarator.{Declarator}
+use Rattle.c_language.specs.declared.expr.Parameter.{Parameter}
+use Rattle.c_language.specs.declared.expr.Declarator.TheOpen as open_
+use Rattle.c_language.specs.declared.expr.TagName.{TagName}
+use Rattle.c_language.specs.Folds.{
   Carrier,
   Algebra,
   DeclaratorLayer,

@@ -1,26 +1,26 @@
 -- Which operator or word a token is: the spelling, read backwards.
 use Rattle.std.specs.Prelude.{ℕ, Option, Some, None, cond}
 use denote.Enum.Bare.{sameb}
-use Rattle.c_tokens.specs.contracts.token.Keyword.{the_type as keyword_type}
-use Rattle.c_tokens.specs.declared.token.Keyword.{Keyword}
-use Rattle.c_tokens.specs.declared.token.Keyword.TheVariants as keyword
-use Rattle.c_tokens.specs.declared.token.Punctuator.{Punctuator}
-use Rattle.c_tokens.specs.declared.token.Punctuator.TheVariants as mark
-use Rattle.c_tree.specs.declared.expr.UnaryOperator.{UnaryOperator}
-use Rattle.c_tree.specs.declared.expr.UnaryOperator.TheVariants as unary
-use Rattle.c_tree.specs.declared.expr.BinaryOperator.TheVariants as binary
-use Rattle.c_tree.specs.declared.expr.StorageClass.{StorageClass}
-use Rattle.c_tree.specs.declared.expr.StorageClass.TheVariants as class
-use Rattle.c_tree.specs.declared.expr.Qualifier.{Qualifier}
-use Rattle.c_tree.specs.declared.expr.Qualifier.TheVariants as qualifier
-use Rattle.c_tree.specs.declared.expr.TypeWord.{TypeWord}
-use Rattle.c_tree.specs.declared.expr.TypeWord.TheVariants as word
-use Rattle.c_tree.specs.declared.expr.AggregateKind.{AggregateKind}
-use Rattle.c_tree.specs.declared.expr.AggregateKind.TheVariants as aggregate
-use Rattle.c_tree.specs.declared.expr.ArrayWord.{ArrayWord}
-use Rattle.c_tree.specs.declared.expr.ArrayWord.TheVariants as array_word
-use Rattle.c_tree.specs.declared.expr.Specifier.{Specifier}
-use Rattle.c_tree.specs.declared.expr.Specifier.TheVariants as specifier
+use Rattle.c_language.specs.contracts.token.Keyword.{the_type as keyword_type}
+use Rattle.c_language.specs.declared.token.Keyword.{Keyword}
+use Rattle.c_language.specs.declared.token.Keyword.TheVariants as keyword
+use Rattle.c_language.specs.declared.token.Punctuator.{Punctuator}
+use Rattle.c_language.specs.declared.token.Punctuator.TheVariants as mark
+use Rattle.c_language.specs.declared.expr.UnaryOperator.{UnaryOperator}
+use Rattle.c_language.specs.declared.expr.UnaryOperator.TheVariants as unary
+use Rattle.c_language.specs.declared.expr.BinaryOperator.TheVariants as binary
+use Rattle.c_language.specs.declared.expr.StorageClass.{StorageClass}
+use Rattle.c_language.specs.declared.expr.StorageClass.TheVariants as class
+use Rattle.c_language.specs.declared.expr.Qualifier.{Qualifier}
+use Rattle.c_language.specs.declared.expr.Qualifier.TheVariants as qualifier
+use Rattle.c_language.specs.declared.expr.TypeWord.{TypeWord}
+use Rattle.c_language.specs.declared.expr.TypeWord.TheVariants as word
+use Rattle.c_language.specs.declared.expr.AggregateKind.{AggregateKind}
+use Rattle.c_language.specs.declared.expr.AggregateKind.TheVariants as aggregate
+use Rattle.c_language.specs.declared.expr.ArrayWord.{ArrayWord}
+use Rattle.c_language.specs.declared.expr.ArrayWord.TheVariants as array_word
+use Rattle.c_language.specs.declared.expr.Specifier.{Specifier}
+use Rattle.c_language.specs.declared.expr.Specifier.TheVariants as specifier
 use Rattle.c_grammar.specs.declared.operators.Infix.{Infix}
 use Rattle.c_grammar.specs.declared.operators.Infix.TheVariants as between
 use Rattle.c_grammar.specs.Spelling.{rank_of}

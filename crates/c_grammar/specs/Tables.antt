@@ -1,12 +1,12 @@
 -- The grammar's tables, as C99 lists them: the binary operators by rank, and the words of declaration specifiers.
 use Rattle.std.specs.Prelude.{ℕ, suc, List, [], ◌∷◌, ◌++◌, Bool, true, false, ◌||◌}
 use denote.Enum.Bare.{sameb}
-use Rattle.c_tokens.specs.declared.token.Keyword.{Keyword}
-use Rattle.c_tokens.specs.declared.token.Keyword.TheVariants as keyword
-use Rattle.c_tokens.specs.contracts.token.Keyword.{the_type as keyword_type}
-use Rattle.c_tree.specs.declared.expr.BinaryOperator.{BinaryOperator}
-use Rattle.c_tree.specs.declared.expr.BinaryOperator.TheVariants as binary
-use Rattle.c_tree.specs.contracts.expr.BinaryOperator.{the_type as binary_type}
+use Rattle.c_language.specs.declared.token.Keyword.{Keyword}
+use Rattle.c_language.specs.declared.token.Keyword.TheVariants as keyword
+use Rattle.c_language.specs.contracts.token.Keyword.{the_type as keyword_type}
+use Rattle.c_language.specs.declared.expr.BinaryOperator.{BinaryOperator}
+use Rattle.c_language.specs.declared.expr.BinaryOperator.TheVariants as binary
+use Rattle.c_language.specs.contracts.expr.BinaryOperator.{the_type as binary_type}
 
 -- ---- operators
 

@@ -1,9 +1,9 @@
 -- The type specifiers that may stand together, each type by its own (C99 6.7.2).
 use Rattle.std.specs.Prelude.{List, [], ◌∷◌, ◌++◌, Bool, true, false, ◌||◌, cond, Option, Some, None, option_map, map}
 use denote.Enum.Bare.{sameb}
-use Rattle.c_tree.specs.declared.expr.TypeWord.{TypeWord}
-use Rattle.c_tree.specs.declared.expr.TypeWord.TheVariants as word
-use Rattle.c_tree.specs.contracts.expr.TypeWord.{the_type as word_type}
+use Rattle.c_language.specs.declared.expr.TypeWord.{TypeWord}
+use Rattle.c_language.specs.declared.expr.TypeWord.TheVariants as word
+use Rattle.c_language.specs.contracts.expr.TypeWord.{the_type as word_type}
 use Rattle.c_grammar.specs.declared.type_words.TypeKind.{TypeKind}
 use Rattle.c_grammar.specs.declared.type_words.TypeKind.TheVariants as kind
 

@@ -3,10 +3,9 @@ ghost use Rattle.std.specs.Prelude.{◌≡◌, ◌≤◌, ◌<◌};
 ghost use Rattle.c_grammar.specs.Operators as spec;
 ghost use Rattle.c_grammar.specs.Spelling.{rank_of as rank_spec, operand_rank as operand_rank_spec};
 
-use c_tokens::{Keyword, Punctuator};
-use c_tree::{
-    AggregateKind, ArrayWord, BinaryOperator, Qualifier, Specifier, StorageClass, TypeWord,
-    UnaryOperator,
+use c_language::{
+    AggregateKind, ArrayWord, BinaryOperator, Keyword, Punctuator, Qualifier, Specifier,
+    StorageClass, TypeWord, UnaryOperator,
 };
 
 /// An operator between two operands.

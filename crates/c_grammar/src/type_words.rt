@@ -2,7 +2,7 @@
 ghost use Rattle.std.specs.Prelude.{◌≡◌};
 ghost use Rattle.c_grammar.specs.TypeWords as spec;
 
-use c_tree::TypeWord;
+use c_language::TypeWord;
 
 /// What a declaration specifier says of the type.
 #[derive(Clone, Copy, Debug, PartialEq, Eq)]

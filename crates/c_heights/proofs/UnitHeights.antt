@@ -1,14 +1,14 @@
 -- The height of each kind of initializer, declaration and statement, in terms of the heights of what stands in it.
 use Rattle.std.proofs.Common.{◌≡◌, ℕ, suc, List, Option, Bool, ap, ◌∙◌, refl}
 use Rattle.std.specs.Prelude.{map, max, option_map}
-use Rattle.c_tree.specs.declared.expr.Expr.{Expr}
-use Rattle.c_tree.specs.declared.unit.Initializer.{Initializer}
-use Rattle.c_tree.specs.declared.unit.Initializer.TheVariants as initial
-use Rattle.c_tree.specs.declared.unit.InitializerItem.{InitializerItem}
-use Rattle.c_tree.specs.declared.unit.Declaration.{Declaration}
-use Rattle.c_tree.specs.declared.unit.ForStart.{ForStart}
-use Rattle.c_tree.specs.declared.unit.Stmt.{Stmt}
-use Rattle.c_tree.specs.declared.unit.Stmt.TheVariants as stmt
+use Rattle.c_language.specs.declared.expr.Expr.{Expr}
+use Rattle.c_language.specs.declared.unit.Initializer.{Initializer}
+use Rattle.c_language.specs.declared.unit.Initializer.TheVariants as initial
+use Rattle.c_language.specs.declared.unit.InitializerItem.{InitializerItem}
+use Rattle.c_language.specs.declared.unit.Declaration.{Declaration}
+use Rattle.c_language.specs.declared.unit.ForStart.{ForStart}
+use Rattle.c_language.specs.declared.unit.Stmt.{Stmt}
+use Rattle.c_language.specs.declared.unit.Stmt.TheVariants as stmt
 use Rattle.c_grammar.specs.Grammar.{shape, highest, highest_specifier, specifier_of}
 use Rattle.c_grammar.specs.Units.{
   designator_piece,

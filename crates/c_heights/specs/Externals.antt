@@ -1,9 +1,9 @@
 -- The height of external declarations: that of what stands in them, without unread bodies.
 use Rattle.std.specs.Prelude.{ℕ, max, List, [], ◌∷◌}
-use Rattle.c_tree.specs.declared.unit.Body.{Body}
-use Rattle.c_tree.specs.declared.unit.Body.TheVariants as body
-use Rattle.c_tree.specs.declared.unit.External.{External}
-use Rattle.c_tree.specs.declared.unit.External.TheVariants as external
+use Rattle.c_language.specs.declared.unit.Body.{Body}
+use Rattle.c_language.specs.declared.unit.Body.TheVariants as body
+use Rattle.c_language.specs.declared.unit.External.{External}
+use Rattle.c_language.specs.declared.unit.External.TheVariants as external
 use Rattle.c_grammar.specs.Grammar.{form, all_specified, highest_specifier}
 use Rattle.c_grammar.specs.Units.{declaration_of, stmt_shape}
 

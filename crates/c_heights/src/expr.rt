@@ -4,7 +4,7 @@ ghost use Rattle.c_grammar.specs.Grammar.{shape, form, highest_shape};
 ghost use Rattle.c_grammar.specs.Grammar as grammar;
 ghost use Rattle.c_heights.specs.Capped.{capped};
 
-use c_tree::{
+use c_language::{
     Declarator, Enumerator, Expr, Field, MemberDeclaration, Parameter, Specifier, TypeName,
 };
 use plain_data::Shared;

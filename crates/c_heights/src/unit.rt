@@ -6,7 +6,7 @@ ghost use Rattle.c_heights.specs.Capped.{capped};
 ghost use Rattle.c_heights.specs.Externals as spec;
 
 use crate::expr::{above, declarator_height, expr_height, highest_specifier};
-use c_tree::{
+use c_language::{
     Body, Declaration, Designator, Expr, External, ForStart, InitDeclarator, Initializer,
     InitializerItem, Stmt,
 };

@@ -23,9 +23,9 @@ use Rattle.std.proofs.Common.{
   sym,
   ◌∙◌,
 }
-use Rattle.c_type_terms.specs.declared.tables.Tables.{Tables}
-use Rattle.c_says.specs.Typing.{Typed}
-use Rattle.c_says.specs.Initials.{
+use Rattle.c_language.specs.declared.tables.Tables.{Tables}
+use Rattle.c_language.specs.Typing.{Typed}
+use Rattle.c_language.specs.Initials.{
   Part,
   Frame,
   Found,

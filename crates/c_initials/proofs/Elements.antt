@@ -1,12 +1,12 @@
 -- Which elements of an array a designator may name.
 use Rattle.std.proofs.Common.{◌≡◌, ℕ, zero, suc, ℤ, pos, negsuc, List, [], ◌∷◌, Option, Some, None, refl, ap}
-use Rattle.c_type_terms.specs.declared.ctype.Base.{Base}
-use Rattle.c_type_terms.specs.declared.ctype.Base.TheVariants as base
-use Rattle.c_type_terms.specs.declared.ctype.CType.{CType}
-use Rattle.c_type_terms.specs.declared.ctype.Derivation.{Derivation}
-use Rattle.c_type_terms.specs.declared.ctype.Derivation.TheVariants as d
-use Rattle.c_type_terms.specs.declared.tables.Tables.{Tables}
-use Rattle.c_says.specs.Initials.{Frame, Filling, element_number, at_number, to_constant}
+use Rattle.c_language.specs.declared.ctype.Base.{Base}
+use Rattle.c_language.specs.declared.ctype.Base.TheVariants as base
+use Rattle.c_language.specs.declared.ctype.CType.{CType}
+use Rattle.c_language.specs.declared.ctype.Derivation.{Derivation}
+use Rattle.c_language.specs.declared.ctype.Derivation.TheVariants as d
+use Rattle.c_language.specs.declared.tables.Tables.{Tables}
+use Rattle.c_language.specs.Initials.{Frame, Filling, element_number, at_number, to_constant}
 use Rattle.c_initials.specs.Filled.{below, element_in, value_next}
 
 of_array : (tables : Tables) (t : CType) (length : Option ℕ) (ds : List Derivation) (z : ℤ)

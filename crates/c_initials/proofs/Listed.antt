@@ -1,15 +1,15 @@
 -- What initializers say, in terms of what stands in them.
 use Rattle.std.proofs.Common.{◌≡◌, ℕ, List, [], ◌∷◌, Bool, map, cond, Option, Some, None, refl, ap, sym, ◌∙◌}
-use Rattle.c_tree.specs.declared.expr.Expr.{Expr}
-use Rattle.c_tree.specs.declared.unit.Initializer.{Initializer, fold-roll-Initializer}
-use Rattle.c_tree.specs.declared.unit.Initializer.TheOpen as initial_open
-use Rattle.c_tree.specs.declared.unit.Initializer.TheVariants as initial
-use Rattle.c_tree.specs.declared.unit.Initializer.TheVariants.{rolls-Value as rolls-Initializer-Value}
-use Rattle.c_tree.specs.declared.unit.Initializer.TheVariants.{rolls-List as rolls-Initializer-List}
-use Rattle.c_tree.specs.declared.unit.InitializerItem.{InitializerItem, fold-roll-InitializerItem}
-use Rattle.c_type_terms.specs.declared.ctype.CType.{CType}
-use Rattle.c_says.specs.Scopes.{Scope}
-use Rattle.c_says.specs.Initials.{
+use Rattle.c_language.specs.declared.expr.Expr.{Expr}
+use Rattle.c_language.specs.declared.unit.Initializer.{Initializer, fold-roll-Initializer}
+use Rattle.c_language.specs.declared.unit.Initializer.TheOpen as initial_open
+use Rattle.c_language.specs.declared.unit.Initializer.TheVariants as initial
+use Rattle.c_language.specs.declared.unit.Initializer.TheVariants.{rolls-Value as rolls-Initializer-Value}
+use Rattle.c_language.specs.declared.unit.Initializer.TheVariants.{rolls-List as rolls-Initializer-List}
+use Rattle.c_language.specs.declared.unit.InitializerItem.{InitializerItem, fold-roll-InitializerItem}
+use Rattle.c_language.specs.declared.ctype.CType.{CType}
+use Rattle.c_language.specs.Scopes.{Scope}
+use Rattle.c_language.specs.Initials.{
   Fills,
   Filling,
   Frame,
@@ -30,9 +30,9 @@ use Rattle.c_says.specs.Initials.{
   filling_of,
   started,
 }
-use Rattle.c_says.specs.Typing.{Typed}
-use Rattle.c_says.specs.Trees.{typed}
-use Rattle.c_says.specs.Units.{initial_says, initial_by, initial_step, item_step, designated}
+use Rattle.c_language.specs.Typing.{Typed}
+use Rattle.c_language.specs.Trees.{typed}
+use Rattle.c_language.specs.Units.{initial_says, initial_by, initial_step, item_step, designated}
 use Rattle.c_initials.specs.Filled.{Filled, filling_in, no_filling}
 use Rattle.c_initials.specs.Said.{item_fills, goes_on, opened, closed}
 

@@ -32,14 +32,14 @@ use Rattle.std.proofs.Common.{
 use Rattle.std.proofs.lemmas.Bool.{cond-true, cond-false}
 use Rattle.std.proofs.Math.Seq.{take-suc, drop-cons}
 use Rattle.std.specs.Prelude.{slice_get}
-use Rattle.c_type_terms.specs.declared.tables.Aggregate.{Aggregate}
-use Rattle.c_type_terms.specs.declared.tables.AggregateForm.{AggregateForm}
-use Rattle.c_type_terms.specs.declared.tables.AggregateForm.TheVariants as form_
-use Rattle.c_type_terms.specs.declared.tables.Member.{Member}
-use Rattle.c_type_terms.specs.declared.tables.Tables.{Tables}
-use Rattle.c_type_terms.specs.Layouts.{is_sized, is_opaque}
-use Rattle.c_says.specs.Declares.{form_at}
-use Rattle.c_says.specs.Initials.{sized_members}
+use Rattle.c_language.specs.declared.tables.Aggregate.{Aggregate}
+use Rattle.c_language.specs.declared.tables.AggregateForm.{AggregateForm}
+use Rattle.c_language.specs.declared.tables.AggregateForm.TheVariants as form_
+use Rattle.c_language.specs.declared.tables.Member.{Member}
+use Rattle.c_language.specs.declared.tables.Tables.{Tables}
+use Rattle.c_language.specs.Layouts.{is_sized, is_opaque}
+use Rattle.c_language.specs.Declares.{form_at}
+use Rattle.c_language.specs.Initials.{sized_members}
 
 abbrev form_or : Option Aggregate → AggregateForm
 form_or None = form_.Structure

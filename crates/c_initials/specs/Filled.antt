@@ -21,13 +21,13 @@ use Rattle.std.specs.Prelude.{
   Ok,
   Err,
 }
-use Rattle.c_type_terms.specs.declared.ctype.Derivation.{Derivation}
-use Rattle.c_type_terms.specs.declared.ctype.Derivation.TheVariants as d
-use Rattle.c_type_terms.specs.declared.tables.Tables.{Tables}
-use Rattle.c_says.specs.declared.scope.Fault.{Fault}
-use Rattle.c_says.specs.Scopes.{Scope}
-use Rattle.c_says.specs.Typing.{Typed}
-use Rattle.c_says.specs.Initials.{
+use Rattle.c_language.specs.declared.ctype.Derivation.{Derivation}
+use Rattle.c_language.specs.declared.ctype.Derivation.TheVariants as d
+use Rattle.c_language.specs.declared.tables.Tables.{Tables}
+use Rattle.c_language.specs.declared.scope.Fault.{Fault}
+use Rattle.c_language.specs.Scopes.{Scope}
+use Rattle.c_language.specs.Typing.{Typed}
+use Rattle.c_language.specs.Initials.{
   Part,
   Frame,
   Filling,

@@ -1,12 +1,12 @@
 -- What the items of a list in braces say (C99 6.7.8), and a list within a list.
 use Rattle.std.specs.Prelude.{ℕ, List, [], ◌∷◌, ◌++◌, Option, Some, None}
-use Rattle.c_tree.specs.declared.unit.InitializerItem.{InitializerItem, fold-InitializerItem}
-use Rattle.c_type_terms.specs.declared.tables.Tables.{Tables}
-use Rattle.c_says.specs.declared.scope.Rule.TheVariants as rule
-use Rattle.c_says.specs.Typing.{fault_at}
-use Rattle.c_says.specs.Initials.{Frame, Fills, Filling, InitialSaid, part_at, started, stepped, high_of}
-use Rattle.c_says.specs.Trees.{typed}
-use Rattle.c_says.specs.Units.{initial_step, item_step}
+use Rattle.c_language.specs.declared.unit.InitializerItem.{InitializerItem, fold-InitializerItem}
+use Rattle.c_language.specs.declared.tables.Tables.{Tables}
+use Rattle.c_language.specs.declared.scope.Rule.TheVariants as rule
+use Rattle.c_language.specs.Typing.{fault_at}
+use Rattle.c_language.specs.Initials.{Frame, Fills, Filling, InitialSaid, part_at, started, stepped, high_of}
+use Rattle.c_language.specs.Trees.{typed}
+use Rattle.c_language.specs.Units.{initial_step, item_step}
 use Rattle.c_initials.specs.Filled.{Filled}
 
 unfoldable pub item_fills : InitializerItem → Fills

@@ -1,23 +1,22 @@
 //! Designators (C99 6.7.8p6, p7, p17, p18).
 
 ghost use Rattle.std.specs.Prelude.{◌≡◌, [], map, IfOk};
-ghost use Rattle.c_tree.specs.declared.expr.Expr.{Expr};
-ghost use Rattle.c_says.specs.Scopes as scopes;
-ghost use Rattle.c_says.specs.Typing as typing;
-ghost use Rattle.c_says.specs.Initials as spec;
-ghost use Rattle.c_says.specs.Trees as trees;
-ghost use Rattle.c_says.specs.Units as units;
+ghost use Rattle.c_language.specs.declared.expr.Expr.{Expr};
+ghost use Rattle.c_language.specs.Scopes as scopes;
+ghost use Rattle.c_language.specs.Typing as typing;
+ghost use Rattle.c_language.specs.Initials as spec;
+ghost use Rattle.c_language.specs.Trees as trees;
+ghost use Rattle.c_language.specs.Units as units;
 ghost use Rattle.c_initials.specs.Filled.{filling_in, below, element_in, value_next};
 
 use crate::filling::Filling;
 use crate::frames::{Frame, Frames};
 use crate::parts::{part_at, sized_members};
-use c_says::{Fault, LayoutRule, Rule, Shown, Told};
-use c_tokens::Name;
-use c_tree::Designator;
+use c_language::{
+    CType, Derivation, Designator, Fault, LayoutRule, Member, Name, Rule, Shown, Told,
+};
 use c_type_forms::one_fault;
 use c_type_scope::Scope;
-use c_type_terms::{CType, Derivation, Member};
 use c_typing::typed;
 use plain_data::Items;
 use std::alloc::{AllocError, Global};

@@ -1,16 +1,16 @@
 //! One expression of a list in braces (C99 6.7.8p13, p14, p17, p20).
 
 ghost use Rattle.std.specs.Prelude.{◌≡◌, ◌||◌, [], ◌∷◌, ◌++◌, IfOk};
-ghost use Rattle.c_says.specs.Scopes as scopes;
-ghost use Rattle.c_says.specs.Typing.{fault_at, typed_in};
-ghost use Rattle.c_says.specs.declared.scope.Rule.TheVariants as rule;
-ghost use Rattle.c_says.specs.Initials as spec;
+ghost use Rattle.c_language.specs.Scopes as scopes;
+ghost use Rattle.c_language.specs.Typing.{fault_at, typed_in};
+ghost use Rattle.c_language.specs.declared.scope.Rule.TheVariants as rule;
+ghost use Rattle.c_language.specs.Initials as spec;
 ghost use Rattle.c_initials.specs.Filled.{filling_in, descent, no_filling};
 
 use crate::frames::{Frame, Frames};
 use crate::parts::{Part, part_at};
 use crate::values::{is_scalar_part, is_text_of, is_whole_of, length_of, part_faults};
-use c_says::{Fault, Rule, Told};
+use c_language::{Fault, Rule, Told};
 use c_type_scope::Scope;
 use plain_data::{Items, Shared};
 use std::alloc::{AllocError, Global};
@@ -123,7 +123,7 @@ pub(crate) struct Found {
 
 impl Model for Found {
     ghost use Rattle.std.specs.Prelude.{List};
-    ghost use Rattle.c_says.specs.Initials as spec;
+    ghost use Rattle.c_language.specs.Initials as spec;
 
     ghost Value = { spec.Part × List spec.Frame };
 

@@ -2,11 +2,11 @@
 
 ghost use Rattle.std.specs.Prelude.{◌≡◌, [], ◌∷◌, IfOk, MatchOption};
 ghost use Rattle.std.specs.Option.{option_copied};
-ghost use Rattle.c_says.specs.Initials as spec;
+ghost use Rattle.c_language.specs.Initials as spec;
 ghost use Rattle.c_initials.specs.Filled.{innermost, only, full};
 
 use crate::parts::{Part, behind, has_part};
-use c_type_terms::Tables;
+use c_language::Tables;
 use plain_data::Shared;
 use std::alloc::{AllocError, Global};
 use std::marker::Model;
@@ -19,7 +19,7 @@ pub struct Frame {
 }
 
 impl Model for Frame {
-    ghost use Rattle.c_says.specs.Initials as spec;
+    ghost use Rattle.c_language.specs.Initials as spec;
 
     ghost Value = { spec.Frame };
 
@@ -52,7 +52,7 @@ pub struct Frames {
 
 impl Model for Frames {
     ghost use Rattle.std.specs.Prelude.{List, reverse};
-    ghost use Rattle.c_says.specs.Initials as spec;
+    ghost use Rattle.c_language.specs.Initials as spec;
 
     ghost Value = { List spec.Frame };
 

@@ -1,5 +1,5 @@
 //! What initializers say (C99 6.7.8): which part of an object each expression initialises, the length that an array of
-//! unknown length gets, and the rules that are broken; exactly the definitions of `c_says`.
+//! unknown length gets, and the rules that are broken; exactly the definitions of `c_language`.
 #![tactic(auto)]
 
 mod designators;

@@ -1,12 +1,12 @@
 //! The parts of objects (C99 6.7.8p17, p20).
 
 ghost use Rattle.std.specs.Prelude.{◌≡◌, ◌+◌, ◌*◌, ◌||◌, IfOk, length, slice_get};
-ghost use Rattle.c_type_terms.specs.Types.{aggregate_of, element_of};
-ghost use Rattle.c_type_terms.specs.Layouts as layouts;
-ghost use Rattle.c_says.specs.Initials as spec;
+ghost use Rattle.c_language.specs.Types.{aggregate_of, element_of};
+ghost use Rattle.c_language.specs.Layouts as layouts;
+ghost use Rattle.c_language.specs.Initials as spec;
 
+use c_language::{AggregateForm, CType, Class, Derivation, Member, Tables};
 use c_type_forms::has_size;
-use c_type_terms::{AggregateForm, CType, Class, Derivation, Member, Tables};
 use plain_data::Shared;
 use std::alloc::{AllocError, Global};
 use std::marker::Model;
@@ -22,7 +22,7 @@ pub struct Part {
 }
 
 impl Model for Part {
-    ghost use Rattle.c_says.specs.Initials as spec;
+    ghost use Rattle.c_language.specs.Initials as spec;
 
     ghost Value = { spec.Part };
 

@@ -1,10 +1,10 @@
 //! What the trees of initializers say (C99 6.7.8).
 
 ghost use Rattle.std.specs.Prelude.{◌≡◌, [], ◌∷◌, map, IfOk, Some};
-ghost use Rattle.c_says.specs.Scopes as scopes;
-ghost use Rattle.c_says.specs.Typing.{typed_in};
-ghost use Rattle.c_says.specs.Initials as spec;
-ghost use Rattle.c_says.specs.Units as units;
+ghost use Rattle.c_language.specs.Scopes as scopes;
+ghost use Rattle.c_language.specs.Typing.{typed_in};
+ghost use Rattle.c_language.specs.Initials as spec;
+ghost use Rattle.c_language.specs.Units as units;
 ghost use Rattle.c_initials.specs.Filled.{filling_in, no_filling};
 ghost use Rattle.c_initials.specs.Said as said;
 
@@ -13,10 +13,8 @@ use crate::filling::{Filling, fills_part, fills_value};
 use crate::frames::{Frame, Frames};
 use crate::parts::{Part, part_at};
 use crate::values::length_of;
-use c_says::{Fault, Rule, Told};
-use c_tree::{Initializer, InitializerItem};
+use c_language::{CType, Fault, Initializer, InitializerItem, Rule, Told};
 use c_type_scope::Scope;
-use c_type_terms::CType;
 use c_typing::typed;
 use plain_data::Shared;
 use std::alloc::{AllocError, Global};

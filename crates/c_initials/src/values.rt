@@ -1,14 +1,13 @@
 //! What an expression initialises as a whole (C99 6.7.8p11 to p14), and the rules that it breaks.
 
 ghost use Rattle.std.specs.Prelude.{◌≡◌, ◌++◌, IfOk};
-ghost use Rattle.c_says.specs.Scopes as scopes;
-ghost use Rattle.c_says.specs.Typing.{type_in, typed_in};
-ghost use Rattle.c_says.specs.Initials as spec;
+ghost use Rattle.c_language.specs.Scopes as scopes;
+ghost use Rattle.c_language.specs.Typing.{type_in, typed_in};
+ghost use Rattle.c_language.specs.Initials as spec;
 
-use c_says::{Fault, Rule, Shown, Told};
+use c_language::{CType, Derivation, Fault, Rule, Shown, Told};
 use c_type_forms::{is_array, is_assignable, is_floating, joined, one_fault, same_aggregate, used};
 use c_type_scope::Scope;
-use c_type_terms::{CType, Derivation};
 use plain_data::Items;
 use std::alloc::{AllocError, Global};
 

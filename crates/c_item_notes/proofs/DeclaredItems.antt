@@ -1,14 +1,14 @@
 -- What is noted of a declarator, and of a whole declaration, from what the code has found of it.
 use Rattle.std.proofs.Common.{◌≡◌, ℕ, true, false, List, [], Bool, not, ◌||◌, map, Option, Some, None, refl, sym, ap, ◌∙◌}
-use Rattle.c_tree.specs.declared.expr.StorageClass.{StorageClass}
-use Rattle.c_tree.specs.declared.unit.Declaration.{Declaration}
-use Rattle.c_type_terms.specs.declared.ctype.CType.{CType}
-use Rattle.c_says.specs.Scopes.{Scope, empty}
-use Rattle.c_says.specs.Initials.{Filling, filling_of}
-use Rattle.c_says.specs.Declares.{Said, Saying, Formed, derived_from, formed_type, said_by, specified}
-use Rattle.c_says.specs.Declarations.{Declared, initialised_by, is_extern}
-use Rattle.c_says.specs.Trees.{specifier_says}
-use Rattle.c_says.specs.Units.{initialises, initialised}
+use Rattle.c_language.specs.declared.expr.StorageClass.{StorageClass}
+use Rattle.c_language.specs.declared.unit.Declaration.{Declaration}
+use Rattle.c_language.specs.declared.ctype.CType.{CType}
+use Rattle.c_language.specs.Scopes.{Scope, empty}
+use Rattle.c_language.specs.Initials.{Filling, filling_of}
+use Rattle.c_language.specs.Declares.{Said, Saying, Formed, derived_from, formed_type, said_by, specified}
+use Rattle.c_language.specs.Declarations.{Declared, initialised_by, is_extern}
+use Rattle.c_language.specs.Trees.{specifier_says}
+use Rattle.c_language.specs.Units.{initialises, initialised}
 use Rattle.c_declares.specs.declared.said.Said.{Said as Held}
 use Rattle.c_declares.specs.Views.{said_in}
 use Rattle.c_declarations.specs.Beginnings.{Begins, begun, filled, filled_by, object_of, plainly}
@@ -16,11 +16,11 @@ use Rattle.c_declarations.specs.Views.{declares_as}
 use Rattle.c_declarations.proofs.BegunLaws.{plainly_is}
 use Rattle.c_declarations.proofs.Wholes.{specified_free}
 use Rattle.c_initials.specs.Filled.{Filled, filling_in}
-use Rattle.c_runs.specs.Items.{Item, typing, with_breaches}
-use Rattle.c_runs.specs.Initials.{Initially, initialising, initialising_if, uninitialised}
-use Rattle.c_runs.specs.Notes.{specifier_noted}
-use Rattle.c_runs.specs.Statements.{Declaring, declaring, declaration, declares_all, is_alone}
-use Rattle.c_runs.specs.Statements.{name_offset}
+use Rattle.c_means.specs.Items.{Item, typing, with_breaches}
+use Rattle.c_means.specs.Initials.{Initially, initialising, initialising_if, uninitialised}
+use Rattle.c_means.specs.Notes.{specifier_noted}
+use Rattle.c_means.specs.Statements.{Declaring, declaring, declaration, declares_all, is_alone}
+use Rattle.c_means.specs.Statements.{name_offset}
 use Rattle.c_checks.specs.Refusals.{least_of}
 use Rattle.c_item_notes.specs.declared.initials.InitialNotes.{InitialNotes}
 use Rattle.c_item_notes.specs.declared.items.ItemNotes.{ItemNotes}

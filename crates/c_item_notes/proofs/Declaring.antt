@@ -4,32 +4,32 @@ use Rattle.std.specs.Prelude.{Ok, Err}
 use Rattle.std.specs.Cmp.Lexicographic.{bytes_decides}
 use Rattle.std.proofs.Common.{map, refl, sym, ap, ◌∙◌}
 use Rattle.std.specs.Str.{bytes_eq}
-use Rattle.c_tree.specs.declared.expr.Declarator.{Declarator}
-use Rattle.c_tree.specs.declared.expr.Specifier.{Specifier}
-use Rattle.c_tree.specs.declared.expr.StorageClass.{StorageClass}
-use Rattle.c_type_terms.specs.declared.ctype.CType.{CType}
-use Rattle.c_says.specs.declared.scope.Entry.{Entry}
-use Rattle.c_says.specs.declared.scope.Fault.{Fault}
-use Rattle.c_says.specs.declared.scope.Means.{Means}
-use Rattle.c_says.specs.declared.scope.Means.TheVariants as means
-use Rattle.c_says.specs.Scopes.{Name, Scope, Block, declared, entry_in, last_where, look_up, linked_as}
-use Rattle.c_says.specs.Scopes.{entry_over, or_else, with_entry}
-use Rattle.c_says.specs.Scopes.{innermost_of, with_innermost_of}
-use Rattle.c_says.specs.Typing.{NamedType}
-use Rattle.c_says.specs.Declares.{Formed, Saying, formed_type, derived_from}
-use Rattle.c_says.specs.Declarations.{Again, Declared, declared_again, declared_formed, declares_name}
-use Rattle.c_says.specs.Declarations.{declares_linked, first_at, has_linkage, is_extern, means_of, object_type}
-use Rattle.c_says.specs.Declarations.{redeclared_as}
-use Rattle.c_says.specs.Trees.{declarator_says, specifier_says}
-use Rattle.c_says.specs.Units.{initialises}
+use Rattle.c_language.specs.declared.expr.Declarator.{Declarator}
+use Rattle.c_language.specs.declared.expr.Specifier.{Specifier}
+use Rattle.c_language.specs.declared.expr.StorageClass.{StorageClass}
+use Rattle.c_language.specs.declared.ctype.CType.{CType}
+use Rattle.c_language.specs.declared.scope.Entry.{Entry}
+use Rattle.c_language.specs.declared.scope.Fault.{Fault}
+use Rattle.c_language.specs.declared.scope.Means.{Means}
+use Rattle.c_language.specs.declared.scope.Means.TheVariants as means
+use Rattle.c_language.specs.Scopes.{Name, Scope, Block, declared, entry_in, last_where, look_up, linked_as}
+use Rattle.c_language.specs.Scopes.{entry_over, or_else, with_entry}
+use Rattle.c_language.specs.Scopes.{innermost_of, with_innermost_of}
+use Rattle.c_language.specs.Typing.{NamedType}
+use Rattle.c_language.specs.Declares.{Formed, Saying, formed_type, derived_from}
+use Rattle.c_language.specs.Declarations.{Again, Declared, declared_again, declared_formed, declares_name}
+use Rattle.c_language.specs.Declarations.{declares_linked, first_at, has_linkage, is_extern, means_of, object_type}
+use Rattle.c_language.specs.Declarations.{redeclared_as}
+use Rattle.c_language.specs.Trees.{declarator_says, specifier_says}
+use Rattle.c_language.specs.Units.{initialises}
 use Rattle.c_means.proofs.Fusion as means_fusion
 use Rattle.c_declarations.specs.Beginnings.{Begins, begun, begun_again, object_of}
 use Rattle.c_declarations.proofs.BegunLaws.{filled_is}
-use Rattle.c_runs.specs.Items.{Item, typing, with_breaches}
-use Rattle.c_runs.specs.Initials.{Initially, initialising_if}
-use Rattle.c_runs.specs.Notes.{declarator_noted, specifier_noted}
-use Rattle.c_runs.specs.Statements.{declared_entry, name_offset, type_in_entry}
-use Rattle.c_runs.proofs.Fusion as notes_fusion
+use Rattle.c_means.specs.Items.{Item, typing, with_breaches}
+use Rattle.c_means.specs.Initials.{Initially, initialising_if}
+use Rattle.c_means.specs.Notes.{declarator_noted, specifier_noted}
+use Rattle.c_means.specs.Statements.{declared_entry, name_offset, type_in_entry}
+use Rattle.c_means.proofs.RunFusion as notes_fusion
 use Rattle.c_item_notes.specs.ItemTellings.{begun_item, item_as}
 
 -- ---- the last entry of a block is found first

@@ -1,17 +1,17 @@
 -- Designators (C99 6.7.8p6): the scopes in which their indices stand.
 use Rattle.std.proofs.Common.{◌≡◌, ℕ, ℤ, List, [], ◌∷◌, Option, Some, None, map, refl, sym, ap, ◌∙◌}
-use Rattle.c_tree.specs.declared.expr.Expr.{Expr}
-use Rattle.c_tree.specs.declared.unit.Designator.{Designator}
-use Rattle.c_tree.specs.declared.unit.Designator.TheVariants as designator
-use Rattle.c_type_terms.specs.declared.ctype.CType.{CType}
-use Rattle.c_says.specs.Scopes.{Name, Scope}
-use Rattle.c_says.specs.Typing.{Typed}
-use Rattle.c_says.specs.Trees.{typed}
-use Rattle.c_says.specs.Units as units
-use Rattle.c_says.specs.Initials.{Filling, Frame, designates, designated_further, designated_by, goes_into}
-use Rattle.c_says.specs.Initials.{at_number, to_member, to_constant, to_element, outermost}
-use Rattle.c_runs.specs.Notes.{ExprNoted, noted, typed_as}
-use Rattle.c_runs.specs.Initials.{designated, indices}
+use Rattle.c_language.specs.declared.expr.Expr.{Expr}
+use Rattle.c_language.specs.declared.unit.Designator.{Designator}
+use Rattle.c_language.specs.declared.unit.Designator.TheVariants as designator
+use Rattle.c_language.specs.declared.ctype.CType.{CType}
+use Rattle.c_language.specs.Scopes.{Name, Scope}
+use Rattle.c_language.specs.Typing.{Typed}
+use Rattle.c_language.specs.Trees.{typed}
+use Rattle.c_language.specs.Units as units
+use Rattle.c_language.specs.Initials.{Filling, Frame, designates, designated_further, designated_by, goes_into}
+use Rattle.c_language.specs.Initials.{at_number, to_member, to_constant, to_element, outermost}
+use Rattle.c_means.specs.Notes.{ExprNoted, noted, typed_as}
+use Rattle.c_means.specs.Initials.{designated, indices}
 use Rattle.c_notes.proofs.Parts.{noted_typed}
 use Rattle.c_item_notes.specs.declared.initials.InitialNotes.{InitialNotes}
 use Rattle.c_item_notes.specs.Levels.{Judged}

@@ -1,20 +1,20 @@
 -- What an initializer says and what is noted of it, from what the code has found of its parts.
 use Rattle.std.proofs.Common.{◌≡◌, ℕ, List, [], ◌∷◌, Bool, map, sym, ap, ◌∙◌}
-use Rattle.c_tree.specs.declared.expr.Expr.{Expr}
-use Rattle.c_tree.specs.declared.unit.Initializer.{Initializer}
-use Rattle.c_tree.specs.declared.unit.Initializer.TheVariants as initial
-use Rattle.c_tree.specs.declared.unit.InitializerItem.{InitializerItem}
-use Rattle.c_type_terms.specs.declared.ctype.CType.{CType}
-use Rattle.c_says.specs.Scopes.{Scope, empty}
-use Rattle.c_says.specs.Typing.{typed_in}
-use Rattle.c_says.specs.Initials.{Fills, Filling, Part, fills_value, fills_all, filling_of, list_says}
-use Rattle.c_says.specs.Initials.{started, value_alone, with_part_left}
+use Rattle.c_language.specs.declared.expr.Expr.{Expr}
+use Rattle.c_language.specs.declared.unit.Initializer.{Initializer}
+use Rattle.c_language.specs.declared.unit.Initializer.TheVariants as initial
+use Rattle.c_language.specs.declared.unit.InitializerItem.{InitializerItem}
+use Rattle.c_language.specs.declared.ctype.CType.{CType}
+use Rattle.c_language.specs.Scopes.{Scope, empty}
+use Rattle.c_language.specs.Typing.{typed_in}
+use Rattle.c_language.specs.Initials.{Fills, Filling, Part, fills_value, fills_all, filling_of, list_says}
+use Rattle.c_language.specs.Initials.{started, value_alone, with_part_left}
 use Rattle.c_initials.specs.Filled.{Filled, filling_in, no_filling}
 use Rattle.c_initials.specs.Said.{closed, goes_on, opened}
 use Rattle.c_initials.proofs.Listed.{scope_free, frames_free, within}
-use Rattle.c_runs.specs.Initials.{Initially, Listed, designated, indices, initially, listed_item, all_fills, all_elements, initialising}
-use Rattle.c_runs.specs.Notes.{noted}
-use Rattle.c_runs.proofs.Equations.{initially-Value, initially-List, listed-Item}
+use Rattle.c_means.specs.Initials.{Initially, Listed, designated, indices, initially, listed_item, all_fills, all_elements, initialising}
+use Rattle.c_means.specs.Notes.{noted}
+use Rattle.c_means.proofs.RunEquations.{initially-Value, initially-List, listed-Item}
 use Rattle.c_notes.specs.declared.notes.NotedExpr.{NotedExpr}
 use Rattle.c_item_notes.specs.declared.initials.InitialNotes.{InitialNotes}
 use Rattle.c_item_notes.specs.Levels.{Judged, Heard, heard_in, heard}

@@ -1,17 +1,17 @@
 -- What is noted of items one behind the other, and of declared names.
 use Rattle.std.proofs.Common.{◌≡◌, ℕ, List, [], ◌∷◌, ◌++◌, Bool, Option, Some, None, refl, sym, ap, ◌∙◌}
 use Rattle.std.proofs.lemmas.List.{append-nil, append_assoc}
-use Rattle.c_says.specs.declared.scope.Duration.TheVariants as duration
-use Rattle.c_says.specs.declared.scope.Entry.{Entry}
-use Rattle.c_says.specs.declared.scope.Means.{Means}
-use Rattle.c_says.specs.declared.scope.Means.TheVariants as means
-use Rattle.c_says.specs.Scopes.{Name, Scope}
-use Rattle.c_says.specs.Declares.{Said, specified}
-use Rattle.c_says.specs.Declarations.{Declared}
-use Rattle.c_runs.specs.declared.breach.Breach.{Breach}
-use Rattle.c_runs.specs.Items.{Case, Item, Lasting, followed, typing, with_breaches}
-use Rattle.c_runs.specs.Initials.{Initial}
-use Rattle.c_runs.specs.Statements.{Declaring, declared_entry, declared_means, declares_all}
+use Rattle.c_language.specs.declared.scope.Duration.TheVariants as duration
+use Rattle.c_language.specs.declared.scope.Entry.{Entry}
+use Rattle.c_language.specs.declared.scope.Means.{Means}
+use Rattle.c_language.specs.declared.scope.Means.TheVariants as means
+use Rattle.c_language.specs.Scopes.{Name, Scope}
+use Rattle.c_language.specs.Declares.{Said, specified}
+use Rattle.c_language.specs.Declarations.{Declared}
+use Rattle.c_means.specs.declared.breach.Breach.{Breach}
+use Rattle.c_means.specs.Items.{Case, Item, Lasting, followed, typing, with_breaches}
+use Rattle.c_means.specs.Initials.{Initial}
+use Rattle.c_means.specs.Statements.{Declaring, declared_entry, declared_means, declares_all}
 use Rattle.c_checks.specs.Refusals.{lesser, least_of}
 use Rattle.c_checks.proofs.Least.{grouping, of_both}
 use Rattle.c_notes.specs.declared.calls.CallNote.{CallNote}

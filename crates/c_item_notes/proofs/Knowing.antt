@@ -1,9 +1,9 @@
 -- What is noted of an expression at any level that knows the profile, is noted at the level by which a source is judged.
 use Rattle.std.proofs.Common.{◌≡◌, refl, sym, ap, ◌∙◌}
-use Rattle.c_tree.specs.declared.expr.Expr.{Expr}
-use Rattle.c_says.specs.Scopes.{Scope}
-use Rattle.c_says.specs.Typing.{Typed}
-use Rattle.c_runs.specs.Notes.{noted}
+use Rattle.c_language.specs.declared.expr.Expr.{Expr}
+use Rattle.c_language.specs.Scopes.{Scope}
+use Rattle.c_language.specs.Typing.{Typed}
+use Rattle.c_means.specs.Notes.{noted}
 use Rattle.c_notes.specs.declared.notes.ExprNotes.{ExprNotes}
 use Rattle.c_notes.specs.declared.notes.NotedExpr.{NotedExpr}
 use Rattle.c_notes.specs.Relations.{Knows, IsNoted}

@@ -1,12 +1,12 @@
 -- What is noted of the expressions of an initializer one by one is what is noted of them together.
 use Rattle.std.proofs.Common.{◌≡◌, List, [], ◌∷◌, ◌++◌, Bool, Option, Some, None, refl, sym, ap, ◌∙◌}
 use Rattle.std.proofs.lemmas.List.{append-nil, append_assoc}
-use Rattle.c_says.specs.Scopes.{Name, Scope}
-use Rattle.c_says.specs.Initials.{Filling}
-use Rattle.c_runs.specs.declared.breach.Breach.{Breach}
-use Rattle.c_runs.specs.Notes.{Noted}
-use Rattle.c_runs.specs.Initials.{Element, Evaluates, Indexes, evaluated, initial_of, all_calls, all_called}
-use Rattle.c_runs.specs.Initials.{not_static, all_not_static}
+use Rattle.c_language.specs.Scopes.{Name, Scope}
+use Rattle.c_language.specs.Initials.{Filling}
+use Rattle.c_means.specs.declared.breach.Breach.{Breach}
+use Rattle.c_means.specs.Notes.{Noted}
+use Rattle.c_means.specs.Initials.{Element, Evaluates, Indexes, evaluated, initial_of, all_calls, all_called}
+use Rattle.c_means.specs.Initials.{not_static, all_not_static}
 use Rattle.c_checks.specs.Refusals.{lesser, least_of}
 use Rattle.c_checks.proofs.Least.{grouping, of_both}
 use Rattle.c_notes.specs.declared.calls.CallNote.{CallNote}

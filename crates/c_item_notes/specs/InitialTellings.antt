@@ -1,12 +1,12 @@
 -- What code keeps of the expressions of an initializer (C99 6.7.8).
 use Rattle.std.specs.Prelude.{not, ◌&&◌, List, [], ◌∷◌, ◌++◌, None, is_some}
-use Rattle.c_says.specs.declared.shown.Told.{Told}
-use Rattle.c_says.specs.Scopes.{Scope}
-use Rattle.c_says.specs.Typing.{no_constant, told_of}
-use Rattle.c_runs.specs.declared.breach.Breach.{Breach}
-use Rattle.c_runs.specs.declared.breach.BrokenRule.TheVariants as broken
-use Rattle.c_runs.specs.Items.{breach_if}
-use Rattle.c_runs.specs.Initials.{Element, Evaluates, Indexes, Initial}
+use Rattle.c_language.specs.declared.shown.Told.{Told}
+use Rattle.c_language.specs.Scopes.{Scope}
+use Rattle.c_language.specs.Typing.{no_constant, told_of}
+use Rattle.c_means.specs.declared.breach.Breach.{Breach}
+use Rattle.c_means.specs.declared.breach.BrokenRule.TheVariants as broken
+use Rattle.c_means.specs.Items.{breach_if}
+use Rattle.c_means.specs.Initials.{Element, Evaluates, Indexes, Initial}
 use Rattle.c_checks.specs.Refusals.{lesser, least_of}
 use Rattle.c_notes.specs.declared.notes.ExprNotes.{ExprNotes}
 use Rattle.c_notes.specs.CallsTold.{told_calls}

@@ -1,23 +1,23 @@
--- What code keeps of what `c_runs` says of a statement or declaration as an item, apart from what it does.
+-- What code keeps of what `c_means` says of a statement or declaration as an item, apart from what it does.
 use Rattle.std.specs.Prelude.{ℕ, Bool, true, not, ◌||◌, List, [], ◌∷◌, ◌++◌, Option, Some, None, is_some}
-use Rattle.c_tree.specs.declared.expr.StorageClass.{StorageClass}
-use Rattle.c_type_terms.specs.declared.ctype.CType.{CType}
-use Rattle.c_type_terms.specs.declared.tables.Tables.{Tables}
-use Rattle.c_says.specs.declared.scope.Duration.TheVariants as duration
-use Rattle.c_says.specs.declared.scope.Entry.{Entry}
-use Rattle.c_says.specs.declared.scope.Means.{Means}
-use Rattle.c_says.specs.declared.scope.Means.TheVariants as means
-use Rattle.c_says.specs.Scopes.{Scope}
-use Rattle.c_says.specs.Declares.{Formed}
-use Rattle.c_says.specs.Declarations.{Declared, is_extern}
-use Rattle.c_says.specs.Units.{initialises}
+use Rattle.c_language.specs.declared.expr.StorageClass.{StorageClass}
+use Rattle.c_language.specs.declared.ctype.CType.{CType}
+use Rattle.c_language.specs.declared.tables.Tables.{Tables}
+use Rattle.c_language.specs.declared.scope.Duration.TheVariants as duration
+use Rattle.c_language.specs.declared.scope.Entry.{Entry}
+use Rattle.c_language.specs.declared.scope.Means.{Means}
+use Rattle.c_language.specs.declared.scope.Means.TheVariants as means
+use Rattle.c_language.specs.Scopes.{Scope}
+use Rattle.c_language.specs.Declares.{Formed}
+use Rattle.c_language.specs.Declarations.{Declared, is_extern}
+use Rattle.c_language.specs.Units.{initialises}
 use Rattle.c_declarations.specs.Beginnings.{Begins, filled_by, object_of}
 use Rattle.c_declarations.specs.Views.{declares_as}
 use Rattle.c_means.specs.Values.{bytes_of}
-use Rattle.c_runs.specs.declared.breach.Breach.{Breach}
-use Rattle.c_runs.specs.Items.{Item, Lasting, typing, with_breaches}
-use Rattle.c_runs.specs.Initials.{Initially, initialising_if, said_if}
-use Rattle.c_runs.specs.Statements.{Declaring, declared_entry, declared_item, link, name_offset}
+use Rattle.c_means.specs.declared.breach.Breach.{Breach}
+use Rattle.c_means.specs.Items.{Item, Lasting, typing, with_breaches}
+use Rattle.c_means.specs.Initials.{Initially, initialising_if, said_if}
+use Rattle.c_means.specs.Statements.{Declaring, declared_entry, declared_item, link, name_offset}
 use Rattle.c_checks.specs.Refusals.{lesser, least_of}
 use Rattle.c_notes.specs.CallsTold.{told_calls}
 use Rattle.c_item_notes.specs.declared.initials.InitialNotes.{InitialNotes}

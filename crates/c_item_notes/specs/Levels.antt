@@ -1,13 +1,13 @@
 -- A source that is judged, and the level of a run by which its calls are told.
 use Rattle.std.specs.Prelude.{List}
-use Rattle.c_tree.specs.declared.unit.External.{External}
-use Rattle.c_says.specs.Scopes.{Scope}
-use Rattle.c_says.specs.Typing.{Typed, typed_in}
+use Rattle.c_language.specs.declared.unit.External.{External}
+use Rattle.c_language.specs.Scopes.{Scope}
+use Rattle.c_language.specs.Typing.{Typed, typed_in}
 use Rattle.c_means.specs.Parts.{Level}
-use Rattle.c_runs.specs.declared.profile.Profile.{Profile}
-use Rattle.c_runs.specs.Notes.{Noted}
-use Rattle.c_runs.specs.Runs.{bare}
-use Rattle.c_runs.specs.Units.{machine_of, silent, least}
+use Rattle.c_means.specs.declared.profile.Profile.{Profile}
+use Rattle.c_means.specs.Notes.{Noted}
+use Rattle.c_means.specs.Runs.{bare}
+use Rattle.c_means.specs.Units.{machine_of, silent, least}
 use Rattle.c_notes.specs.declared.notes.ExprNotes.{ExprNotes}
 use Rattle.c_notes.specs.declared.notes.NotedExpr.{NotedExpr}
 use Rattle.c_notes.specs.Tellings.{notes_of}

@@ -1,15 +1,15 @@
 //! Declarations (C99 6.7): what they declare, with what is noted of them as items.
 
 ghost use Rattle.std.specs.Prelude.{◌≡◌, [], ◌∷◌, not, map, option_map, IfOk, Some};
-ghost use Rattle.c_says.specs.Scopes as scopes;
-ghost use Rattle.c_says.specs.Declares as forms;
-ghost use Rattle.c_says.specs.Declarations as says;
+ghost use Rattle.c_language.specs.Scopes as scopes;
+ghost use Rattle.c_language.specs.Declares as forms;
+ghost use Rattle.c_language.specs.Declarations as says;
 ghost use Rattle.c_declares.specs.Views.{formed_in, said_in};
 ghost use Rattle.c_declarations.specs.Beginnings as beginnings;
 ghost use Rattle.c_declarations.specs.Views.{declared_in};
-ghost use Rattle.c_runs.specs.Items.{typing};
-ghost use Rattle.c_runs.specs.Statements as statements;
-ghost use Rattle.c_runs.specs.Initials as runs;
+ghost use Rattle.c_means.specs.Items.{typing};
+ghost use Rattle.c_means.specs.Statements as statements;
+ghost use Rattle.c_means.specs.Initials as runs;
 ghost use Rattle.c_checks.specs.Refusals.{least_of};
 ghost use Rattle.c_item_notes.specs.Levels.{judged};
 ghost use Rattle.c_item_notes.specs.InitialTellings as initials;
@@ -26,11 +26,11 @@ use c_declarations::{
 };
 use c_declares::{Formed, Said};
 use c_initials::Filling;
-use c_says::{Duration, Entry, Linkage, Means};
-use c_tokens::Name;
-use c_tree::{Declaration, InitDeclarator, Initializer, StorageClass};
+use c_language::{
+    CType, Declaration, Duration, Entry, InitDeclarator, Initializer, Linkage, Means, Name,
+    StorageClass, Tables,
+};
 use c_type_scope::Scope;
-use c_type_terms::{CType, Tables};
 use c_typing::{declarator, specifiers};
 use plain_data::{Items, Shared};
 use std::alloc::{AllocError, Global};

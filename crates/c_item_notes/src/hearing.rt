@@ -1,12 +1,12 @@
 //! A source that is judged, and what is noted of its expressions.
 
 ghost use Rattle.std.specs.Prelude.{◌≡◌, IfOk};
-ghost use Rattle.c_runs.specs.Notes as notes;
+ghost use Rattle.c_means.specs.Notes as notes;
 ghost use Rattle.c_item_notes.specs.Levels as spec;
 
+use c_language::{Expr, External};
+use c_means::Profile;
 use c_notes::{NotedExpr, noted};
-use c_runs::Profile;
-use c_tree::{Expr, External};
 use c_type_scope::Scope;
 use plain_data::Shared;
 use std::alloc::{AllocError, Global};

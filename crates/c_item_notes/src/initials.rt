@@ -1,11 +1,11 @@
 //! Initializers (C99 6.7.8): what they say of the object that is declared, with what is noted of their expressions.
 
 ghost use Rattle.std.specs.Prelude.{◌≡◌, map, IfOk};
-ghost use Rattle.c_says.specs.Scopes as scopes;
-ghost use Rattle.c_says.specs.Typing.{typed_in};
-ghost use Rattle.c_says.specs.Initials as braces;
+ghost use Rattle.c_language.specs.Scopes as scopes;
+ghost use Rattle.c_language.specs.Typing.{typed_in};
+ghost use Rattle.c_language.specs.Initials as braces;
 ghost use Rattle.c_initials.specs.Filled.{filling_in, no_filling};
-ghost use Rattle.c_runs.specs.Initials as runs;
+ghost use Rattle.c_means.specs.Initials as runs;
 ghost use Rattle.c_checks.specs.Refusals.{least_of};
 ghost use Rattle.c_item_notes.specs.Levels.{judged};
 ghost use Rattle.c_item_notes.specs.InitialTellings as spec;
@@ -16,13 +16,10 @@ use c_initials::{
     Filling, Opened, Part, designated_by, fills_value, list_alone, list_begun, list_closed,
     value_alone, with_part_left,
 };
+use c_language::{CType, Initializer, InitializerItem, LayoutRule, Name, Rule, Told};
+use c_means::{Breach, BrokenRule};
 use c_notes::{CallNote, ExprNotes, NotedExpr, is_static};
-use c_runs::{Breach, BrokenRule};
-use c_says::{LayoutRule, Rule, Told};
-use c_tokens::Name;
-use c_tree::{Initializer, InitializerItem};
 use c_type_scope::Scope;
-use c_type_terms::CType;
 use plain_data::{Items, Shared};
 use std::alloc::{AllocError, Global};
 

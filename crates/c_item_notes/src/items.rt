@@ -4,10 +4,9 @@ ghost use Rattle.std.specs.Prelude.{◌≡◌, IfOk};
 ghost use Rattle.c_item_notes.specs.ItemTellings as spec;
 
 use c_checks::{Case, lesser};
+use c_language::{Entry, Name};
+use c_means::Breach;
 use c_notes::CallNote;
-use c_runs::Breach;
-use c_says::Entry;
-use c_tokens::Name;
 use plain_data::{Items, Shared};
 use std::alloc::{AllocError, Global};
 

@@ -1,4 +1,4 @@
-//! What is noted of initializers and declarations besides what they say to the types (`c_runs`), as code: the broken rule
+//! What is noted of initializers and declarations besides what they say to the types (`c_means`), as code: the broken rule
 //! that comes first, the calls in them, and the objects and names with linkage that they declare. One walk finds it
 //! together with what they say; it fails for want of memory alone.
 #![tactic(auto)]

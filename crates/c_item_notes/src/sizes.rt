@@ -3,7 +3,7 @@
 ghost use Rattle.std.specs.Prelude.{◌≡◌, Some};
 ghost use Rattle.c_means.specs.Values as values;
 
-use c_type_terms::{CType, Class, Tables};
+use c_language::{CType, Class, Tables};
 
 /// The bytes of an object, by its type's class and size.
 fn bytes_as(class: Class, size: Option<u64>) -> u64

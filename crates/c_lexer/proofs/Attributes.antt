@@ -2,7 +2,7 @@
 use Rattle.std.proofs.Common.{◌≡◌, ℕ, ◌+◌, ◌-◌, ◌≤◌, Bool, true, false, cond, List, [], ◌∷◌, ◌++◌, length, reverse}
 use Rattle.std.proofs.Common.{Option, Some, None, refl, ap, sym, ◌∙◌, arith, append_assoc}
 use Rattle.std.proofs.lemmas.List.{take-append-le, length_push, take_at, reverse-append}
-use Rattle.c_tokens.specs.declared.token.Token.{Token}
+use Rattle.c_language.specs.declared.token.Token.{Token}
 use Rattle.c_lexer.specs.declared.attribute.Role.{Role}
 use Rattle.c_lexer.specs.declared.attribute.Role.TheVariants as role
 use Rattle.c_lexer.specs.declared.attribute.Collected.{Collected}

@@ -19,7 +19,7 @@ use Rattle.c_lexer.specs.declared.directive.Directive.{Directive}
 use Rattle.c_lexer.specs.declared.directive.Directive.TheVariants as says
 use Rattle.c_lexer.specs.declared.piece.Lexeme.{Lexeme}
 use Rattle.c_lexer.specs.declared.piece.Lexeme.TheVariants as lexeme
-use Rattle.c_tokens.specs.declared.token.Punctuator.{Punctuator}
+use Rattle.c_language.specs.declared.token.Punctuator.{Punctuator}
 use Rattle.c_lexer.proofs.Runs.{run_covers, number_covers, body_closes}
 use Rattle.c_lexer.proofs.Closings.{comment_closes}
 use Rattle.c_lexer.specs.Vocabulary.{punctuators}

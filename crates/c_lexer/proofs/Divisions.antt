@@ -13,9 +13,9 @@ use Rattle.c_lexer.specs.Walks.{completed}
 use Rattle.c_lexer.specs.declared.attribute.Collected.{Collected}
 use Rattle.c_lexer.specs.declared.fault.LexFault.{LexFault}
 use Rattle.c_lexer.specs.declared.fault.LexFault.TheVariants as fault
-use Rattle.c_tokens.specs.declared.token.Spot.{Spot}
-use Rattle.c_tokens.specs.declared.token.Token.{Token}
-use Rattle.c_tokens.specs.declared.token.TokenKind.{TokenKind}
+use Rattle.c_language.specs.declared.token.Spot.{Spot}
+use Rattle.c_language.specs.declared.token.Token.{Token}
+use Rattle.c_language.specs.declared.token.TokenKind.{TokenKind}
 
 divide-drop : (n : ℕ) (fresh : Bool) (text : Text) → divide n fresh text ≡ divide 0 fresh (drop n text)
 divide-drop zero fresh text = refl

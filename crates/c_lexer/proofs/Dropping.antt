@@ -12,8 +12,8 @@ use Rattle.c_lexer.specs.Reading.{Reading, Spells, read, finished}
 use Rattle.c_lexer.specs.declared.attribute.Role.{Role}
 use Rattle.c_lexer.specs.declared.attribute.Role.TheVariants as role
 use Rattle.c_lexer.specs.declared.fault.LexFault.TheVariants as fault
-use Rattle.c_tokens.specs.declared.token.Token.{Token}
-use Rattle.c_tokens.specs.declared.token.Tokens.{Tokens}
+use Rattle.c_language.specs.declared.token.Token.{Token}
+use Rattle.c_language.specs.declared.token.Tokens.{Tokens}
 
 -- ---- a group ends at one place
 

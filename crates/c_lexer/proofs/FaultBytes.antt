@@ -21,7 +21,7 @@ use Rattle.c_lexer.specs.declared.piece.Lexeme.{Lexeme}
 use Rattle.c_lexer.specs.declared.piece.Lexeme.TheVariants as lexeme
 use Rattle.c_lexer.specs.declared.piece.Stray.{Stray}
 use Rattle.c_lexer.specs.declared.piece.Stray.TheVariants as stray
-use Rattle.c_tokens.specs.declared.token.TokenKind.{TokenKind}
+use Rattle.c_language.specs.declared.token.TokenKind.{TokenKind}
 use Rattle.c_lexer.proofs.Unique.{begins_long}
 
 -- a fault stands before a byte

@@ -18,8 +18,8 @@ use Rattle.c_lexer.specs.declared.fault.LexFault.TheVariants as fault
 use Rattle.c_lexer.specs.declared.piece.Lexeme.{Lexeme}
 use Rattle.c_lexer.specs.declared.piece.Lexeme.TheVariants as lexeme
 use Rattle.c_lexer.specs.declared.piece.Stray.{Stray}
-use Rattle.c_tokens.specs.declared.token.Spot.{Spot}
-use Rattle.c_tokens.specs.declared.token.Tokens.{Tokens}
+use Rattle.c_language.specs.declared.token.Spot.{Spot}
+use Rattle.c_language.specs.declared.token.Tokens.{Tokens}
 use Rattle.c_lexer.proofs.Fronts.{is_stray, sound}
 use Rattle.c_lexer.proofs.Covers.{Covers, covers}
 use Rattle.c_lexer.proofs.Divisions.{divide_next, divide_rest}

@@ -20,7 +20,7 @@ use Rattle.c_lexer.specs.declared.directive.Directive.{Directive}
 use Rattle.c_lexer.specs.declared.directive.Directive.TheVariants as says
 use Rattle.c_lexer.specs.declared.piece.Lexeme.{Lexeme}
 use Rattle.c_lexer.specs.declared.piece.Lexeme.TheVariants as lexeme
-use Rattle.c_tokens.specs.declared.token.Punctuator.{Punctuator}
+use Rattle.c_language.specs.declared.token.Punctuator.{Punctuator}
 use Rattle.c_lexer.proofs.Runs.{run_is, run_within, number_is, number_within}
 use Rattle.c_lexer.proofs.Closings.{closed_from, ended_from}
 use Rattle.c_lexer.proofs.Marks.{punctuator_found}

@@ -12,7 +12,7 @@ use Rattle.c_lexer.specs.Class.{Text, is_in}
 use Rattle.c_lexer.specs.Tables.{first_prefix, punctuator}
 use Rattle.c_lexer.specs.Spelling.{Has}
 use Rattle.c_lexer.specs.declared.class.Class.TheVariants as class
-use Rattle.c_tokens.specs.declared.token.Punctuator.{Punctuator}
+use Rattle.c_language.specs.declared.token.Punctuator.{Punctuator}
 use Rattle.c_lexer.specs.Vocabulary.{punctuators, longest_first, of_length}
 
 abbrev Rows : Type 0

@@ -8,7 +8,7 @@ use Rattle.std.proofs.lemmas.Bool.Decides.{nat_tests}
 use Rattle.c_lexer.specs.Class.{Text}
 use Rattle.c_lexer.specs.Tables.{first_prefix, punctuator}
 use Rattle.c_lexer.specs.Vocabulary.{punctuators, longest_first}
-use Rattle.c_tokens.specs.declared.token.Punctuator.{Punctuator}
+use Rattle.c_language.specs.declared.token.Punctuator.{Punctuator}
 
 abbrev all_long : List (Text × Punctuator) → Bool
 all_long [] = true

@@ -15,16 +15,16 @@ use Rattle.c_lexer.specs.Meaning.{Meaning, meaning}
 use Rattle.c_lexer.specs.Attributes.{Kept, keep, kept_before, first_of_all, role_of}
 use Rattle.c_lexer.specs.Reading.{Reading, Spells, read, given, followed_by, finished, named_by, token_at, place_at}
 use Rattle.c_lexer.specs.Standing.{IsPlaced}
-use Rattle.c_tokens.specs.Standing.{StandInOrder}
+use Rattle.c_language.specs.Standing.{StandInOrder}
 use Rattle.c_lexer.specs.declared.attribute.Role.{Role}
 use Rattle.c_lexer.specs.declared.attribute.Role.TheVariants as role
 use Rattle.c_lexer.specs.declared.piece.Lexeme.{Lexeme}
 use Rattle.c_lexer.specs.declared.piece.Lexeme.TheVariants as lexeme
-use Rattle.c_tokens.specs.declared.token.Place.{Place}
-use Rattle.c_tokens.specs.declared.token.Spot.{Spot}
-use Rattle.c_tokens.specs.declared.token.Token.{Token}
-use Rattle.c_tokens.specs.declared.token.TokenKind.{TokenKind}
-use Rattle.c_tokens.specs.declared.token.Tokens.{Tokens}
+use Rattle.c_language.specs.declared.token.Place.{Place}
+use Rattle.c_language.specs.declared.token.Spot.{Spot}
+use Rattle.c_language.specs.declared.token.Token.{Token}
+use Rattle.c_language.specs.declared.token.TokenKind.{TokenKind}
+use Rattle.c_language.specs.declared.token.Tokens.{Tokens}
 use Rattle.c_lexer.proofs.Unique.{begins_long, only}
 
 -- ---- what is kept of tokens is a part of them

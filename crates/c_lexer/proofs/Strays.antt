@@ -18,7 +18,7 @@ use Rattle.c_lexer.specs.declared.piece.Lexeme.{Lexeme}
 use Rattle.c_lexer.specs.declared.piece.Lexeme.TheVariants as lexeme
 use Rattle.c_lexer.specs.declared.piece.Stray.{Stray}
 use Rattle.c_lexer.specs.declared.piece.Stray.TheVariants as stray
-use Rattle.c_tokens.specs.declared.token.Punctuator.{Punctuator}
+use Rattle.c_language.specs.declared.token.Punctuator.{Punctuator}
 use Rattle.c_lexer.proofs.Fronts.{is_stray, shut_plain, other_plain}
 
 -- a piece that is none is so for this reason

@@ -17,8 +17,8 @@ use Rattle.c_lexer.specs.declared.attribute.Collected.{Collected}
 use Rattle.c_lexer.specs.declared.fault.LexFault.{LexFault}
 use Rattle.c_lexer.specs.declared.lexer.Lexer.{Lexer}
 use Rattle.c_lexer.specs.declared.piece.Lexeme.{Lexeme}
-use Rattle.c_tokens.specs.declared.token.Token.{Token}
-use Rattle.c_tokens.specs.declared.token.TokenKind.{TokenKind}
+use Rattle.c_language.specs.declared.token.Token.{Token}
+use Rattle.c_language.specs.declared.token.TokenKind.{TokenKind}
 use Rattle.c_lexer.specs.declared.walk.Walk.{Walk}
 use Rattle.c_lexer.proofs.Attributes.{no_group, joined-open}
 use Rattle.c_lexer.proofs.Divisions.{divide_next, refused_first, completed_more}

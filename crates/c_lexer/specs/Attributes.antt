@@ -1,10 +1,10 @@
 -- Attributes of GNU C, which are no tokens: the word and its matched parentheses.
 use Rattle.std.specs.Prelude.{◌||◌, if◌then◌else◌, List, [], ◌∷◌, drop, codes, unwrap_or, Option, Some, None}
 use Rattle.std.specs.Str.{bytes_eq}
-use Rattle.c_tokens.specs.declared.token.Token.{Token}
-use Rattle.c_tokens.specs.declared.token.TokenKind.{TokenKind}
-use Rattle.c_tokens.specs.declared.token.TokenKind.TheVariants as kind
-use Rattle.c_tokens.specs.declared.token.Punctuator.TheVariants as mark
+use Rattle.c_language.specs.declared.token.Token.{Token}
+use Rattle.c_language.specs.declared.token.TokenKind.{TokenKind}
+use Rattle.c_language.specs.declared.token.TokenKind.TheVariants as kind
+use Rattle.c_language.specs.declared.token.Punctuator.TheVariants as mark
 use Rattle.c_lexer.specs.declared.attribute.Role.{Role}
 use Rattle.c_lexer.specs.declared.attribute.Role.TheVariants as role
 

@@ -4,7 +4,7 @@ use Rattle.std.specs.Prelude.{Some}
 use Rattle.std.specs.Prelude.{None, if◌then◌else◌, ⊤}
 use Rattle.c_lexer.specs.Attributes.{Kept, keep}
 use Rattle.c_lexer.specs.declared.attribute.Collected.{Collected}
-use Rattle.c_tokens.specs.declared.token.Token.{Token}
+use Rattle.c_language.specs.declared.token.Token.{Token}
 
 -- The tokens so far with what is kept of the rest, whose closing parentheses end the open groups, the innermost first.
 -- A group that an attribute's word begins goes, with the word.

@@ -7,8 +7,8 @@ use Rattle.c_lexer.specs.Places.{beginning}
 use Rattle.c_lexer.specs.Attributes.{role_of}
 use Rattle.c_lexer.specs.Reading.{read}
 use Rattle.c_lexer.specs.declared.attribute.Role.TheVariants as role
-use Rattle.c_tokens.specs.declared.token.Token.{Token}
-use Rattle.c_tokens.specs.declared.token.Tokens.{Tokens}
+use Rattle.c_language.specs.declared.token.Token.{Token}
+use Rattle.c_language.specs.declared.token.Tokens.{Tokens}
 
 -- tokens whose round brackets match
 pub data Matched : List Token → Type 0 where

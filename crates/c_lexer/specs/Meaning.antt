@@ -17,8 +17,8 @@ use Rattle.c_lexer.specs.declared.piece.Stray.{Stray}
 use Rattle.c_lexer.specs.declared.piece.Stray.TheVariants as stray
 use Rattle.c_lexer.specs.declared.table.Reserved.{Reserved}
 use Rattle.c_lexer.specs.declared.table.Reserved.TheVariants as word
-use Rattle.c_tokens.specs.declared.token.TokenKind.{TokenKind}
-use Rattle.c_tokens.specs.declared.token.TokenKind.TheVariants as kind
+use Rattle.c_language.specs.declared.token.TokenKind.{TokenKind}
+use Rattle.c_language.specs.declared.token.TokenKind.TheVariants as kind
 use Rattle.c_lexer.specs.declared.words.Meant.{Meant}
 use Rattle.c_lexer.specs.declared.words.Meant.TheVariants as found
 

@@ -17,9 +17,9 @@ use Rattle.c_lexer.specs.declared.table.Length.{Length}
 use Rattle.c_lexer.specs.declared.table.Length.TheVariants as len
 use Rattle.c_lexer.specs.declared.table.Suffix.{Suffix}
 use Rattle.c_lexer.specs.declared.table.Suffix.TheVariants as sign
-use Rattle.c_tokens.specs.declared.token.IntegerConstant.{IntegerConstant}
-use Rattle.c_tokens.specs.declared.token.IntegerType.{IntegerType}
-use Rattle.c_tokens.specs.declared.token.IntegerType.TheVariants as type
+use Rattle.c_language.specs.declared.token.IntegerConstant.{IntegerConstant}
+use Rattle.c_language.specs.declared.token.IntegerType.{IntegerType}
+use Rattle.c_language.specs.declared.token.IntegerType.TheVariants as type
 
 -- ---- preprocessing numbers (6.4.8)
 

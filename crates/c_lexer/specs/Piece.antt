@@ -12,7 +12,7 @@ use Rattle.c_lexer.specs.declared.directive.Directive.TheVariants as says
 use Rattle.c_lexer.specs.declared.piece.Stray.TheVariants as stray
 use Rattle.c_lexer.specs.declared.piece.Lexeme.{Lexeme}
 use Rattle.c_lexer.specs.declared.piece.Lexeme.TheVariants as lexeme
-use Rattle.c_tokens.specs.declared.token.Punctuator.{Punctuator}
+use Rattle.c_language.specs.declared.token.Punctuator.{Punctuator}
 
 -- what a piece is, and its length
 abbrev pub Piece : Type 0

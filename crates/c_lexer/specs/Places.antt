@@ -4,7 +4,7 @@ use Rattle.std.specs.Prelude.{slice_range}
 use Rattle.c_lexer.specs.Class.{Text}
 use Rattle.c_lexer.specs.Division.{Element, divide}
 use Rattle.c_lexer.specs.declared.piece.Lexeme.TheVariants as lexeme
-use Rattle.c_tokens.specs.declared.token.Spot.{Spot}
+use Rattle.c_language.specs.declared.token.Spot.{Spot}
 
 -- the first place of a source of this name
 abbrev pub beginning : Text → Spot

@@ -4,7 +4,7 @@ use Rattle.c_lexer.specs.Class.{Text}
 use Rattle.c_lexer.specs.Places.{located}
 use Rattle.c_lexer.specs.declared.fault.LexFault.{LexFault}
 use Rattle.c_lexer.specs.declared.fault.LexFault.TheVariants as fault
-use Rattle.c_tokens.specs.declared.token.Token.{Token}
+use Rattle.c_language.specs.declared.token.Token.{Token}
 
 -- A token's place is where its first byte stands in the source: the file by its number among these names, the line
 -- and the column.

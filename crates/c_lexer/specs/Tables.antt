@@ -4,7 +4,7 @@ use Rattle.std.specs.List.{starts_with}
 use Rattle.std.specs.Str.{bytes_eq}
 use Rattle.c_lexer.specs.Class.{Text}
 use Rattle.c_lexer.specs.Vocabulary.{reserved_words, suffixes, punctuators, longest_first}
-use Rattle.c_tokens.specs.declared.token.Punctuator.{Punctuator}
+use Rattle.c_language.specs.declared.token.Punctuator.{Punctuator}
 use Rattle.c_lexer.specs.declared.table.Reserved.{Reserved}
 use Rattle.c_lexer.specs.declared.table.Suffix.{Suffix}
 

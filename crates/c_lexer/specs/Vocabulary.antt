@@ -6,12 +6,12 @@ use Rattle.c_lexer.specs.declared.table.Reserved.{Reserved}
 use Rattle.c_lexer.specs.declared.table.Reserved.TheVariants as word
 use Rattle.c_lexer.specs.declared.table.Suffix.{Suffix}
 use Rattle.c_lexer.specs.declared.table.Suffix.TheVariants as suffix
-use Rattle.c_tokens.specs.declared.token.IntegerType.{IntegerType}
-use Rattle.c_tokens.specs.declared.token.IntegerType.TheVariants as type
-use Rattle.c_tokens.specs.declared.token.Keyword.{Keyword}
-use Rattle.c_tokens.specs.declared.token.Keyword.TheVariants as keyword
-use Rattle.c_tokens.specs.declared.token.Punctuator.{Punctuator}
-use Rattle.c_tokens.specs.declared.token.Punctuator.TheVariants as mark
+use Rattle.c_language.specs.declared.token.IntegerType.{IntegerType}
+use Rattle.c_language.specs.declared.token.IntegerType.TheVariants as type
+use Rattle.c_language.specs.declared.token.Keyword.{Keyword}
+use Rattle.c_language.specs.declared.token.Keyword.TheVariants as keyword
+use Rattle.c_language.specs.declared.token.Punctuator.{Punctuator}
+use Rattle.c_language.specs.declared.token.Punctuator.TheVariants as mark
 
 -- ---- words
 

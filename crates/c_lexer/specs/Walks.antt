@@ -11,7 +11,7 @@ use Rattle.c_lexer.specs.Reading.{Reading, read}
 use Rattle.c_lexer.specs.declared.attribute.Collected.{Collected}
 use Rattle.c_lexer.specs.declared.lexer.Lexer.{Lexer}
 use Rattle.c_lexer.specs.declared.piece.Lexeme.{Lexeme}
-use Rattle.c_tokens.specs.declared.token.Spot.{Spot}
+use Rattle.c_language.specs.declared.token.Spot.{Spot}
 use Rattle.c_lexer.specs.declared.walk.Here.{Here}
 use Rattle.c_lexer.specs.declared.walk.Walk.{Walk}
 

@@ -1,12 +1,12 @@
 //! Attributes of GNU C, which are no tokens: the word and its matched parentheses.
 
 ghost use Rattle.std.specs.Prelude.{◌≡◌, ◌-◌, List, [], ◌∷◌, length, false, if◌then◌else◌, OnOk, IsOkUnless};
-ghost use Rattle.c_tokens.specs.declared.token.Token.{Token};
+ghost use Rattle.c_language.specs.declared.token.Token.{Token};
 ghost use Rattle.c_lexer.specs.Attributes.{role_of};
 ghost use Rattle.c_lexer.specs.Collected.{Collects, IsNested};
 
 use crate::fault::LexFault;
-use c_tokens::{Punctuator, Token, TokenKind};
+use c_language::{Punctuator, Token, TokenKind};
 use std::alloc::Global;
 
 /// How a token takes part in attributes.

@@ -10,12 +10,12 @@ ghost use Rattle.c_lexer.specs.Fault.{Answers, Refused};
 ghost use Rattle.c_lexer.specs.Places.{located};
 ghost use Rattle.c_lexer.specs.Reading as spec;
 ghost use Rattle.c_lexer.specs.Standing.{IsPlaced, fault_byte};
-ghost use Rattle.c_tokens.specs.Standing.{StandInOrder};
+ghost use Rattle.c_language.specs.Standing.{StandInOrder};
 ghost use Rattle.c_lexer.specs.Division.{Element};
 ghost use Rattle.c_lexer.specs.Spelling.{Divides};
 ghost use Rattle.c_lexer.specs.declared.fault.LexFault.{LexFault as Fault};
-ghost use Rattle.c_tokens.specs.declared.token.Token.{Token};
-ghost use Rattle.c_tokens.specs.declared.token.Tokens.{Tokens as TokenList};
+ghost use Rattle.c_language.specs.declared.token.Token.{Token};
+ghost use Rattle.c_language.specs.declared.token.Tokens.{Tokens as TokenList};
 
 use crate::attribute::Collected;
 use crate::fault::LexFault;
@@ -23,7 +23,7 @@ use crate::meaning::meaning;
 use crate::piece::Lexeme;
 use crate::walk::{Here, Walk, here_at};
 use crate::words::{Words, name};
-use c_tokens::{Name, Place, Spot, Token, TokenKind, Tokens};
+use c_language::{Name, Place, Spot, Token, TokenKind, Tokens};
 use plain_data::Items;
 use std::alloc::Global;
 

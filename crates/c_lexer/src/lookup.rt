@@ -4,7 +4,7 @@ ghost use Rattle.std.specs.Prelude.{◌≡◌, ◌≤◌, length, map, IfSome};
 ghost use Rattle.c_lexer.specs.Tables as spec;
 
 use crate::table::{PUNCTUATORS, RESERVED, Reserved, SUFFIXES, Suffix};
-use c_tokens::Punctuator;
+use c_language::Punctuator;
 
 /// What stands beside a spelling in a table of C99 6.4.
 fn lookup<T: Copy>(mut table: &[(&[u8], T)], word: &[u8]) -> Option<T>

@@ -12,7 +12,7 @@ use crate::literal::unescape;
 use crate::number::{NumberFault, Numeric, number};
 use crate::piece::{Lexeme, Stray};
 use crate::words::Words;
-use c_tokens::TokenKind;
+use c_language::TokenKind;
 use plain_data::{Items, Shared};
 use std::alloc::Global;
 

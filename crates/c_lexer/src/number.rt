@@ -7,7 +7,7 @@ ghost use Rattle.c_lexer.specs.Number as spec;
 use crate::class::{Class, byte, is_in, past};
 use crate::lookup::suffix;
 use crate::table::{Length, Suffix};
-use c_tokens::{IntegerConstant, IntegerType};
+use c_language::{IntegerConstant, IntegerType};
 
 /// How an integer constant is written.
 #[derive(Clone, Copy, Debug)]

@@ -8,7 +8,7 @@ use crate::directive::{Directive, read_directive};
 use crate::literal::closing;
 use crate::lookup::punctuator;
 use crate::number::number_more;
-use c_tokens::Punctuator;
+use c_language::Punctuator;
 
 /// Why nothing begins at a byte.
 #[derive(Clone, Copy, Debug)]

@@ -1,6 +1,6 @@
 //! How keywords, punctuators, suffixes and escapes are spelled.
 
-use c_tokens::{Keyword, Punctuator};
+use c_language::{Keyword, Punctuator};
 
 /// What a word means that isn't an identifier.
 #[derive(Clone, Copy, Debug, PartialEq, Eq)]

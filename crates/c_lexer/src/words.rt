@@ -6,7 +6,7 @@ ghost use Rattle.c_lexer.specs.Meaning as spec;
 use crate::fault::LexFault;
 use crate::lookup::reserved;
 use crate::table::Reserved;
-use c_tokens::{Name, TokenKind};
+use c_language::{Name, TokenKind};
 use plain_data::{Items, Shared};
 use std::alloc::Global;
 use std::collections::HashMap;

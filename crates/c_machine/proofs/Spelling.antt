@@ -7,16 +7,16 @@ use Rattle.std.specs.Prelude.{All, slice_index}
 use Rattle.std.proofs.Math.Nat.{div-div-eq-div-mul, zero-div, mod-lt, mod-add-div, add-mul-mod_self_left, mod-eq_of_lt, mul_assoc, mul_comm}
 use Rattle.std.proofs.lemmas.Int.{to_z-of_z}
 use Rattle.std.proofs.lemmas.List.Elements.{All-from_get_or}
-use Rattle.bit_words.specs.declared.width.Width.{Width}
-use Rattle.bit_words.specs.declared.width.Width.TheVariants as w
-use Rattle.bit_words.specs.Words.{word, bits, from_bytes, to_bytes}
-use Rattle.bit_words.proofs.WordLaws.{word-word, from_bytes_below, from_bytes-to_bytes, length-to_bytes}
+use Rattle.plain_data.specs.declared.width.Width.{Width}
+use Rattle.plain_data.specs.declared.width.Width.TheVariants as w
+use Rattle.plain_data.specs.Words.{word, bits, from_bytes, to_bytes}
+use Rattle.plain_data.proofs.WordLaws.{word-word, from_bytes_below, from_bytes-to_bytes, length-to_bytes}
 use Rattle.c_store.specs.Store.{Store, spelt, lay, write, byte_of}
 use Rattle.c_store.proofs.Laws.{lay_same}
 use Rattle.c_memory.specs.Memories.{Holds}
-use Rattle.c_type_terms.specs.declared.ctype.IntegerKind.{IntegerKind}
-use Rattle.c_type_terms.specs.declared.ctype.IntegerKind.TheVariants as k
-use Rattle.c_type_terms.specs.Integers.{converted, is_zero, width_of, bits_of, bytes_of, is_bool, number_of, value_of_word}
+use Rattle.c_language.specs.declared.ctype.IntegerKind.{IntegerKind}
+use Rattle.c_language.specs.declared.ctype.IntegerKind.TheVariants as k
+use Rattle.c_language.specs.Integers.{converted, is_zero, width_of, bits_of, bytes_of, is_bool, number_of, value_of_word}
 
 -- a number as an enum keeps it
 pub kept : (z x : ℤ) → SFits w128 z → z ≡ x → to_z w128 (of_z w128 z) ≡ x

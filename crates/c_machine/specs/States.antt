@@ -1,9 +1,9 @@
 -- The state of the definition that the machine is, and what a call of the machine answers by it.
 use Rattle.std.specs.Prelude.{◌≡◌, ◌≤◌, ◌^◌, ℕ, ℤ, pos, negsuc, Bool, true, false, Option, Some, None, IsSome, Result, Ok, Err}
 use Rattle.std.specs.declared.alloc.AllocError.{AllocError}
-use Rattle.bit_words.specs.declared.run.Side.TheVariants as side
-use Rattle.bit_words.specs.declared.run.Happening.TheVariants.{Branch}
-use Rattle.c_type_terms.specs.Integers.{is_zero}
+use Rattle.plain_data.specs.declared.run.Side.TheVariants as side
+use Rattle.plain_data.specs.declared.run.Happening.TheVariants.{Branch}
+use Rattle.c_language.specs.Integers.{is_zero}
 use Rattle.c_means.specs.Operators as means
 use Rattle.c_means.specs.Parts.{State, Outcome, note}
 use Rattle.c_memory.specs.Memories.{store_of, initial_bytes}

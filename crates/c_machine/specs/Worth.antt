@@ -1,8 +1,8 @@
 -- What the data of the machine are worth.
 use Rattle.std.specs.Prelude.{ℕ, ℤ, pos, Option, Some}
-use Rattle.bit_words.specs.Words.{from_bytes}
-use Rattle.c_type_terms.specs.declared.class.Class.{Class}
-use Rattle.c_type_terms.specs.declared.class.Class.TheVariants as class
+use Rattle.plain_data.specs.Words.{from_bytes}
+use Rattle.c_language.specs.declared.class.Class.{Class}
+use Rattle.c_language.specs.declared.class.Class.TheVariants as class
 use Rattle.c_machine.specs.declared.value.Value.{Value}
 use Rattle.c_machine.specs.declared.value.Value.TheVariants.{Number, Bytes}
 

@@ -9,10 +9,9 @@ ghost use Rattle.c_machine.specs.States.{state, Runs};
 
 use crate::halt::Halt;
 use crate::machine::Machine;
-use bit_words::{Bytes, Events, Undefined};
+use c_language::Class;
 use c_means::Kind;
-use c_type_terms::Class;
-use plain_data::Items;
+use plain_data::{Bytes, Events, Items, Undefined};
 use std::alloc::AllocError;
 use std::mem::replace;
 

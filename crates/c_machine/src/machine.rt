@@ -1,6 +1,6 @@
 //! The state in which a program runs.
 ghost use Rattle.std.specs.Prelude.{◌≡◌, OnOk};
-ghost use Rattle.bit_words.specs.declared.run.Finish.TheVariants.{Stopped};
+ghost use Rattle.plain_data.specs.declared.run.Finish.TheVariants.{Stopped};
 ghost use Rattle.c_means.specs.declared.kind.Kind.TheVariants.{Ended};
 ghost use Rattle.c_means.specs.Parts as parts;
 ghost use Rattle.c_memory.specs.Memories.{initial_bytes};
@@ -11,10 +11,9 @@ ghost use Rattle.c_machine.specs.Worth.{worth};
 
 use crate::halt::Halt;
 use crate::value::Value;
-use bit_words::{Bytes, Event, Events, Finish, Happening, Side, Undefined, World};
 use c_means::Kind;
 use c_memory::Memory;
-use plain_data::Items;
+use plain_data::{Bytes, Event, Events, Finish, Happening, Items, Side, Undefined, World};
 use std::alloc::{AllocError, Global};
 
 /// Where a run stands, its memory, and what the function that runs has printed, noted and met since it was called.

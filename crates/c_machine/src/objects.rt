@@ -1,6 +1,6 @@
 //! Objects read and written (C99 6.3.2.1, 6.5.3.2p4, 6.5.16.1).
 ghost use Rattle.std.specs.Prelude.{◌≡◌, ◌≤◌, ◌+◌, ◌^◌, ◌||◌, not, pos, IsTrue, IfOk, OnOk, None, unsigned_abs};
-ghost use Rattle.c_type_terms.specs.declared.class.Class.TheVariants as class;
+ghost use Rattle.c_language.specs.declared.class.Class.TheVariants as class;
 ghost use Rattle.c_store.specs.Store.{offset_of, read, write};
 ghost use Rattle.c_store.specs.Access as access;
 ghost use Rattle.c_means.specs.Objects as objects;
@@ -12,8 +12,8 @@ ghost use Rattle.c_machine.specs.Worth.{worth, IsNumber, IsScalar};
 use crate::halt::Halt;
 use crate::machine::Machine;
 use crate::value::Value;
-use bit_words::{Undefined, wrap};
-use c_type_terms::{Class, IntegerKind};
+use c_language::{Class, IntegerKind};
+use plain_data::{Undefined, wrap};
 use std::alloc::AllocError;
 
 /// How many addresses an object has at most.

@@ -7,9 +7,9 @@ ghost use Rattle.c_machine.specs.States.{state, Runs, seen, HasNumber};
 use crate::halt::Halt;
 use crate::machine::Machine;
 use crate::operand::Operand;
-use bit_words::Undefined;
-use c_tree::{BinaryOperator, UnaryOperator};
+use c_language::{BinaryOperator, UnaryOperator};
 use c_type_forms::{turned, worked};
+use plain_data::Undefined;
 
 impl Machine {
     fn or_stop(&mut self, at: u32, answer: Result<i128, Undefined>) -> Result<i128, Halt>

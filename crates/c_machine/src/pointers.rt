@@ -6,7 +6,7 @@ ghost use Rattle.c_machine.specs.States.{state, Runs, Leads};
 
 use crate::halt::Halt;
 use crate::machine::Machine;
-use bit_words::Undefined;
+use plain_data::Undefined;
 
 /// The number as an address of 64 bits.
 fn as_address(number: i128) -> Option<u64>

@@ -1,14 +1,14 @@
 //! Values of C as data.
 ghost use Rattle.std.specs.Prelude.{◌≡◌, ◌≤◌, ◌<◌, ◌^◌, ◌/◌, ◌%◌, pos, length, IfOk, unsigned_abs};
-ghost use Rattle.bit_words.specs.Words.{word, from_bytes, to_bytes};
-ghost use Rattle.bit_words.specs.declared.width.Width.TheVariants.{W64};
-ghost use Rattle.c_type_terms.specs.Integers.{is_zero};
+ghost use Rattle.plain_data.specs.Words.{word, from_bytes, to_bytes};
+ghost use Rattle.plain_data.specs.declared.width.Width.TheVariants.{W64};
+ghost use Rattle.c_language.specs.Integers.{is_zero};
 ghost use Rattle.c_means.specs.Values as values;
 ghost use Rattle.c_machine.specs.Worth.{worth, IsNumber, IsScalar};
 
 use crate::objects::bytes_as;
-use bit_words::{Bytes, Width, wrap};
-use c_type_terms::Class;
+use c_language::Class;
+use plain_data::{Bytes, Width, wrap};
 use std::alloc::{AllocError, Global};
 
 /// A value: a number or an address, or the bytes of a structure or union, the least first.

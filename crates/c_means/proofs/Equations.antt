@@ -1,31 +1,31 @@
 -- What each kind of tree is worth, in terms of what the trees in it are worth.
 use Rattle.std.proofs.Common.{◌≡◌, ℕ, ℤ, List, Option, Bool}
 use Rattle.std.specs.Prelude.{map, option_map}
-use Rattle.c_tokens.specs.declared.token.IntegerConstant.{IntegerConstant}
-use Rattle.c_tree.specs.declared.expr.UnaryOperator.{UnaryOperator}
-use Rattle.c_tree.specs.declared.expr.PostfixOperator.{PostfixOperator}
-use Rattle.c_tree.specs.declared.expr.BinaryOperator.{BinaryOperator}
-use Rattle.c_tree.specs.declared.expr.StorageClass.{StorageClass}
-use Rattle.c_tree.specs.declared.expr.Qualifier.{Qualifier}
-use Rattle.c_tree.specs.declared.expr.TypeWord.{TypeWord}
-use Rattle.c_tree.specs.declared.expr.AggregateKind.{AggregateKind}
-use Rattle.c_tree.specs.declared.expr.ArrayWord.{ArrayWord}
-use Rattle.c_tree.specs.declared.expr.TagName.{TagName}
-use Rattle.c_tree.specs.declared.expr.Expr.{Expr}
-use Rattle.c_tree.specs.declared.expr.Declarator.{Declarator}
-use Rattle.c_tree.specs.declared.expr.Enumerator.{Enumerator}
-use Rattle.c_tree.specs.declared.expr.MemberDeclaration.{MemberDeclaration}
-use Rattle.c_tree.specs.declared.expr.Parameter.{Parameter}
-use Rattle.c_tree.specs.declared.expr.TypeName.{TypeName}
-use Rattle.c_tree.specs.declared.expr.Expr.TheVariants as expr
-use Rattle.c_tree.specs.declared.expr.Specifier.TheVariants as specifier
-use Rattle.c_tree.specs.declared.expr.Field.TheVariants as field
-use Rattle.c_tree.specs.declared.expr.Declarator.TheVariants as declarator
-use Rattle.c_tree.specs.declared.expr.Declarator.TheOpen as open_
-use Rattle.c_tree.proofs.Folds as eq
-use Rattle.c_says.specs.Scopes.{Name}
-use Rattle.c_says.specs.Declares.{declarator_step, field_step, specifier_step, enumerator_step, member_step}
-use Rattle.c_says.specs.Declares.{parameter_step, type_name_step}
+use Rattle.c_language.specs.declared.token.IntegerConstant.{IntegerConstant}
+use Rattle.c_language.specs.declared.expr.UnaryOperator.{UnaryOperator}
+use Rattle.c_language.specs.declared.expr.PostfixOperator.{PostfixOperator}
+use Rattle.c_language.specs.declared.expr.BinaryOperator.{BinaryOperator}
+use Rattle.c_language.specs.declared.expr.StorageClass.{StorageClass}
+use Rattle.c_language.specs.declared.expr.Qualifier.{Qualifier}
+use Rattle.c_language.specs.declared.expr.TypeWord.{TypeWord}
+use Rattle.c_language.specs.declared.expr.AggregateKind.{AggregateKind}
+use Rattle.c_language.specs.declared.expr.ArrayWord.{ArrayWord}
+use Rattle.c_language.specs.declared.expr.TagName.{TagName}
+use Rattle.c_language.specs.declared.expr.Expr.{Expr}
+use Rattle.c_language.specs.declared.expr.Declarator.{Declarator}
+use Rattle.c_language.specs.declared.expr.Enumerator.{Enumerator}
+use Rattle.c_language.specs.declared.expr.MemberDeclaration.{MemberDeclaration}
+use Rattle.c_language.specs.declared.expr.Parameter.{Parameter}
+use Rattle.c_language.specs.declared.expr.TypeName.{TypeName}
+use Rattle.c_language.specs.declared.expr.Expr.TheVariants as expr
+use Rattle.c_language.specs.declared.expr.Specifier.TheVariants as specifier
+use Rattle.c_language.specs.declared.expr.Field.TheVariants as field
+use Rattle.c_language.specs.declared.expr.Declarator.TheVariants as declarator
+use Rattle.c_language.specs.declared.expr.Declarator.TheOpen as open_
+use Rattle.c_language.proofs.Folds as eq
+use Rattle.c_language.specs.Scopes.{Name}
+use Rattle.c_language.specs.Declares.{declarator_step, field_step, specifier_step, enumerator_step, member_step}
+use Rattle.c_language.specs.Declares.{parameter_step, type_name_step}
 use Rattle.c_means.specs.Trees.{ExprMeans, said, meaning, part_step, part, declarator_said, specifier_said, field_said}
 use Rattle.c_means.specs.Trees.{enumerator_said, member_said, parameter_said, type_name_said}
 

@@ -2,41 +2,41 @@
 use Rattle.std.proofs.Common.{◌≡◌, ℕ, List, [], ◌∷◌, Option, Some, None, Bool, true, false, refl, sym, ap, ◌∙◌}
 use Rattle.std.proofs.Math.Path.{fun_ext}
 use Rattle.std.specs.Prelude.{map, option_map}
-use Rattle.c_tree.specs.declared.expr.ArrayWord.{ArrayWord}
-use Rattle.c_tree.specs.declared.expr.BinaryOperator.{BinaryOperator}
-use Rattle.c_tree.specs.declared.expr.BinaryOperator.TheVariants as o
-use Rattle.c_tree.specs.declared.expr.Declarator.{Declarator}
-use Rattle.c_tree.specs.declared.expr.Declarator.TheOpen as open_
-use Rattle.c_tree.specs.declared.expr.Enumerator.{Enumerator}
-use Rattle.c_tree.specs.declared.expr.Expr.{Expr}
-use Rattle.c_tree.specs.declared.expr.Field.{Field}
-use Rattle.c_tree.specs.declared.expr.MemberDeclaration.{MemberDeclaration}
-use Rattle.c_tree.specs.declared.expr.Parameter.{Parameter}
-use Rattle.c_tree.specs.declared.expr.PostfixOperator.{PostfixOperator}
-use Rattle.c_tree.specs.declared.expr.PostfixOperator.TheVariants as postfix_
-use Rattle.c_tree.specs.declared.expr.Specifier.{Specifier}
-use Rattle.c_tree.specs.declared.expr.TypeName.{TypeName}
-use Rattle.c_tree.specs.declared.expr.UnaryOperator.{UnaryOperator}
-use Rattle.c_tree.specs.declared.expr.UnaryOperator.TheVariants as u
-use Rattle.c_tree.specs.Folds.{DeclaratorLayer, FieldLayer, SpecifierLayer, MemberDeclarationLayer, ParameterLayer}
-use Rattle.c_tree.specs.Folds.{TypeNameLayer}
-use Rattle.c_tree.proofs.Induction.{Each, Maybe, Steps, of_expr, of_type_name, of_declarator, of_specifier}
-use Rattle.c_tree.proofs.Induction.{of_parameter, of_field, of_enumerator, of_member_declaration}
-use Rattle.c_says.specs.declared.scope.Entry.{Entry}
-use Rattle.c_says.specs.declared.scope.Means.{Means}
-use Rattle.c_says.specs.declared.scope.Means.TheVariants as means
-use Rattle.c_says.specs.Scopes.{Name, Scope, look_up}
-use Rattle.c_says.specs.Typing.{Typed}
-use Rattle.c_says.specs.Typing as says
-use Rattle.c_says.specs.Declares.{Says, Counting, DeclaratorSays, FieldSays, NamedSays, Laying, Saying, TypeSays}
-use Rattle.c_says.specs.Declares.{declarator_step, field_step}
-use Rattle.c_says.specs.Declares.{specifier_step, member_step, parameter_step, type_name_step}
-use Rattle.c_says.specs.Declares.{to_array, qualifiers_among, counted_by, enumerates_by, enumerates_typed}
-use Rattle.c_says.specs.Declares.{bits_declared, bits_wide}
-use Rattle.c_says.specs.Trees.{ExprSays, itself, typed, typed_step, declarator_says, specifier_says, field_says}
-use Rattle.c_says.specs.Trees.{enumerator_says, member_says, parameter_says, type_name_says}
-use Rattle.c_says.specs.Trees as says_trees
-use Rattle.c_says.proofs.Equations as types
+use Rattle.c_language.specs.declared.expr.ArrayWord.{ArrayWord}
+use Rattle.c_language.specs.declared.expr.BinaryOperator.{BinaryOperator}
+use Rattle.c_language.specs.declared.expr.BinaryOperator.TheVariants as o
+use Rattle.c_language.specs.declared.expr.Declarator.{Declarator}
+use Rattle.c_language.specs.declared.expr.Declarator.TheOpen as open_
+use Rattle.c_language.specs.declared.expr.Enumerator.{Enumerator}
+use Rattle.c_language.specs.declared.expr.Expr.{Expr}
+use Rattle.c_language.specs.declared.expr.Field.{Field}
+use Rattle.c_language.specs.declared.expr.MemberDeclaration.{MemberDeclaration}
+use Rattle.c_language.specs.declared.expr.Parameter.{Parameter}
+use Rattle.c_language.specs.declared.expr.PostfixOperator.{PostfixOperator}
+use Rattle.c_language.specs.declared.expr.PostfixOperator.TheVariants as postfix_
+use Rattle.c_language.specs.declared.expr.Specifier.{Specifier}
+use Rattle.c_language.specs.declared.expr.TypeName.{TypeName}
+use Rattle.c_language.specs.declared.expr.UnaryOperator.{UnaryOperator}
+use Rattle.c_language.specs.declared.expr.UnaryOperator.TheVariants as u
+use Rattle.c_language.specs.Folds.{DeclaratorLayer, FieldLayer, SpecifierLayer, MemberDeclarationLayer, ParameterLayer}
+use Rattle.c_language.specs.Folds.{TypeNameLayer}
+use Rattle.c_language.proofs.Induction.{Each, Maybe, Steps, of_expr, of_type_name, of_declarator, of_specifier}
+use Rattle.c_language.proofs.Induction.{of_parameter, of_field, of_enumerator, of_member_declaration}
+use Rattle.c_language.specs.declared.scope.Entry.{Entry}
+use Rattle.c_language.specs.declared.scope.Means.{Means}
+use Rattle.c_language.specs.declared.scope.Means.TheVariants as means
+use Rattle.c_language.specs.Scopes.{Name, Scope, look_up}
+use Rattle.c_language.specs.Typing.{Typed}
+use Rattle.c_language.specs.Typing as says
+use Rattle.c_language.specs.Declares.{Says, Counting, DeclaratorSays, FieldSays, NamedSays, Laying, Saying, TypeSays}
+use Rattle.c_language.specs.Declares.{declarator_step, field_step}
+use Rattle.c_language.specs.Declares.{specifier_step, member_step, parameter_step, type_name_step}
+use Rattle.c_language.specs.Declares.{to_array, qualifiers_among, counted_by, enumerates_by, enumerates_typed}
+use Rattle.c_language.specs.Declares.{bits_declared, bits_wide}
+use Rattle.c_language.specs.Trees.{ExprSays, itself, typed, typed_step, declarator_says, specifier_says, field_says}
+use Rattle.c_language.specs.Trees.{enumerator_says, member_says, parameter_says, type_name_says}
+use Rattle.c_language.specs.Trees as says_trees
+use Rattle.c_language.proofs.Equations as types
 use Rattle.c_means.specs.Parts.{Part}
 use Rattle.c_means.specs.Expressions.{Passed, arguments_said, binary, call, call_of, designated, identifier, member_by}
 use Rattle.c_means.specs.Expressions.{named_as, postfix, unary}

@@ -2,3 +2,15 @@ pub mod Equations
 pub mod Scene
 pub mod Rows
 pub mod Fusion
+pub mod RunEquations
+pub mod NoteEquations
+pub mod RunFusion
+pub mod RunScene
+pub mod RunRows
+pub mod MoreRows
+pub mod LogRows
+pub mod PreludeRows
+pub mod ControlRows
+pub mod QuickTexts
+pub mod QuickRuns
+pub mod NumberRows

@@ -1,23 +1,23 @@
 -- Worked rows: what expressions come to, in the scene of `Scene`.
 use Rattle.std.proofs.Common.{◌≡◌, ℕ, pos, [], ◌∷◌, Some, None, Err, ap}
-use Rattle.bit_words.specs.declared.run.Finish.TheVariants as finish
-use Rattle.bit_words.specs.declared.run.Happening.TheVariants as happening
-use Rattle.bit_words.specs.declared.run.Side.TheVariants as side
-use Rattle.bit_words.specs.declared.run.Undefined.TheVariants as undefined
-use Rattle.c_tokens.specs.declared.token.IntegerType.TheVariants as i
-use Rattle.c_tree.specs.declared.expr.AggregateKind.TheVariants as aggregate_kind
-use Rattle.c_tree.specs.declared.expr.BinaryOperator.TheVariants as o
-use Rattle.c_tree.specs.declared.expr.TagName.{TagName}
-use Rattle.c_tree.specs.Folds.{fold_field}
-use Rattle.c_says.specs.Scopes.{Name}
-use Rattle.c_says.specs.Declares.{Says}
-use Rattle.c_says.proofs.Built.{Built}
-use Rattle.c_tree.specs.declared.expr.UnaryOperator.TheVariants as u
-use Rattle.c_tree.specs.declared.expr.TypeWord.TheVariants as w
-use Rattle.c_type_terms.specs.Integers.{converted}
-use Rattle.c_type_terms.specs.Operators.{exact}
+use Rattle.plain_data.specs.declared.run.Finish.TheVariants as finish
+use Rattle.plain_data.specs.declared.run.Happening.TheVariants as happening
+use Rattle.plain_data.specs.declared.run.Side.TheVariants as side
+use Rattle.plain_data.specs.declared.run.Undefined.TheVariants as undefined
+use Rattle.c_language.specs.declared.token.IntegerType.TheVariants as i
+use Rattle.c_language.specs.declared.expr.AggregateKind.TheVariants as aggregate_kind
+use Rattle.c_language.specs.declared.expr.BinaryOperator.TheVariants as o
+use Rattle.c_language.specs.declared.expr.TagName.{TagName}
+use Rattle.c_language.specs.Folds.{fold_field}
+use Rattle.c_language.specs.Scopes.{Name}
+use Rattle.c_language.specs.Declares.{Says}
+use Rattle.c_language.proofs.Built.{Built}
+use Rattle.c_language.specs.declared.expr.UnaryOperator.TheVariants as u
+use Rattle.c_language.specs.declared.expr.TypeWord.TheVariants as w
+use Rattle.c_language.specs.Integers.{converted}
+use Rattle.c_language.specs.Operators.{exact}
 use Rattle.c_means.specs.declared.kind.Kind.TheVariants as kind
-use Rattle.c_says.proofs.Built as built
+use Rattle.c_language.proofs.Built as built
 use Rattle.c_means.specs.Trees.{ExprMeans, part, meaning}
 use Rattle.c_means.proofs.Scene.{OfExpr, OfMember, OfTypeName, a', b', c', e', f', g', h', k', m', p', r', s', t', u'}
 use Rattle.c_means.proofs.Scene.{q', v', w', x', y', z'}

@@ -4,29 +4,29 @@ use Rattle.std.proofs.Common.{ℕ, ◌+◌, ℤ, pos, negsuc, List, [], ◌∷�
 use Rattle.std.proofs.Common.{Result, Ok, Err}
 use Rattle.std.specs.Prelude.{◌||◌}
 use Rattle.std.specs.Str.{bytes_eq}
-use Rattle.bit_words.specs.declared.run.Event.{Event}
-use Rattle.bit_words.specs.declared.run.Finish.TheVariants as finish
-use Rattle.bit_words.specs.declared.run.Happening.{Happening}
-use Rattle.bit_words.specs.declared.run.Undefined.{Undefined}
-use Rattle.c_tokens.specs.declared.token.IntegerType.TheVariants as i
-use Rattle.c_tree.specs.declared.expr.AggregateKind.TheVariants as kind_
-use Rattle.c_tree.specs.declared.expr.BinaryOperator.{BinaryOperator}
-use Rattle.c_tree.specs.declared.expr.PostfixOperator.TheVariants as postfix_
-use Rattle.c_tree.specs.declared.expr.UnaryOperator.{UnaryOperator}
-use Rattle.c_tree.specs.declared.expr.UnaryOperator.TheVariants as u
-use Rattle.c_tree.specs.declared.expr.TypeWord.{TypeWord}
-use Rattle.c_tree.specs.declared.expr.TypeWord.TheVariants as w
-use Rattle.c_tree.specs.Folds.{fold_expr, fold_declarator, fold_specifier, fold_member, fold_type_name}
+use Rattle.plain_data.specs.declared.run.Event.{Event}
+use Rattle.plain_data.specs.declared.run.Finish.TheVariants as finish
+use Rattle.plain_data.specs.declared.run.Happening.{Happening}
+use Rattle.plain_data.specs.declared.run.Undefined.{Undefined}
+use Rattle.c_language.specs.declared.token.IntegerType.TheVariants as i
+use Rattle.c_language.specs.declared.expr.AggregateKind.TheVariants as kind_
+use Rattle.c_language.specs.declared.expr.BinaryOperator.{BinaryOperator}
+use Rattle.c_language.specs.declared.expr.PostfixOperator.TheVariants as postfix_
+use Rattle.c_language.specs.declared.expr.UnaryOperator.{UnaryOperator}
+use Rattle.c_language.specs.declared.expr.UnaryOperator.TheVariants as u
+use Rattle.c_language.specs.declared.expr.TypeWord.{TypeWord}
+use Rattle.c_language.specs.declared.expr.TypeWord.TheVariants as w
+use Rattle.c_language.specs.Folds.{fold_expr, fold_declarator, fold_specifier, fold_member, fold_type_name}
 use Rattle.c_store.specs.declared.object.Object.{Object}
 use Rattle.c_store.specs.declared.object.ObjectKind.{ObjectKind}
 use Rattle.c_store.specs.declared.object.ObjectKind.TheVariants as object
 use Rattle.c_store.specs.Store.{Store, initial, make, end}
-use Rattle.c_says.specs.declared.scope.Fault.{Fault}
-use Rattle.c_says.specs.Scopes.{Name, Scope, empty, enter}
-use Rattle.c_says.specs.Declares.{Says}
-use Rattle.c_says.specs.Declarations.{declaration_by}
-use Rattle.c_says.proofs.Built.{Built}
-use Rattle.c_says.proofs.Built as built
+use Rattle.c_language.specs.declared.scope.Fault.{Fault}
+use Rattle.c_language.specs.Scopes.{Name, Scope, empty, enter}
+use Rattle.c_language.specs.Declares.{Says}
+use Rattle.c_language.specs.Declarations.{declaration_by}
+use Rattle.c_language.proofs.Built.{Built}
+use Rattle.c_language.proofs.Built as built
 use Rattle.c_means.specs.declared.kind.Kind.{Kind}
 use Rattle.c_means.specs.declared.kind.Kind.TheVariants as kind
 use Rattle.c_means.specs.Parts.{State, Outcome, Env, Calls, Level, entered, print}

@@ -5,3 +5,15 @@ pub mod Pointers
 pub mod Operators
 pub mod Expressions
 pub mod Trees
+pub mod Notes
+pub mod Items
+pub mod Initials
+pub mod Statements
+pub mod Rules
+pub mod Calls
+pub mod Names
+pub mod Programs
+pub mod Runs
+pub mod Checks
+pub mod Prelude
+pub mod Units

@@ -5,13 +5,13 @@
 -- live object, which is undefined at the lvalue's own token, or of a string literal, to write which is undefined at
 -- the operator that writes.
 use Rattle.std.specs.Prelude.{ℕ, ℤ, pos, Bool, true, false, cond, not, ◌||◌, Ok}
-use Rattle.bit_words.specs.declared.run.Undefined.TheVariants.{Dereference, LiteralWrite}
-use Rattle.c_type_terms.specs.declared.class.Class.{Class}
-use Rattle.c_type_terms.specs.declared.class.Class.TheVariants as class
-use Rattle.c_type_terms.specs.declared.tables.Tables.{Tables}
+use Rattle.plain_data.specs.declared.run.Undefined.TheVariants.{Dereference, LiteralWrite}
+use Rattle.c_language.specs.declared.class.Class.{Class}
+use Rattle.c_language.specs.declared.class.Class.TheVariants as class
+use Rattle.c_language.specs.declared.tables.Tables.{Tables}
 use Rattle.c_store.specs.Store.{Store, read, write}
 use Rattle.c_store.specs.Access.{can_access, can_write}
-use Rattle.c_says.specs.Typing.{Typed, type_of}
+use Rattle.c_language.specs.Typing.{Typed, type_of}
 use Rattle.c_means.specs.Parts.{State, Outcome, stop, with_store}
 use Rattle.c_means.specs.Values.{class_in, bytes_of, converted_to, value_of_bytes, bytes_of_value}
 

@@ -2,17 +2,17 @@
 -- token.
 use Rattle.std.specs.Prelude.{ℕ, ℤ, pos, neg_ℤ, nat_eq, nat_le, nat_lt, Bool, true, false, cond, not, Option, Some}
 use Rattle.std.specs.Prelude.{None, Ok}
-use Rattle.c_tree.specs.declared.expr.BinaryOperator.{BinaryOperator}
-use Rattle.c_tree.specs.declared.expr.BinaryOperator.TheVariants as o
-use Rattle.c_tree.specs.declared.expr.UnaryOperator.{UnaryOperator}
-use Rattle.c_type_terms.specs.declared.ctype.CType.{CType}
-use Rattle.c_type_terms.specs.declared.ctype.IntegerKind.{IntegerKind}
-use Rattle.c_type_terms.specs.declared.ctype.IntegerKind.TheVariants as k
-use Rattle.c_type_terms.specs.declared.tables.Tables.{Tables}
-use Rattle.c_type_terms.specs.Types.{target_of, kind_of}
-use Rattle.c_type_terms.specs.Integers.{promoted, usual, is_zero, number_of}
-use Rattle.c_type_terms.specs.Operators.{Answer}
-use Rattle.c_says.specs.Typing.{Typed, type_of, used, worked, turned}
+use Rattle.c_language.specs.declared.expr.BinaryOperator.{BinaryOperator}
+use Rattle.c_language.specs.declared.expr.BinaryOperator.TheVariants as o
+use Rattle.c_language.specs.declared.expr.UnaryOperator.{UnaryOperator}
+use Rattle.c_language.specs.declared.ctype.CType.{CType}
+use Rattle.c_language.specs.declared.ctype.IntegerKind.{IntegerKind}
+use Rattle.c_language.specs.declared.ctype.IntegerKind.TheVariants as k
+use Rattle.c_language.specs.declared.tables.Tables.{Tables}
+use Rattle.c_language.specs.Types.{target_of, kind_of}
+use Rattle.c_language.specs.Integers.{promoted, usual, is_zero, number_of}
+use Rattle.c_language.specs.Operators.{Answer}
+use Rattle.c_language.specs.Typing.{Typed, type_of, used, worked, turned}
 use Rattle.c_means.specs.Parts.{State, Outcome, or_stop, refused}
 use Rattle.c_means.specs.Values.{address, bytes_of}
 use Rattle.c_means.specs.Pointers.{moved, ordered, apart}

@@ -1,17 +1,17 @@
 -- What parts of a program are worth: states and how they follow one another, `Level`, in which a function runs, and
 -- `Part`, what an expression says, where its places lie, and what it does.
 use Rattle.std.specs.Prelude.{ℕ, ◌+◌, ℤ, pos, Bool, List, [], ◌∷◌, ◌++◌, length, Option, None, Result, Ok, Err}
-use Rattle.bit_words.specs.declared.run.Undefined.{Undefined}
-use Rattle.bit_words.specs.declared.run.Happening.{Happening}
-use Rattle.bit_words.specs.declared.run.Event.{Event}
-use Rattle.bit_words.specs.declared.run.Finish.{Finish}
-use Rattle.bit_words.specs.declared.run.Finish.TheVariants as finish
-use Rattle.c_type_terms.specs.declared.ctype.CType.{CType}
-use Rattle.c_type_terms.specs.Operators.{Answer}
+use Rattle.plain_data.specs.declared.run.Undefined.{Undefined}
+use Rattle.plain_data.specs.declared.run.Happening.{Happening}
+use Rattle.plain_data.specs.declared.run.Event.{Event}
+use Rattle.plain_data.specs.declared.run.Finish.{Finish}
+use Rattle.plain_data.specs.declared.run.Finish.TheVariants as finish
+use Rattle.c_language.specs.declared.ctype.CType.{CType}
+use Rattle.c_language.specs.Operators.{Answer}
 use Rattle.c_store.specs.Store.{Store}
-use Rattle.c_says.specs.declared.scope.Entry.{Entry}
-use Rattle.c_says.specs.Scopes.{Name, Scope}
-use Rattle.c_says.specs.Typing.{Typed}
+use Rattle.c_language.specs.declared.scope.Entry.{Entry}
+use Rattle.c_language.specs.Scopes.{Name, Scope}
+use Rattle.c_language.specs.Typing.{Typed}
 use Rattle.c_means.specs.declared.kind.Kind.{Kind}
 use Rattle.c_means.specs.declared.kind.Kind.TheVariants as kind
 

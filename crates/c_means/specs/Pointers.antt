@@ -1,8 +1,8 @@
 -- Pointers moved, compared and subtracted (C99 6.5.6p7 to p9, 6.5.8p5, 6.5.9p6): undefined where an object is left, or
 -- two are mixed.
 use Rattle.std.specs.Prelude.{ℕ, zero, suc, ℤ, pos, negsuc, ◌+ℤ◌, ◌-ℤ◌, ◌*ℤ◌, int_div, Bool, cond, Ok}
-use Rattle.bit_words.specs.declared.run.Undefined.TheVariants.{PointerRange, PointerOrder}
-use Rattle.c_type_terms.specs.Integers.{number_of}
+use Rattle.plain_data.specs.declared.run.Undefined.TheVariants.{PointerRange, PointerOrder}
+use Rattle.c_language.specs.Integers.{number_of}
 use Rattle.c_store.specs.Access.{in_one_object}
 use Rattle.c_means.specs.Parts.{State, Outcome, stop}
 

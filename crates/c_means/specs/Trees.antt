@@ -1,21 +1,21 @@
 -- What the expressions of C do: one fold over the whole syntax. `part` is what an expression is worth in a scope; what
 -- declares, and stands in expressions, says what it says to the types.
 use Rattle.std.specs.Prelude.{List, [], ◌∷◌}
-use Rattle.c_tree.specs.declared.expr.Declarator.{Declarator}
-use Rattle.c_tree.specs.declared.expr.Enumerator.{Enumerator}
-use Rattle.c_tree.specs.declared.expr.Expr.{Expr}
-use Rattle.c_tree.specs.declared.expr.Field.{Field}
-use Rattle.c_tree.specs.declared.expr.MemberDeclaration.{MemberDeclaration}
-use Rattle.c_tree.specs.declared.expr.Parameter.{Parameter}
-use Rattle.c_tree.specs.declared.expr.Specifier.{Specifier}
-use Rattle.c_tree.specs.declared.expr.TypeName.{TypeName}
-use Rattle.c_tree.specs.declared.expr.Declarator.TheOpen as open_
-use Rattle.c_tree.specs.Folds.{Algebra, ExprLayer, fold_declarator, fold_expr, fold_field, fold_specifier}
-use Rattle.c_tree.specs.Folds.{fold_enumerator, fold_member, fold_parameter, fold_type_name}
-use Rattle.c_says.specs.Scopes.{Scope, look_up}
-use Rattle.c_says.specs.Typing.{Typed}
-use Rattle.c_says.specs.Declares.{Says, DeclaratorSays, NamedSays, TypeSays, Laying, FieldSays, Saying, Counting}
-use Rattle.c_says.specs.Trees.{saying}
+use Rattle.c_language.specs.declared.expr.Declarator.{Declarator}
+use Rattle.c_language.specs.declared.expr.Enumerator.{Enumerator}
+use Rattle.c_language.specs.declared.expr.Expr.{Expr}
+use Rattle.c_language.specs.declared.expr.Field.{Field}
+use Rattle.c_language.specs.declared.expr.MemberDeclaration.{MemberDeclaration}
+use Rattle.c_language.specs.declared.expr.Parameter.{Parameter}
+use Rattle.c_language.specs.declared.expr.Specifier.{Specifier}
+use Rattle.c_language.specs.declared.expr.TypeName.{TypeName}
+use Rattle.c_language.specs.declared.expr.Declarator.TheOpen as open_
+use Rattle.c_language.specs.Folds.{Algebra, ExprLayer, fold_declarator, fold_expr, fold_field, fold_specifier}
+use Rattle.c_language.specs.Folds.{fold_enumerator, fold_member, fold_parameter, fold_type_name}
+use Rattle.c_language.specs.Scopes.{Scope, look_up}
+use Rattle.c_language.specs.Typing.{Typed}
+use Rattle.c_language.specs.Declares.{Says, DeclaratorSays, NamedSays, TypeSays, Laying, FieldSays, Saying, Counting}
+use Rattle.c_language.specs.Trees.{saying}
 use Rattle.c_means.specs.Parts.{Part}
 use Rattle.c_means.specs.Expressions.{integer_constant, floating_constant, character_constant, string_literal}
 use Rattle.c_means.specs.Expressions.{function_name, identifier, subscript, call, member, arrow, postfix, unary}

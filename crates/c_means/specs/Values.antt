@@ -1,16 +1,16 @@
 -- Values as whole numbers (C99 6.2.6, 6.3): of an integer type the number itself, of a pointer its address, of a
 -- structure or union the number that its bytes spell, the least first.
 use Rattle.std.specs.Prelude.{ℕ, ◌/◌, ◌%◌, ◌^◌, ℤ, pos, Option, Some, None, unwrap_or, unsigned_abs}
-use Rattle.bit_words.specs.declared.width.Width.TheVariants as width
-use Rattle.bit_words.specs.Words.{word}
-use Rattle.c_type_terms.specs.declared.class.Class.{Class}
-use Rattle.c_type_terms.specs.declared.class.Class.TheVariants as class
-use Rattle.c_type_terms.specs.declared.ctype.CType.{CType}
-use Rattle.c_type_terms.specs.declared.tables.Tables.{Tables}
-use Rattle.c_type_terms.specs.Types.{class_of}
-use Rattle.c_type_terms.specs.Integers.{width_of, value_of_word, converted}
-use Rattle.c_type_terms.specs.Integers.{bytes_of as bytes_of_kind}
-use Rattle.c_type_terms.specs.Layouts.{size_of, pointer_bytes}
+use Rattle.plain_data.specs.declared.width.Width.TheVariants as width
+use Rattle.plain_data.specs.Words.{word}
+use Rattle.c_language.specs.declared.class.Class.{Class}
+use Rattle.c_language.specs.declared.class.Class.TheVariants as class
+use Rattle.c_language.specs.declared.ctype.CType.{CType}
+use Rattle.c_language.specs.declared.tables.Tables.{Tables}
+use Rattle.c_language.specs.Types.{class_of}
+use Rattle.c_language.specs.Integers.{width_of, value_of_word, converted}
+use Rattle.c_language.specs.Integers.{bytes_of as bytes_of_kind}
+use Rattle.c_language.specs.Layouts.{size_of, pointer_bytes}
 
 -- where a type belongs; what has no type breaks a rule, and is taken as void
 abbrev pub class_in : Option CType → Class

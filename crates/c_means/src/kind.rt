@@ -1,7 +1,7 @@
 //! Where a run stands between two steps.
 
-use bit_words::Finish;
-use c_tokens::Name;
+use c_language::Name;
+use plain_data::Finish;
 
 /// Where a run stands: an expression begins while it is running, and leaves it so, or ended. A statement that is
 /// jumped out of, or over, leaves a run on its way to where it goes on (C99 6.8.6, 6.8.4.2).

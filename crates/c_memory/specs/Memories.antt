@@ -2,7 +2,7 @@
 use Rattle.std.specs.Prelude.{◌≡◌, ◌<◌, ◌+◌, ◌-◌, ℕ, List, length, cond, Option, Some, None, unwrap_or, slice_get, slice_index}
 use Rattle.std.specs.BTreeMap.{BTreeMap, get}
 use Rattle.std.specs.Ordering.{nat_cmp}
-use Rattle.bit_words.specs.Worlds.{WorldTables, value_at}
+use Rattle.plain_data.specs.Worlds.{WorldTables, value_at}
 use Rattle.c_store.specs.declared.object.Object.{Object}
 use Rattle.c_store.specs.Store.{Store, object_of, offset_of, within}
 use Rattle.c_memory.specs.declared.cell.Cell.{Cell}

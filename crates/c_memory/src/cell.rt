@@ -3,9 +3,8 @@ ghost use Rattle.std.specs.Prelude.{◌≡◌, ◌≤◌, ◌<◌, ◌+◌, ◌^
 ghost use Rattle.c_store.specs.Store.{offset_of, byte_of, spelt};
 ghost use Rattle.c_memory.specs.Memories.{byte_in, initial_bytes, Lays, Holds};
 
-use bit_words::World;
 use c_store::Object;
-use plain_data::Items;
+use plain_data::{Items, World};
 use std::alloc::{AllocError, Global};
 
 /// How many addresses an object has at most.

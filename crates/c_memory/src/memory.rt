@@ -7,9 +7,8 @@ ghost use Rattle.c_store.specs.Access as access;
 ghost use Rattle.c_memory.specs.Memories.{initial_bytes, store_of, Holds};
 
 use crate::cell::{Cell, ROOM};
-use bit_words::World;
 use c_store::{Object, ObjectKind};
-use plain_data::Items;
+use plain_data::{Items, World};
 use std::alloc::{AllocError, Global};
 use std::collections::BTreeMap;
 

@@ -1,7 +1,7 @@
 -- What the steps of the code have put on the stack, as the names of the tree of those parts.
 use Rattle.std.proofs.Common.{◌≡◌, ℕ, zero, suc, ◌≤◌, List, [], ◌∷◌, map, drop, length, Result, OnOk, refl, sym, ap, ◌∙◌}
 use Rattle.std.proofs.lemmas.Result.{on_ok_weaker}
-use Rattle.c_runs.specs.Names.{Names, none, ◌then◌, all, all_of}
+use Rattle.c_means.specs.Names.{Names, none, ◌then◌, all, all_of}
 use Rattle.c_names.specs.Working.{with_last, with_two, joined, joined_times, put_each}
 use Rattle.c_names.proofs.Loops.{ends}
 use Rattle.c_names.proofs.NamesOf.{all_of_is}

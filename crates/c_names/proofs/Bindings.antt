@@ -2,7 +2,7 @@
 use Rattle.std.proofs.Common.{◌≡◌, ℕ, Bool, true, false, cond, ◌||◌, List, [], ◌∷◌, ◌++◌, reverse, Option, Some, None}
 use Rattle.std.proofs.Common.{refl, sym, ap, ◌∙◌}
 use Rattle.std.proofs.lemmas.List.{append-nil, append_assoc, reverse-append}
-use Rattle.c_runs.specs.Names.{Names, Word, Binding, same_word, binding_of, free, bound_in, is_among, without}
+use Rattle.c_means.specs.Names.{Names, Word, Binding, same_word, binding_of, free, bound_in, is_among, without}
 use Rattle.c_names.specs.Parting.{first_binding, parted, parted_by, bound_by, left_by}
 
 reverse_cons : {A : Type 0} (xs : List A) (x : A) → reverse (x ∷ xs) ≡ reverse xs ++ x ∷ []

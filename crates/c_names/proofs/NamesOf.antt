@@ -1,52 +1,52 @@
 -- The names of each kind of tree, in terms of those of the trees in it.
 use Rattle.std.proofs.Common.{◌≡◌, ℕ, ℤ, List, [], ◌∷◌, Option, Some, None, Bool, refl, sym, ap, ◌∙◌}
 use Rattle.std.specs.Prelude.{map, option_map}
-use Rattle.c_tokens.specs.declared.token.IntegerConstant.{IntegerConstant}
-use Rattle.c_tree.specs.declared.expr.UnaryOperator.{UnaryOperator}
-use Rattle.c_tree.specs.declared.expr.PostfixOperator.{PostfixOperator}
-use Rattle.c_tree.specs.declared.expr.BinaryOperator.{BinaryOperator}
-use Rattle.c_tree.specs.declared.expr.StorageClass.{StorageClass}
-use Rattle.c_tree.specs.declared.expr.Qualifier.{Qualifier}
-use Rattle.c_tree.specs.declared.expr.TypeWord.{TypeWord}
-use Rattle.c_tree.specs.declared.expr.AggregateKind.{AggregateKind}
-use Rattle.c_tree.specs.declared.expr.ArrayWord.{ArrayWord}
-use Rattle.c_tree.specs.declared.expr.TagName.{TagName}
-use Rattle.c_tree.specs.declared.expr.Expr.{Expr}
-use Rattle.c_tree.specs.declared.expr.Field.{Field}
-use Rattle.c_tree.specs.declared.expr.Specifier.{Specifier}
-use Rattle.c_tree.specs.declared.expr.Declarator.{Declarator}
-use Rattle.c_tree.specs.declared.expr.Enumerator.{Enumerator}
-use Rattle.c_tree.specs.declared.expr.MemberDeclaration.{MemberDeclaration}
-use Rattle.c_tree.specs.declared.expr.Parameter.{Parameter}
-use Rattle.c_tree.specs.declared.expr.TypeName.{TypeName}
-use Rattle.c_tree.specs.declared.expr.Expr.TheVariants as expr
-use Rattle.c_tree.specs.declared.expr.Specifier.TheVariants as specifier
-use Rattle.c_tree.specs.declared.expr.Field.TheVariants as field
-use Rattle.c_tree.specs.declared.expr.Declarator.TheVariants as declarator
-use Rattle.c_tree.specs.declared.unit.Declaration.{Declaration}
-use Rattle.c_tree.specs.declared.unit.ForStart.{ForStart}
-use Rattle.c_tree.specs.declared.unit.Initializer.{Initializer, fold-roll-Initializer}
-use Rattle.c_tree.specs.declared.unit.Initializer.TheOpen as initial_open
-use Rattle.c_tree.specs.declared.unit.Initializer.TheVariants as initial
-use Rattle.c_tree.specs.declared.unit.Initializer.TheVariants.{rolls-Value as rolls-Initializer-Value}
-use Rattle.c_tree.specs.declared.unit.Initializer.TheVariants.{rolls-List as rolls-Initializer-List}
-use Rattle.c_tree.specs.declared.unit.InitializerItem.{InitializerItem, fold-roll-InitializerItem}
-use Rattle.c_tree.specs.declared.unit.Stmt.{Stmt, fold-roll-Stmt}
-use Rattle.c_tree.specs.declared.unit.Stmt.TheOpen as stmt_open
-use Rattle.c_tree.specs.declared.unit.Stmt.TheVariants as stmt
-use Rattle.c_tree.specs.declared.unit.Stmt.TheVariants.{rolls-Block, rolls-Declared, rolls-Value, rolls-Label}
-use Rattle.c_tree.specs.declared.unit.Stmt.TheVariants.{rolls-Case}
-use Rattle.c_tree.specs.declared.unit.Stmt.TheVariants.{rolls-Default, rolls-If, rolls-Switch, rolls-While, rolls-Do}
-use Rattle.c_tree.specs.declared.unit.Stmt.TheVariants.{rolls-For, rolls-Goto, rolls-Continue, rolls-Break}
-use Rattle.c_tree.specs.declared.unit.Stmt.TheVariants.{rolls-Return}
-use Rattle.c_tree.proofs.Folds as eq
-use Rattle.c_says.specs.Scopes.{Name}
+use Rattle.c_language.specs.declared.token.IntegerConstant.{IntegerConstant}
+use Rattle.c_language.specs.declared.expr.UnaryOperator.{UnaryOperator}
+use Rattle.c_language.specs.declared.expr.PostfixOperator.{PostfixOperator}
+use Rattle.c_language.specs.declared.expr.BinaryOperator.{BinaryOperator}
+use Rattle.c_language.specs.declared.expr.StorageClass.{StorageClass}
+use Rattle.c_language.specs.declared.expr.Qualifier.{Qualifier}
+use Rattle.c_language.specs.declared.expr.TypeWord.{TypeWord}
+use Rattle.c_language.specs.declared.expr.AggregateKind.{AggregateKind}
+use Rattle.c_language.specs.declared.expr.ArrayWord.{ArrayWord}
+use Rattle.c_language.specs.declared.expr.TagName.{TagName}
+use Rattle.c_language.specs.declared.expr.Expr.{Expr}
+use Rattle.c_language.specs.declared.expr.Field.{Field}
+use Rattle.c_language.specs.declared.expr.Specifier.{Specifier}
+use Rattle.c_language.specs.declared.expr.Declarator.{Declarator}
+use Rattle.c_language.specs.declared.expr.Enumerator.{Enumerator}
+use Rattle.c_language.specs.declared.expr.MemberDeclaration.{MemberDeclaration}
+use Rattle.c_language.specs.declared.expr.Parameter.{Parameter}
+use Rattle.c_language.specs.declared.expr.TypeName.{TypeName}
+use Rattle.c_language.specs.declared.expr.Expr.TheVariants as expr
+use Rattle.c_language.specs.declared.expr.Specifier.TheVariants as specifier
+use Rattle.c_language.specs.declared.expr.Field.TheVariants as field
+use Rattle.c_language.specs.declared.expr.Declarator.TheVariants as declarator
+use Rattle.c_language.specs.declared.unit.Declaration.{Declaration}
+use Rattle.c_language.specs.declared.unit.ForStart.{ForStart}
+use Rattle.c_language.specs.declared.unit.Initializer.{Initializer, fold-roll-Initializer}
+use Rattle.c_language.specs.declared.unit.Initializer.TheOpen as initial_open
+use Rattle.c_language.specs.declared.unit.Initializer.TheVariants as initial
+use Rattle.c_language.specs.declared.unit.Initializer.TheVariants.{rolls-Value as rolls-Initializer-Value}
+use Rattle.c_language.specs.declared.unit.Initializer.TheVariants.{rolls-List as rolls-Initializer-List}
+use Rattle.c_language.specs.declared.unit.InitializerItem.{InitializerItem, fold-roll-InitializerItem}
+use Rattle.c_language.specs.declared.unit.Stmt.{Stmt, fold-roll-Stmt}
+use Rattle.c_language.specs.declared.unit.Stmt.TheOpen as stmt_open
+use Rattle.c_language.specs.declared.unit.Stmt.TheVariants as stmt
+use Rattle.c_language.specs.declared.unit.Stmt.TheVariants.{rolls-Block, rolls-Declared, rolls-Value, rolls-Label}
+use Rattle.c_language.specs.declared.unit.Stmt.TheVariants.{rolls-Case}
+use Rattle.c_language.specs.declared.unit.Stmt.TheVariants.{rolls-Default, rolls-If, rolls-Switch, rolls-While, rolls-Do}
+use Rattle.c_language.specs.declared.unit.Stmt.TheVariants.{rolls-For, rolls-Goto, rolls-Continue, rolls-Break}
+use Rattle.c_language.specs.declared.unit.Stmt.TheVariants.{rolls-Return}
+use Rattle.c_language.proofs.Folds as eq
+use Rattle.c_language.specs.Scopes.{Name}
 use Rattle.c_means.specs.Expressions.{joined}
-use Rattle.c_runs.specs.Names.{Names, naming, none, using, ordinary, tagged, literal, declaring, ◌then◌, all}
-use Rattle.c_runs.specs.Names.{if_some, scoped, settled, tag_declared, tag_used, derived, function_names, with_name}
-use Rattle.c_runs.specs.Names.{names_of, declarator_names, specifier_of, all_of, of_some, designator_names}
-use Rattle.c_runs.specs.Names.{initializer_names, initializer_step, item_step, declaration_names, start_names}
-use Rattle.c_runs.specs.Names.{stmt_names, stmt_step}
+use Rattle.c_means.specs.Names.{Names, naming, none, using, ordinary, tagged, literal, declaring, ◌then◌, all}
+use Rattle.c_means.specs.Names.{if_some, scoped, settled, tag_declared, tag_used, derived, function_names, with_name}
+use Rattle.c_means.specs.Names.{names_of, declarator_names, specifier_of, all_of, of_some, designator_names}
+use Rattle.c_means.specs.Names.{initializer_names, initializer_step, item_step, declaration_names, start_names}
+use Rattle.c_means.specs.Names.{stmt_names, stmt_step}
 use Rattle.c_names.specs.Trees.{field_names, enumerator_names, member_names, parameter_names, type_name_names}
 use Rattle.c_names.specs.Trees.{item_names}
 

@@ -1,10 +1,10 @@
--- The words that are needed over what is kept of names are those that `c_runs` needs.
+-- The words that are needed over what is kept of names are those that `c_means` needs.
 use Rattle.std.proofs.Common.{◌≡◌, ℕ, zero, suc, ◌+◌, ◌*◌, Bool, true, false, cond, ◌||◌, List, [], ◌∷◌, ◌++◌, length}
 use Rattle.std.proofs.Common.{reverse, map, refl, sym, ap, ◌∙◌, arith}
 use Rattle.std.proofs.lemmas.List.{append_assoc, reverse-append}
-use Rattle.c_runs.specs.Names.{Word, same_word}
-use Rattle.c_runs.specs.Programs.{Outer, declares_word, has_word}
-use Rattle.c_runs.specs.Programs as programs
+use Rattle.c_means.specs.Names.{Word, same_word}
+use Rattle.c_means.specs.Programs.{Outer, declares_word, has_word}
+use Rattle.c_means.specs.Programs as programs
 use Rattle.c_names.specs.declared.needs.Needing.{Needing}
 use Rattle.c_names.specs.declared.summaries.Names.{Names}
 use Rattle.c_names.specs.Kept.{kept}

@@ -1,5 +1,5 @@
--- What is kept of the names of an external declaration, as a function of what `c_runs` says of them.
-use Rattle.c_runs.specs.Names as names
+-- What is kept of the names of an external declaration, as a function of what `c_means` says of them.
+use Rattle.c_means.specs.Names as names
 use Rattle.c_names.specs.declared.summaries.Names.{Names}
 
 abbrev pub kept : names.Names → Names

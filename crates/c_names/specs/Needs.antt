@@ -1,8 +1,8 @@
--- The words that are needed, over what is kept of the names of external declarations: as `c_runs` defines it, step by
+-- The words that are needed, over what is kept of the names of external declarations: as `c_means` defines it, step by
 -- step.
 use Rattle.std.specs.Prelude.{ℕ, zero, suc, ◌+◌, ◌*◌, cond, List, [], ◌∷◌, ◌++◌, length}
-use Rattle.c_runs.specs.Names.{Word}
-use Rattle.c_runs.specs.Programs.{declares_word, has_word}
+use Rattle.c_means.specs.Names.{Word}
+use Rattle.c_means.specs.Programs.{declares_word, has_word}
 use Rattle.c_names.specs.declared.needs.Needing.{Needing}
 use Rattle.c_names.specs.declared.summaries.Names.{Names}
 

@@ -1,6 +1,6 @@
 -- What is used behind declarations, gone through from the last word to the first.
 use Rattle.std.specs.Prelude.{ℕ, cond, List, [], ◌∷◌, ◌++◌, Option, Some, None}
-use Rattle.c_runs.specs.Names.{Names, Word, Binding, same_word, binding_of, free_if, bound_if, free, bound_in, is_among}
+use Rattle.c_means.specs.Names.{Names, Word, Binding, same_word, binding_of, free_if, bound_if, free, bound_in, is_among}
 use Rattle.c_names.specs.declared.parting.Parted.{Parted}
 
 -- the first of the declarations of a word

@@ -1,18 +1,18 @@
--- The names in the kinds of tree for which `c_runs` has no name of its own.
+-- The names in the kinds of tree for which `c_means` has no name of its own.
 use Rattle.std.specs.Prelude.{ℕ, List}
-use Rattle.c_tree.specs.declared.expr.Declarator.{Declarator}
-use Rattle.c_tree.specs.declared.expr.Enumerator.{Enumerator}
-use Rattle.c_tree.specs.declared.expr.Field.{Field}
-use Rattle.c_tree.specs.declared.expr.MemberDeclaration.{MemberDeclaration}
-use Rattle.c_tree.specs.declared.expr.Parameter.{Parameter}
-use Rattle.c_tree.specs.declared.expr.Specifier.{Specifier}
-use Rattle.c_tree.specs.declared.expr.TypeName.{TypeName}
-use Rattle.c_tree.specs.declared.unit.Body.{Body}
-use Rattle.c_tree.specs.declared.unit.InitializerItem.{InitializerItem, fold-InitializerItem}
-use Rattle.c_tree.specs.Folds.{fold_enumerator, fold_field, fold_member, fold_parameter, fold_type_name}
-use Rattle.c_says.specs.Scopes.{Name}
-use Rattle.c_runs.specs.Names.{Names, Every, naming, ◌then◌, initializer_step, item_step, settled, all_of}
-use Rattle.c_runs.specs.Names.{specifier_of, with_body, declarator_names, body_names}
+use Rattle.c_language.specs.declared.expr.Declarator.{Declarator}
+use Rattle.c_language.specs.declared.expr.Enumerator.{Enumerator}
+use Rattle.c_language.specs.declared.expr.Field.{Field}
+use Rattle.c_language.specs.declared.expr.MemberDeclaration.{MemberDeclaration}
+use Rattle.c_language.specs.declared.expr.Parameter.{Parameter}
+use Rattle.c_language.specs.declared.expr.Specifier.{Specifier}
+use Rattle.c_language.specs.declared.expr.TypeName.{TypeName}
+use Rattle.c_language.specs.declared.unit.Body.{Body}
+use Rattle.c_language.specs.declared.unit.InitializerItem.{InitializerItem, fold-InitializerItem}
+use Rattle.c_language.specs.Folds.{fold_enumerator, fold_field, fold_member, fold_parameter, fold_type_name}
+use Rattle.c_language.specs.Scopes.{Name}
+use Rattle.c_means.specs.Names.{Names, Every, naming, ◌then◌, initializer_step, item_step, settled, all_of}
+use Rattle.c_means.specs.Names.{specifier_of, with_body, declarator_names, body_names}
 use Rattle.c_names.specs.declared.found.NameAt.{NameAt}
 
 unfoldable pub field_names : Field → Names

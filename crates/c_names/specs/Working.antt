@@ -1,6 +1,6 @@
 -- Names of trees on a stack, the last put on first: what a step leaves there.
 use Rattle.std.specs.Prelude.{ℕ, zero, suc, List, [], ◌∷◌}
-use Rattle.c_runs.specs.Names.{Names, none, ◌then◌, derived, function_names}
+use Rattle.c_means.specs.Names.{Names, none, ◌then◌, derived, function_names}
 
 abbrev pub last_of : List Names → Names
 last_of [] = none

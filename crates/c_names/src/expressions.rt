@@ -2,7 +2,7 @@
 //! memory alone.
 
 ghost use Rattle.std.specs.Prelude.{◌≡◌, ◌∷◌, map, option_map, OnOk};
-ghost use Rattle.c_runs.specs.Names as names;
+ghost use Rattle.c_means.specs.Names as names;
 ghost use Rattle.c_names.specs.Trees as trees;
 
 use crate::found::Found;
@@ -12,7 +12,7 @@ use crate::working::{
     put_enumeration, put_function_name, put_literal, put_name, put_nothing, put_tag, settle,
     to_function,
 };
-use c_tree::{
+use c_language::{
     Declarator, Enumerator, Expr, Field, MemberDeclaration, Parameter, Specifier, TypeName,
 };
 use plain_data::Shared;

@@ -1,17 +1,16 @@
 //! What is found of a tree, from what is found of the trees in it (C99 6.2.1).
 
 ghost use Rattle.std.specs.Prelude.{◌≡◌, ◌∷◌, [], Some, option_map, IfOk, OnOk};
-ghost use Rattle.c_runs.specs.Names as names;
-ghost use Rattle.c_runs.specs.Names.{◌then◌};
+ghost use Rattle.c_means.specs.Names as names;
+ghost use Rattle.c_means.specs.Names.{◌then◌};
 ghost use Rattle.c_names.specs.Trees as trees;
 
 use crate::found::{Found, NameAt, declared, nothing, take_declares, take_name, take_parameters};
 use crate::parting::{bind, leave_out_declared};
 use crate::stack::Stack;
 use crate::words::{Binding, Literal, Word, ordinary, tagged};
-use bit_words::Bytes;
-use c_tokens::Name;
-use c_tree::TagName;
+use c_language::{Name, TagName};
+use plain_data::Bytes;
 use std::alloc::{AllocError, Global};
 use std::mem::replace;
 

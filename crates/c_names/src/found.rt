@@ -1,13 +1,13 @@
 //! All that is found of the names of a tree, of which some is for the trees around it alone.
 
 ghost use Rattle.std.specs.Prelude.{◌≡◌, [], None, option_map};
-ghost use Rattle.c_runs.specs.Names as names;
+ghost use Rattle.c_means.specs.Names as names;
 ghost use Rattle.c_names.specs.Trees as trees;
 
 use crate::offsets::Offsets;
 use crate::stack::Stack;
 use crate::words::{Binding, Literal, Word};
-use c_tokens::Name;
+use c_language::Name;
 use std::alloc::Global;
 use std::marker::Model;
 use std::mem::replace;
@@ -36,7 +36,7 @@ pub struct Found {
 
 impl Model for Found {
     ghost use Rattle.std.specs.Prelude.{option_map};
-    ghost use Rattle.c_runs.specs.Names.{Names as Spec};
+    ghost use Rattle.c_means.specs.Names.{Names as Spec};
 
     ghost Value = { Spec };
 

@@ -2,7 +2,7 @@
 //! initializer of that uses (C99 6.9).
 
 ghost use Rattle.std.specs.Prelude.{◌≡◌, [], ◌++◌, ◌*◌, length, IfOk, OnOk};
-ghost use Rattle.c_runs.specs.Programs as programs;
+ghost use Rattle.c_means.specs.Programs as programs;
 ghost use Rattle.c_names.specs.Needs as spec;
 
 use crate::stack::Stack;

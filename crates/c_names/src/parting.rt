@@ -1,7 +1,7 @@
 //! Which uses are bound by declarations in front of them, and which stay free (C99 6.2.1p4).
 
 ghost use Rattle.std.specs.Prelude.{◌≡◌, [], ◌++◌, None, IfOk, OnOk};
-ghost use Rattle.c_runs.specs.Names as names;
+ghost use Rattle.c_means.specs.Names as names;
 ghost use Rattle.c_names.specs.Parting as spec;
 
 use crate::found::Found;

@@ -2,14 +2,14 @@
 //! want of memory alone.
 
 ghost use Rattle.std.specs.Prelude.{◌≡◌, ◌∷◌, map, option_map, OnOk};
-ghost use Rattle.c_runs.specs.Names as names;
+ghost use Rattle.c_means.specs.Names as names;
 
 use crate::expressions::put_expr;
 use crate::found::Found;
 use crate::stack::Stack;
 use crate::units::put_declaration;
 use crate::working::{end_for, join, join_all, put_nothing, scope};
-use c_tree::{Expr, ForStart, Stmt};
+use c_language::{Expr, ForStart, Stmt};
 use plain_data::Shared;
 use std::alloc::{AllocError, Global};
 

@@ -1,9 +1,9 @@
 //! The names of initializers, declarations and external declarations (C99 6.7, 6.9).
 
 ghost use Rattle.std.specs.Prelude.{◌≡◌, ◌∷◌, [], map, IfOk, OnOk};
-ghost use Rattle.c_runs.specs.Names as names;
-ghost use Rattle.c_runs.specs.Names.{◌then◌};
-ghost use Rattle.c_runs.specs.Programs as programs;
+ghost use Rattle.c_means.specs.Names as names;
+ghost use Rattle.c_means.specs.Names.{◌then◌};
+ghost use Rattle.c_means.specs.Programs as programs;
 ghost use Rattle.c_names.specs.Kept.{kept as kept_};
 ghost use Rattle.c_names.specs.Trees as trees;
 
@@ -13,7 +13,7 @@ use crate::stack::Stack;
 use crate::statements::put_stmt;
 use crate::summaries::{Names, kept_last};
 use crate::working::{embody, join, join_all, name_last, put_nothing, settle, stand_alone};
-use c_tree::{
+use c_language::{
     Body, Declaration, Declarator, Designator, External, InitDeclarator, Initializer,
     InitializerItem, Specifier,
 };

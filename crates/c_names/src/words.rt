@@ -1,11 +1,11 @@
 //! Ordinary names and tags (C99 6.2.3), where they are declared, and string literals.
 
 ghost use Rattle.std.specs.Prelude.{◌≡◌, IfOk};
-ghost use Rattle.c_runs.specs.Programs as programs;
-ghost use Rattle.c_runs.specs.Names as names;
+ghost use Rattle.c_means.specs.Programs as programs;
+ghost use Rattle.c_means.specs.Names as names;
 
-use bit_words::Bytes;
-use c_tokens::Name;
+use c_language::Name;
+use plain_data::Bytes;
 use std::alloc::AllocError;
 use std::marker::Model;
 
@@ -17,7 +17,7 @@ pub struct Word {
 }
 
 impl Model for Word {
-    ghost use Rattle.c_runs.specs.Names.{Word as Spec};
+    ghost use Rattle.c_means.specs.Names.{Word as Spec};
 
     ghost Value = { Spec };
 
@@ -44,7 +44,7 @@ pub struct Binding {
 }
 
 impl Model for Binding {
-    ghost use Rattle.c_runs.specs.Names.{Binding as Spec};
+    ghost use Rattle.c_means.specs.Names.{Binding as Spec};
 
     ghost Value = { Spec };
 
@@ -59,7 +59,7 @@ pub struct Literal {
 }
 
 impl Model for Literal {
-    ghost use Rattle.c_runs.specs.Names.{Literal as Spec};
+    ghost use Rattle.c_means.specs.Names.{Literal as Spec};
 
     ghost Value = { Spec };
 

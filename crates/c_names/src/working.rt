@@ -2,7 +2,7 @@
 
 ghost use Rattle.std.specs.Prelude.{◌≡◌, ◌∷◌, None, Some, IfOk, OnOk};
 ghost use Rattle.c_means.specs.Expressions.{joined as text_joined};
-ghost use Rattle.c_runs.specs.Names as names;
+ghost use Rattle.c_means.specs.Names as names;
 ghost use Rattle.c_names.specs.Working as spec;
 
 use crate::forms::{
@@ -12,10 +12,8 @@ use crate::forms::{
 use crate::found::{Found, nothing};
 use crate::stack::Stack;
 use crate::words::{ordinary, tagged};
-use bit_words::Bytes;
-use c_tokens::Name;
-use c_tree::TagName;
-use plain_data::Shared;
+use c_language::{Name, TagName};
+use plain_data::{Bytes, Shared};
 use std::alloc::{AllocError, Global};
 
 /// Puts nothing on. It fails for want of memory alone, as do all of these.

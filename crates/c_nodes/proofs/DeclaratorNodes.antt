@@ -19,13 +19,13 @@ use Rattle.std.proofs.Common.{
   ◌+◌,
 }
 use Rattle.std.specs.Prelude.{max, map, option_map}
-use Rattle.c_tree.specs.declared.expr.Qualifier.{Qualifier}
-use Rattle.c_tree.specs.declared.expr.ArrayWord.{ArrayWord}
-use Rattle.c_tree.specs.declared.expr.Expr.{Expr}
-use Rattle.c_tree.specs.declared.expr.Parameter.{Parameter}
-use Rattle.c_tree.specs.declared.expr.Specifier.{Specifier}
-use Rattle.c_tree.specs.declared.expr.Declarator.{Declarator}
-use Rattle.c_tree.specs.declared.expr.Declarator.TheVariants as declarator
+use Rattle.c_language.specs.declared.expr.Qualifier.{Qualifier}
+use Rattle.c_language.specs.declared.expr.ArrayWord.{ArrayWord}
+use Rattle.c_language.specs.declared.expr.Expr.{Expr}
+use Rattle.c_language.specs.declared.expr.Parameter.{Parameter}
+use Rattle.c_language.specs.declared.expr.Specifier.{Specifier}
+use Rattle.c_language.specs.declared.expr.Declarator.{Declarator}
+use Rattle.c_language.specs.declared.expr.Declarator.TheVariants as declarator
 use Rattle.c_grammar.specs.Parts.{Name}
 use Rattle.c_grammar.specs.Grammar.{shape, form, height_of, highest, highest_specifier, specifier_of, parameter_of}
 use Rattle.c_grammar.proofs.Equations.{

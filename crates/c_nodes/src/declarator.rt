@@ -1,13 +1,12 @@
 //! Declarators made of declarators, with their heights and names.
 ghost use Rattle.std.specs.Prelude.{◌≡◌, ◌≤◌, ◌<◌, ◌+◌, ◌++◌, ◌∷◌, [], false, true, IfOk, max};
-ghost use Rattle.c_tree.specs.declared.expr.Declarator.TheVariants as declarator;
+ghost use Rattle.c_language.specs.declared.expr.Declarator.TheVariants as declarator;
 
 use crate::expr::most;
 use crate::found::{
     FoundDeclarator, FoundOptional, FoundParameter, FoundParameters, FoundSpecifiers,
 };
-use c_tokens::Name;
-use c_tree::{ArrayWord, Declarator, Parameter, Qualifier};
+use c_language::{ArrayWord, Declarator, Name, Parameter, Qualifier};
 use plain_data::{Items, Shared};
 use std::alloc::{AllocError, Global};
 

@@ -1,14 +1,12 @@
 //! Expressions made of expressions, with their ranks and heights.
 ghost use Rattle.std.specs.Prelude.{◌≡◌, ◌≤◌, ◌<◌, ◌+◌, IfOk, None, Some, max, map};
 ghost use Rattle.c_grammar.specs.Grammar.{highest_shape, shape, type_name_of};
-ghost use Rattle.c_tree.specs.declared.expr.Expr.TheVariants as expr;
+ghost use Rattle.c_language.specs.declared.expr.Expr.TheVariants as expr;
 
 use crate::found::{FoundExpr, FoundOptional, FoundType};
-use bit_words::Bytes;
 use c_grammar::rank_of;
-use c_tokens::{IntegerConstant, Name};
-use c_tree::{BinaryOperator, Expr, PostfixOperator, UnaryOperator};
-use plain_data::{Items, Shared};
+use c_language::{BinaryOperator, Expr, IntegerConstant, Name, PostfixOperator, UnaryOperator};
+use plain_data::{Bytes, Items, Shared};
 use std::alloc::{AllocError, Global};
 
 /// The greater of two numbers.

@@ -6,9 +6,8 @@ ghost use Rattle.c_grammar.specs.Reading.{kind_of};
 ghost use Rattle.c_grammar.specs.TypeWords.{none, words_from};
 
 use c_grammar::{TypeKind, TypeWords};
-use c_tokens::Name;
-use c_tree::{
-    Declarator, Enumerator, Expr, Field, MemberDeclaration, Parameter, Specifier, TypeName,
+use c_language::{
+    Declarator, Enumerator, Expr, Field, MemberDeclaration, Name, Parameter, Specifier, TypeName,
 };
 use plain_data::{Items, Shared};
 

@@ -1,14 +1,13 @@
 //! Enumerators and members, with their heights.
 ghost use Rattle.std.specs.Prelude.{◌≡◌, ◌++◌, ◌∷◌, [], IfOk, Some, None, max};
-ghost use Rattle.c_tree.specs.declared.expr.Field.TheVariants as field;
+ghost use Rattle.c_language.specs.declared.expr.Field.TheVariants as field;
 
 use crate::expr::most;
 use crate::found::{
     FoundDeclarator, FoundEnumerator, FoundExpr, FoundField, FoundFieldName, FoundFields,
     FoundMember, FoundMembers, FoundOptional, FoundSpecifiers,
 };
-use c_tokens::Name;
-use c_tree::{Enumerator, Field, MemberDeclaration};
+use c_language::{Enumerator, Field, MemberDeclaration, Name};
 use plain_data::{Items, Shared};
 use std::alloc::{AllocError, Global};
 

@@ -2,15 +2,14 @@
 ghost use Rattle.std.specs.Prelude.{◌≡◌, ◌≤◌, ◌<◌, ◌+◌, ◌++◌, ◌∷◌, [], IfOk, max, map};
 ghost use Rattle.c_grammar.specs.Grammar.{highest as highest_piece};
 ghost use Rattle.c_grammar.specs.Grammar.{enumerator_of, member_of};
-ghost use Rattle.c_tree.specs.declared.expr.Specifier.TheVariants as specifier;
+ghost use Rattle.c_language.specs.declared.expr.Specifier.TheVariants as specifier;
 
 use crate::expr::most;
 use crate::found::{FoundDeclarator, FoundSpecifier, FoundSpecifiers, FoundType};
 use c_grammar::{TypeKind, TypeWords};
-use c_tokens::Name;
-use c_tree::{
-    AggregateKind, Enumerator, MemberDeclaration, Qualifier, Specifier, StorageClass, TagName,
-    TypeName, TypeWord,
+use c_language::{
+    AggregateKind, Enumerator, MemberDeclaration, Name, Qualifier, Specifier, StorageClass,
+    TagName, TypeName, TypeWord,
 };
 use plain_data::{Items, Shared};
 use std::alloc::{AllocError, Global};

@@ -1,36 +1,36 @@
 -- What is noted of each kind of expression, from what the code has found of its parts: one lemma a constructor.
 use Rattle.std.proofs.Common.{◌≡◌, ℕ, ℤ, List, [], ◌++◌, Option, Some, None, Bool, true, false, refl, sym, ap, subst, ◌∙◌}
-use Rattle.c_tokens.specs.declared.token.IntegerConstant.{IntegerConstant}
-use Rattle.c_tree.specs.declared.expr.UnaryOperator.{UnaryOperator}
-use Rattle.c_tree.specs.declared.expr.UnaryOperator.TheVariants as u_
-use Rattle.c_tree.specs.declared.expr.PostfixOperator.{PostfixOperator}
-use Rattle.c_tree.specs.declared.expr.PostfixOperator.TheVariants as postfix_
-use Rattle.c_tree.specs.declared.expr.BinaryOperator.{BinaryOperator}
-use Rattle.c_tree.specs.declared.expr.BinaryOperator.TheVariants as o_
-use Rattle.c_tree.specs.declared.expr.Expr.{Expr}
-use Rattle.c_tree.specs.declared.expr.TypeName.{TypeName}
-use Rattle.c_tree.specs.declared.expr.Expr.TheVariants as expr
-use Rattle.c_says.specs.declared.scope.Entry.{Entry}
-use Rattle.c_says.specs.declared.scope.Means.{Means}
-use Rattle.c_says.specs.declared.scope.Means.TheVariants as means_
-use Rattle.c_says.specs.declared.shown.Told.{Told}
-use Rattle.c_says.specs.declared.shown.Shown.{Shown}
-use Rattle.c_says.specs.Scopes.{Name, Scope, look_up}
-use Rattle.c_says.specs.Typing as t
-use Rattle.c_says.specs.Typing.{Typed, NamedType, typed_in, used, used_told, over_two}
-use Rattle.c_says.specs.Declares.{TypeSaid}
-use Rattle.c_says.specs.Trees.{type_name_says}
+use Rattle.c_language.specs.declared.token.IntegerConstant.{IntegerConstant}
+use Rattle.c_language.specs.declared.expr.UnaryOperator.{UnaryOperator}
+use Rattle.c_language.specs.declared.expr.UnaryOperator.TheVariants as u_
+use Rattle.c_language.specs.declared.expr.PostfixOperator.{PostfixOperator}
+use Rattle.c_language.specs.declared.expr.PostfixOperator.TheVariants as postfix_
+use Rattle.c_language.specs.declared.expr.BinaryOperator.{BinaryOperator}
+use Rattle.c_language.specs.declared.expr.BinaryOperator.TheVariants as o_
+use Rattle.c_language.specs.declared.expr.Expr.{Expr}
+use Rattle.c_language.specs.declared.expr.TypeName.{TypeName}
+use Rattle.c_language.specs.declared.expr.Expr.TheVariants as expr
+use Rattle.c_language.specs.declared.scope.Entry.{Entry}
+use Rattle.c_language.specs.declared.scope.Means.{Means}
+use Rattle.c_language.specs.declared.scope.Means.TheVariants as means_
+use Rattle.c_language.specs.declared.shown.Told.{Told}
+use Rattle.c_language.specs.declared.shown.Shown.{Shown}
+use Rattle.c_language.specs.Scopes.{Name, Scope, look_up}
+use Rattle.c_language.specs.Typing as t
+use Rattle.c_language.specs.Typing.{Typed, NamedType, typed_in, used, used_told, over_two}
+use Rattle.c_language.specs.Declares.{TypeSaid}
+use Rattle.c_language.specs.Trees.{type_name_says}
 use Rattle.c_declares.specs.declared.type_names.TypeSaid.{TypeSaid as Said}
 use Rattle.c_declares.specs.Views.{type_said_in}
 use Rattle.c_typing.proofs.Says as says
 use Rattle.c_means.specs.Parts.{Level}
 use Rattle.c_means.specs.Expressions as m
 use Rattle.c_means.proofs.Fusion as means_fusion
-use Rattle.c_runs.specs.declared.profile.Profile.{Profile}
-use Rattle.c_runs.specs.Notes as n
-use Rattle.c_runs.specs.Notes.{Noted, noted, type_name_noted}
-use Rattle.c_runs.proofs.NoteEquations as eq
-use Rattle.c_runs.proofs.Fusion as notes_fusion
+use Rattle.c_means.specs.declared.profile.Profile.{Profile}
+use Rattle.c_means.specs.Notes as n
+use Rattle.c_means.specs.Notes.{Noted, noted, type_name_noted}
+use Rattle.c_means.proofs.NoteEquations as eq
+use Rattle.c_means.proofs.RunFusion as notes_fusion
 use Rattle.c_notes.specs.declared.notes.ExprNotes.{ExprNotes}
 use Rattle.c_notes.specs.declared.notes.NotedExpr.{NotedExpr}
 use Rattle.c_notes.specs.Tellings as spec

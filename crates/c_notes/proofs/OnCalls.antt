@@ -1,22 +1,22 @@
 -- What is noted of a call, from what the code has found of the callee and the arguments.
 use Rattle.std.proofs.Common.{◌≡◌, ℕ, List, [], ◌++◌, Option, Some, None, false, map, refl, sym, ap, subst, ◌∙◌}
-use Rattle.c_tree.specs.declared.expr.Expr.{Expr}
-use Rattle.c_tree.specs.declared.expr.Expr.TheVariants as expr
-use Rattle.c_says.specs.declared.scope.Entry.{Entry}
-use Rattle.c_says.specs.declared.scope.Fault.{Fault}
-use Rattle.c_says.specs.declared.shown.Shown.{Shown}
-use Rattle.c_says.specs.Scopes.{Scope}
-use Rattle.c_says.specs.Typing as t
-use Rattle.c_says.specs.Typing.{Typed, typed_in, type_of, type_in, told_of, used}
+use Rattle.c_language.specs.declared.expr.Expr.{Expr}
+use Rattle.c_language.specs.declared.expr.Expr.TheVariants as expr
+use Rattle.c_language.specs.declared.scope.Entry.{Entry}
+use Rattle.c_language.specs.declared.scope.Fault.{Fault}
+use Rattle.c_language.specs.declared.shown.Shown.{Shown}
+use Rattle.c_language.specs.Scopes.{Scope}
+use Rattle.c_language.specs.Typing as t
+use Rattle.c_language.specs.Typing.{Typed, typed_in, type_of, type_in, told_of, used}
 use Rattle.c_typing.proofs.Says as says
 use Rattle.c_means.specs.Parts.{Part, Level, entered}
 use Rattle.c_means.specs.Expressions as m
 use Rattle.c_means.specs.Expressions.{designated, parameters_of, passed, passed_types, passed_texts}
-use Rattle.c_runs.specs.declared.profile.Profile.{Profile}
-use Rattle.c_runs.specs.Notes as n
-use Rattle.c_runs.specs.Notes.{Noted, noted, through, call_noted, site_of, name_of}
-use Rattle.c_runs.specs.Rules.{identity_index}
-use Rattle.c_runs.proofs.NoteEquations as eq
+use Rattle.c_means.specs.declared.profile.Profile.{Profile}
+use Rattle.c_means.specs.Notes as n
+use Rattle.c_means.specs.Notes.{Noted, noted, through, call_noted, site_of, name_of}
+use Rattle.c_means.specs.Rules.{identity_index}
+use Rattle.c_means.proofs.NoteEquations as eq
 use Rattle.c_notes.specs.declared.arguments.ArgumentNotes.{ArgumentNotes}
 use Rattle.c_notes.specs.declared.notes.ExprNotes.{ExprNotes}
 use Rattle.c_notes.specs.declared.notes.NotedExpr.{NotedExpr}

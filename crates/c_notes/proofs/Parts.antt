@@ -1,16 +1,16 @@
 -- What is noted of a form over its parts, from what the code has found of them: for forms of no, one, two and three
 -- parts.
 use Rattle.std.proofs.Common.{◌≡◌, List, [], ◌∷◌, ◌++◌, Option, refl, sym, ap, ◌∙◌}
-use Rattle.c_tree.specs.declared.expr.Expr.{Expr}
-use Rattle.c_says.specs.declared.shown.Shown.{Shown}
-use Rattle.c_says.specs.Scopes.{Scope}
-use Rattle.c_says.specs.Typing.{Typed, typed_in}
-use Rattle.c_says.specs.Trees.{typed}
+use Rattle.c_language.specs.declared.expr.Expr.{Expr}
+use Rattle.c_language.specs.declared.shown.Shown.{Shown}
+use Rattle.c_language.specs.Scopes.{Scope}
+use Rattle.c_language.specs.Typing.{Typed, typed_in}
+use Rattle.c_language.specs.Trees.{typed}
 use Rattle.c_means.specs.Parts.{Part, Level, Site}
 use Rattle.c_means.proofs.Fusion.{part_typed}
-use Rattle.c_runs.specs.declared.profile.Profile.{Profile}
-use Rattle.c_runs.specs.Notes.{Noted, noted}
-use Rattle.c_runs.proofs.Fusion.{part_noted}
+use Rattle.c_means.specs.declared.profile.Profile.{Profile}
+use Rattle.c_means.specs.Notes.{Noted, noted}
+use Rattle.c_means.proofs.RunFusion.{part_noted}
 use Rattle.c_notes.specs.declared.notes.ExprNotes.{ExprNotes}
 use Rattle.c_notes.specs.declared.notes.NotedExpr.{NotedExpr}
 use Rattle.c_notes.specs.CallsTold.{told_site, told_calls}

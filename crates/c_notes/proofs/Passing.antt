@@ -1,17 +1,17 @@
 -- Arguments: what code collects of them from left to right is what is noted of them together.
 use Rattle.std.proofs.Common.{◌≡◌, ℕ, List, [], ◌∷◌, ◌++◌, Option, Some, map, refl, sym, ap, ◌∙◌}
 use Rattle.std.proofs.lemmas.List.{append-nil, append_assoc}
-use Rattle.c_tree.specs.declared.expr.Expr.{Expr}
-use Rattle.c_type_terms.specs.declared.ctype.CType.{CType}
-use Rattle.c_says.specs.Scopes.{Scope}
-use Rattle.c_says.specs.Typing.{Typed, told_of, used, used_told}
-use Rattle.c_says.specs.Trees.{typed, through_one}
-use Rattle.c_says.specs.Trees as says
+use Rattle.c_language.specs.declared.expr.Expr.{Expr}
+use Rattle.c_language.specs.declared.ctype.CType.{CType}
+use Rattle.c_language.specs.Scopes.{Scope}
+use Rattle.c_language.specs.Typing.{Typed, told_of, used, used_told}
+use Rattle.c_language.specs.Trees.{typed, through_one}
+use Rattle.c_language.specs.Trees as says
 use Rattle.c_means.specs.Parts.{Part, Level}
 use Rattle.c_means.specs.Operators.{value_type}
 use Rattle.c_means.specs.Expressions.{promoted_type, passed, passed_types, passed_texts}
-use Rattle.c_runs.specs.declared.profile.Profile.{Profile}
-use Rattle.c_runs.specs.Notes.{noted, through}
+use Rattle.c_means.specs.declared.profile.Profile.{Profile}
+use Rattle.c_means.specs.Notes.{noted, through}
 use Rattle.c_notes.specs.declared.arguments.ArgumentNotes.{ArgumentNotes}
 use Rattle.c_notes.specs.declared.notes.ExprNotes.{ExprNotes}
 use Rattle.c_notes.specs.declared.notes.NotedExpr.{NotedExpr}

@@ -1,21 +1,21 @@
--- What is told of a call, to be judged where the bodies of the source are known: by `c_runs`, the first rule of calls
+-- What is told of a call, to be judged where the bodies of the source are known: by `c_means`, the first rule of calls
 -- that applies.
 use Rattle.std.specs.Prelude.{ℕ, Bool, true, false, cond, List, [], ◌∷◌, length, Option, Some, None, is_some}
 use Rattle.std.specs.Str.{bytes_eq}
-use Rattle.c_type_terms.specs.declared.ctype.CType.{CType}
-use Rattle.c_type_terms.specs.declared.tables.Tables.{Tables}
-use Rattle.c_says.specs.declared.scope.Entry.{Entry}
-use Rattle.c_says.specs.Scopes.{Name}
+use Rattle.c_language.specs.declared.ctype.CType.{CType}
+use Rattle.c_language.specs.declared.tables.Tables.{Tables}
+use Rattle.c_language.specs.declared.scope.Entry.{Entry}
+use Rattle.c_language.specs.Scopes.{Name}
 use Rattle.c_means.specs.Parts.{Level, Site}
-use Rattle.c_runs.specs.declared.breach.Breach.{Breach}
-use Rattle.c_runs.specs.declared.profile.FillFunction.{FillFunction}
-use Rattle.c_runs.specs.declared.profile.LogFunction.{LogFunction}
-use Rattle.c_runs.specs.declared.profile.LogText.{LogText}
-use Rattle.c_runs.specs.declared.profile.LogText.TheVariants as log_
-use Rattle.c_runs.specs.declared.profile.Profile.{Profile}
-use Rattle.c_runs.specs.Rules.{Taking, same_taking, declared_taking, library_if, library_named}
-use Rattle.c_runs.specs.Calls.{literal_at}
-use Rattle.c_runs.specs.Rules.{log_of, identity_index, fill_of}
+use Rattle.c_means.specs.declared.breach.Breach.{Breach}
+use Rattle.c_means.specs.declared.profile.FillFunction.{FillFunction}
+use Rattle.c_means.specs.declared.profile.LogFunction.{LogFunction}
+use Rattle.c_means.specs.declared.profile.LogText.{LogText}
+use Rattle.c_means.specs.declared.profile.LogText.TheVariants as log_
+use Rattle.c_means.specs.declared.profile.Profile.{Profile}
+use Rattle.c_means.specs.Rules.{Taking, same_taking, declared_taking, library_if, library_named}
+use Rattle.c_means.specs.Calls.{literal_at}
+use Rattle.c_means.specs.Rules.{log_of, identity_index, fill_of}
 use Rattle.c_checks.specs.declared.takings.PlainType.{PlainType}
 use Rattle.c_checks.specs.declared.takings.PlainType.TheVariants as plain
 use Rattle.c_checks.specs.Takings.{taking}

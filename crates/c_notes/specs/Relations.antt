@@ -1,14 +1,14 @@
 -- What it is that code has found what is noted of an expression.
 use Rattle.std.specs.Prelude.{◌≡◌, List, [], ◌∷◌, Option}
-use Rattle.c_tree.specs.declared.expr.Expr.{Expr}
-use Rattle.c_says.specs.declared.shown.Shown.{Shown}
-use Rattle.c_says.specs.Scopes.{Scope}
-use Rattle.c_says.specs.Typing.{Typed, typed_in, told_of, used}
-use Rattle.c_says.specs.Trees.{typed}
+use Rattle.c_language.specs.declared.expr.Expr.{Expr}
+use Rattle.c_language.specs.declared.shown.Shown.{Shown}
+use Rattle.c_language.specs.Scopes.{Scope}
+use Rattle.c_language.specs.Typing.{Typed, typed_in, told_of, used}
+use Rattle.c_language.specs.Trees.{typed}
 use Rattle.c_means.specs.Parts.{Level}
-use Rattle.c_runs.specs.declared.profile.Profile.{Profile}
-use Rattle.c_runs.specs.Notes.{Noted, noted}
-use Rattle.c_runs.specs.Rules.{identity_index}
+use Rattle.c_means.specs.declared.profile.Profile.{Profile}
+use Rattle.c_means.specs.Notes.{Noted, noted}
+use Rattle.c_means.specs.Rules.{identity_index}
 use Rattle.c_notes.specs.declared.arguments.ArgumentNotes.{ArgumentNotes}
 use Rattle.c_notes.specs.declared.notes.ExprNotes.{ExprNotes}
 use Rattle.c_notes.specs.declared.notes.NotedExpr.{NotedExpr}

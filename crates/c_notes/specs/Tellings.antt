@@ -1,20 +1,20 @@
--- What code keeps of what `c_runs` notes of an expression; and what each form keeps, over what its parts keep.
+-- What code keeps of what `c_means` notes of an expression; and what each form keeps, over what its parts keep.
 use Rattle.std.specs.Prelude.{ℕ, Bool, true, false, ◌&&◌, ◌||◌, List, [], ◌∷◌, ◌++◌, Option, Some, None, is_some}
-use Rattle.c_tree.specs.declared.expr.BinaryOperator.{BinaryOperator}
-use Rattle.c_tree.specs.declared.expr.BinaryOperator.TheVariants as o
-use Rattle.c_tree.specs.declared.expr.UnaryOperator.{UnaryOperator}
-use Rattle.c_tree.specs.declared.expr.UnaryOperator.TheVariants as u
-use Rattle.c_type_terms.specs.declared.ctype.CType.{CType}
-use Rattle.c_type_terms.specs.declared.tables.Tables.{Tables}
-use Rattle.c_says.specs.declared.scope.Entry.{Entry}
-use Rattle.c_says.specs.declared.scope.Fault.{Fault}
-use Rattle.c_says.specs.declared.shown.Shown.{Shown}
-use Rattle.c_says.specs.Typing.{type_in, value_in, constant_of, no_arguments, and_argument}
+use Rattle.c_language.specs.declared.expr.BinaryOperator.{BinaryOperator}
+use Rattle.c_language.specs.declared.expr.BinaryOperator.TheVariants as o
+use Rattle.c_language.specs.declared.expr.UnaryOperator.{UnaryOperator}
+use Rattle.c_language.specs.declared.expr.UnaryOperator.TheVariants as u
+use Rattle.c_language.specs.declared.ctype.CType.{CType}
+use Rattle.c_language.specs.declared.tables.Tables.{Tables}
+use Rattle.c_language.specs.declared.scope.Entry.{Entry}
+use Rattle.c_language.specs.declared.scope.Fault.{Fault}
+use Rattle.c_language.specs.declared.shown.Shown.{Shown}
+use Rattle.c_language.specs.Typing.{type_in, value_in, constant_of, no_arguments, and_argument}
 use Rattle.c_means.specs.Parts.{Level}
 use Rattle.c_means.specs.Expressions.{promoted_type, parameters_of, designated, text_at}
-use Rattle.c_runs.specs.declared.profile.Profile.{Profile}
-use Rattle.c_runs.specs.Notes.{Noted, is_address_in, is_static_pointer}
-use Rattle.c_runs.specs.Rules.{identity_index}
+use Rattle.c_means.specs.declared.profile.Profile.{Profile}
+use Rattle.c_means.specs.Notes.{Noted, is_address_in, is_static_pointer}
+use Rattle.c_means.specs.Rules.{identity_index}
 use Rattle.c_notes.specs.declared.arguments.ArgumentNotes.{ArgumentNotes}
 use Rattle.c_notes.specs.declared.calling.Itself.{Itself}
 use Rattle.c_notes.specs.declared.calls.CallNote.{CallNote}

@@ -6,12 +6,9 @@ ghost use Rattle.c_notes.specs.Tellings as spec;
 use crate::calls::CallNote;
 use crate::notes::{ExprNotes, NotedExpr, joined};
 use crate::passed::promoted_type;
-use bit_words::Bytes;
-use c_says::Fault;
-use c_tokens::Name;
-use c_type_terms::CType;
+use c_language::{CType, Fault, Name};
 use c_typing::{Arguments, and_argument, no_arguments};
-use plain_data::Items;
+use plain_data::{Bytes, Items};
 use std::alloc::{AllocError, Global};
 
 /// Arguments so far, from left to right: what they say to the types, the promoted types of their values, the texts of

@@ -1,9 +1,9 @@
 //! Calls, and what is noted of them (C99 6.5.2.2).
 
 ghost use Rattle.std.specs.Prelude.{◌≡◌, ◌++◌, ◌∷◌, [], false, IfOk, is_some};
-ghost use Rattle.c_says.specs.Typing as typing;
+ghost use Rattle.c_language.specs.Typing as typing;
 ghost use Rattle.c_means.specs.Expressions as means;
-ghost use Rattle.c_runs.specs.Rules as rules;
+ghost use Rattle.c_means.specs.Rules as rules;
 ghost use Rattle.c_notes.specs.Tellings as spec;
 ghost use Rattle.c_notes.specs.Relations.{IsForm};
 
@@ -12,15 +12,12 @@ use crate::calls::{CallNote, call_note};
 use crate::forms::add_bytes;
 use crate::notes::{ExprNotes, NotedExpr, is_constant, joined};
 use crate::passed::passed_types;
-use bit_words::Bytes;
 use c_checks::identity_index;
-use c_runs::Profile;
-use c_says::{Entry, Shown, Told};
-use c_tokens::Name;
+use c_language::{CType, Entry, Name, Shown, Told};
+use c_means::Profile;
 use c_type_scope::Scope;
-use c_type_terms::CType;
 use c_typing as forms;
-use plain_data::{Items, Shared};
+use plain_data::{Bytes, Items, Shared};
 use std::alloc::{AllocError, Global};
 
 fn copied(alloc: Global, text: &Option<Bytes>) -> Result<Option<Bytes>, AllocError>

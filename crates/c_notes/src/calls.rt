@@ -1,20 +1,18 @@
 //! What is told of a call, to be judged where the bodies of the source are known.
 
 ghost use Rattle.std.specs.Prelude.{◌≡◌, length, unwrap_or, [], IfOk};
-ghost use Rattle.c_runs.specs.Calls as runs;
-ghost use Rattle.c_runs.specs.Rules as rules;
+ghost use Rattle.c_means.specs.Calls as runs;
+ghost use Rattle.c_means.specs.Rules as rules;
 ghost use Rattle.c_notes.specs.CallsTold as spec;
 
 use crate::prelude::prelude_parameters;
-use bit_words::Bytes;
 use c_checks::{
     body_call, filling_call, filling_function, identity_call, identity_index, is_library_function,
     log_call, log_function,
 };
-use c_runs::{Breach, LogText, Profile};
-use c_says::Entry;
-use c_tokens::Name;
-use c_type_terms::{CType, Tables};
+use c_language::{CType, Entry, Name, Tables};
+use c_means::{Breach, LogText, Profile};
+use plain_data::Bytes;
 use std::alloc::{AllocError, Global};
 
 /// The format of a log call: the bytes of its literal, and whether a newline follows what is printed.

@@ -1,24 +1,21 @@
 //! Forms of expressions over parts and what is noted of them (C99 6.5): what each says to the types, and its notes.
 
 ghost use Rattle.std.specs.Prelude.{◌≡◌, ◌++◌, IfOk, OnOk};
-ghost use Rattle.c_says.specs.Typing as typing;
-ghost use Rattle.c_says.specs.Scopes as scopes;
+ghost use Rattle.c_language.specs.Typing as typing;
+ghost use Rattle.c_language.specs.Scopes as scopes;
 ghost use Rattle.c_means.specs.Expressions.{joined as joined_};
-ghost use Rattle.c_runs.specs.Notes as told;
+ghost use Rattle.c_means.specs.Notes as told;
 ghost use Rattle.c_notes.specs.Tellings as spec;
 ghost use Rattle.c_notes.specs.Relations.{IsForm};
 
 use crate::notes::{
     ExprNotes, NotedExpr, as_place, as_value, both, is_moved, is_pointer, is_static, nothing_noted,
 };
-use bit_words::Bytes;
 use c_declares::TypeSaid;
-use c_says::{Duration, Means, Told};
-use c_tokens::Name;
-use c_tree::{BinaryOperator, UnaryOperator};
+use c_language::{BinaryOperator, Duration, Means, Name, Told, UnaryOperator};
 use c_type_scope::Scope;
 use c_typing as forms;
-use plain_data::{Items, Shared};
+use plain_data::{Bytes, Items, Shared};
 use std::alloc::{AllocError, Global};
 
 /// A node without parts that is a value. It takes no memory.

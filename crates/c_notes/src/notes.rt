@@ -1,17 +1,14 @@
 //! What is noted of an expression, and of one node over its parts.
 
 ghost use Rattle.std.specs.Prelude.{◌≡◌, ◌++◌, IfOk, is_some};
-ghost use Rattle.c_says.specs.Typing as typing;
-ghost use Rattle.c_runs.specs.Notes as told;
+ghost use Rattle.c_language.specs.Typing as typing;
+ghost use Rattle.c_means.specs.Notes as told;
 ghost use Rattle.c_notes.specs.Tellings as spec;
 
 use crate::calls::CallNote;
-use bit_words::Bytes;
-use c_says::{Shown, Told};
-use c_tokens::Name;
+use c_language::{Class, Name, Shown, Told};
 use c_type_forms::{is_array, is_function};
-use c_type_terms::Class;
-use plain_data::Items;
+use plain_data::{Bytes, Items};
 use std::alloc::{AllocError, Global};
 
 /// What is noted of an expression: its bytes where it is a string literal (through parentheses, and calls of identity

@@ -1,13 +1,12 @@
 //! The types of arguments as they are converted (C99 6.5.2.2p4, p6, p7).
 
 ghost use Rattle.std.specs.Prelude.{◌≡◌, IfOk};
-ghost use Rattle.c_says.specs.Typing as typing;
-ghost use Rattle.c_type_terms.specs.Types as types_;
+ghost use Rattle.c_language.specs.Typing as typing;
+ghost use Rattle.c_language.specs.Types as types_;
 ghost use Rattle.c_means.specs.Expressions as means;
 ghost use Rattle.c_notes.specs.Tellings as spec;
 
-use c_says::Shown;
-use c_type_terms::{Base, CType, Derivation, Tables};
+use c_language::{Base, CType, Derivation, Shown, Tables};
 use plain_data::Items;
 use std::alloc::{AllocError, Global};
 

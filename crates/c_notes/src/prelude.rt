@@ -1,12 +1,11 @@
 //! The functions of the C library that have a body here, by name and type (C99 7.20, 7.21).
 
 ghost use Rattle.std.specs.Prelude.{◌≡◌, IfOk};
-ghost use Rattle.c_runs.specs.Rules as rules;
+ghost use Rattle.c_means.specs.Rules as rules;
 ghost use Rattle.c_notes.specs.CallsTold as spec;
 
 use c_checks::{PlainType, means_function_of};
-use c_says::Entry;
-use c_type_terms::Tables;
+use c_language::{Entry, Tables};
 use std::alloc::{AllocError, Global};
 
 fn count_if(

@@ -1,7 +1,7 @@
 -- The items of a block, one at a time.
 use Rattle.std.proofs.Common.{◌≡◌, ℕ, suc, List, [], ◌∷◌, ◌++◌, Some, None, true, false, refl, ap, ◌∙◌}
-use Rattle.c_tokens.specs.declared.token.Punctuator.TheVariants as mark
-use Rattle.c_tree.specs.declared.unit.Stmt.{Stmt}
+use Rattle.c_language.specs.declared.token.Punctuator.TheVariants as mark
+use Rattle.c_language.specs.declared.unit.Stmt.{Stmt}
 use Rattle.c_grammar.specs.Parts.{State}
 use Rattle.c_grammar.specs.Reading.{Reading, ◌>>=◌, begins}
 use Rattle.c_grammar.specs.UnitReading.{Turn, block_items_at}

@@ -1,9 +1,9 @@
 -- A block as a function's body.
 use Rattle.std.proofs.Common.{◌≡◌, ℕ, List, [], ◌∷◌, Bool, Some, None, refl, sym, ap, ◌∙◌}
-use Rattle.c_tokens.specs.declared.token.Token.{Token}
-use Rattle.c_tree.specs.declared.unit.Stmt.{Stmt}
-use Rattle.c_tree.specs.declared.unit.Body.{Body}
-use Rattle.c_tree.specs.declared.unit.Body.TheVariants as body
+use Rattle.c_language.specs.declared.token.Token.{Token}
+use Rattle.c_language.specs.declared.unit.Stmt.{Stmt}
+use Rattle.c_language.specs.declared.unit.Body.{Body}
+use Rattle.c_language.specs.declared.unit.Body.TheVariants as body
 use Rattle.c_grammar.specs.Parts.{Scope}
 use Rattle.c_grammar.specs.Reading.{Reading}
 use Rattle.c_grammar.specs.UnitReading.{is_end}

@@ -30,8 +30,8 @@ use Rattle.std.proofs.Common.{
 }
 use Rattle.std.proofs.Math.ListN.{drop_of_length-le}
 use Rattle.std.proofs.Math.Seq.{drop-cons, take-suc}
-use Rattle.c_tokens.specs.declared.token.Token.{Token}
-use Rattle.c_tokens.specs.declared.token.Punctuator.{Punctuator}
+use Rattle.c_language.specs.declared.token.Token.{Token}
+use Rattle.c_language.specs.declared.token.Punctuator.{Punctuator}
 use Rattle.c_grammar.specs.Parts.{is_punctuator}
 use Rattle.c_grammar.specs.Units.{closer, closing}
 use Rattle.c_grammar.specs.UnitReading.{Cut, cut, cut_by, with_front}

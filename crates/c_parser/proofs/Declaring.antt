@@ -1,7 +1,7 @@
 -- The declarators of a declaration.
 use Rattle.std.proofs.Common.{◌≡◌, ℕ, suc, List, [], ◌∷◌, ◌++◌, Some, None, Bool, true, false, refl, ap, ◌∙◌}
-use Rattle.c_tokens.specs.declared.token.Punctuator.TheVariants as mark
-use Rattle.c_tree.specs.declared.unit.InitDeclarator.{InitDeclarator}
+use Rattle.c_language.specs.declared.token.Punctuator.TheVariants as mark
+use Rattle.c_language.specs.declared.unit.InitDeclarator.{InitDeclarator}
 use Rattle.c_grammar.specs.Parts.{State}
 use Rattle.c_grammar.specs.Reading.{Reading, Rules, ◌>>=◌, begins, expect}
 use Rattle.c_grammar.specs.UnitReading.{Inside, init_at, more_inits_at}

@@ -1,8 +1,8 @@
 -- Lists of designators, and the items of a braced list.
 use Rattle.std.proofs.Common.{◌≡◌, ℕ, suc, List, [], ◌∷◌, ◌++◌, Some, None, Bool, true, false, refl, ap, ◌∙◌}
-use Rattle.c_tokens.specs.declared.token.Punctuator.TheVariants as mark
-use Rattle.c_tree.specs.declared.unit.Designator.{Designator}
-use Rattle.c_tree.specs.declared.unit.InitializerItem.{InitializerItem}
+use Rattle.c_language.specs.declared.token.Punctuator.TheVariants as mark
+use Rattle.c_language.specs.declared.unit.Designator.{Designator}
+use Rattle.c_language.specs.declared.unit.InitializerItem.{InitializerItem}
 use Rattle.c_grammar.specs.Parts.{State}
 use Rattle.c_grammar.specs.Reading.{Reading, Rules, ◌>>=◌, begins, expect}
 use Rattle.c_grammar.specs.UnitReading.{Inside, designated, designator_in, designators_at, item_at, more_items_at}

@@ -1,7 +1,7 @@
 -- What a parse says of the grammar, by the laws of the grammar.
 use Rattle.std.proofs.Common.{◌≡◌, List, Some}
-use Rattle.c_tokens.specs.declared.token.Token.{Token}
-use Rattle.c_tree.specs.declared.unit.External.{External}
+use Rattle.c_language.specs.declared.token.Token.{Token}
+use Rattle.c_language.specs.declared.unit.External.{External}
 use Rattle.c_grammar.specs.Units.{derives}
 use Rattle.c_grammar.specs.UnitReading.{read_unit}
 use Rattle.c_grammar.proofs.UnitSound.{unit_sound}

@@ -1,10 +1,10 @@
 -- Statements of several parts, read in two steps.
 use Rattle.std.proofs.Common.{◌≡◌, ℕ, Option, Some, None, refl, sym, ◌∙◌}
-use Rattle.c_tokens.specs.declared.token.Punctuator.TheVariants as mark
-use Rattle.c_tree.specs.declared.expr.Expr.{Expr}
-use Rattle.c_tree.specs.declared.unit.ForStart.{ForStart}
-use Rattle.c_tree.specs.declared.unit.Stmt.{Stmt}
-use Rattle.c_tree.specs.declared.unit.Stmt.TheVariants as stmt
+use Rattle.c_language.specs.declared.token.Punctuator.TheVariants as mark
+use Rattle.c_language.specs.declared.expr.Expr.{Expr}
+use Rattle.c_language.specs.declared.unit.ForStart.{ForStart}
+use Rattle.c_language.specs.declared.unit.Stmt.{Stmt}
+use Rattle.c_language.specs.declared.unit.Stmt.TheVariants as stmt
 use Rattle.c_grammar.specs.Parts.{State, entered, left}
 use Rattle.c_grammar.specs.Reading.{Reading, Rules, ◌>>=◌, expect}
 use Rattle.c_grammar.specs.UnitReading.{

@@ -18,7 +18,7 @@ use Rattle.std.proofs.Common.{
   ◌∙◌,
   append_assoc,
 }
-use Rattle.c_tree.specs.declared.unit.External.{External}
+use Rattle.c_language.specs.declared.unit.External.{External}
 use Rattle.c_grammar.specs.Parts.{State}
 use Rattle.c_grammar.specs.Reading.{Reading, ◌>>=◌}
 use Rattle.c_grammar.specs.UnitReading.{is_end, external_at, externals_at}

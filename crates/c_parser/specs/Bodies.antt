@@ -1,8 +1,8 @@
 -- A function's body, as the reading of a block gives it.
 use Rattle.std.specs.Prelude.{ℕ, Bool, true, false, Result, Ok, Err}
-use Rattle.c_tree.specs.declared.unit.Stmt.{Stmt}
-use Rattle.c_tree.specs.declared.unit.Body.{Body}
-use Rattle.c_tree.specs.declared.unit.Body.TheVariants as body
+use Rattle.c_language.specs.declared.unit.Stmt.{Stmt}
+use Rattle.c_language.specs.declared.unit.Body.{Body}
+use Rattle.c_language.specs.declared.unit.Body.TheVariants as body
 use Rattle.c_grammar.specs.Reading.{Reading}
 use Rattle.c_grammar.specs.UnitReading.{whole}
 use Rattle.c_reading.specs.declared.fault.ParseFault.{ParseFault}

@@ -1,9 +1,9 @@
 -- The reading of statements of several parts, in two steps.
 use Rattle.std.specs.Prelude.{Option, Some}
-use Rattle.c_tokens.specs.declared.token.Punctuator.TheVariants as mark
-use Rattle.c_tree.specs.declared.expr.Expr.{Expr}
-use Rattle.c_tree.specs.declared.unit.ForStart.{ForStart}
-use Rattle.c_tree.specs.declared.unit.Stmt.{Stmt}
+use Rattle.c_language.specs.declared.token.Punctuator.TheVariants as mark
+use Rattle.c_language.specs.declared.expr.Expr.{Expr}
+use Rattle.c_language.specs.declared.unit.ForStart.{ForStart}
+use Rattle.c_language.specs.declared.unit.Stmt.{Stmt}
 use Rattle.c_grammar.specs.Parts.{State}
 use Rattle.c_grammar.specs.Reading.{Reading, Rules, ◌>>=◌, expect}
 use Rattle.c_grammar.specs.UnitReading.{Turn, Inside, optional_at, substatement_at, else_at, for_start_at}

@@ -1,8 +1,8 @@
 -- The closing brackets that a brace group wants, token by token.
 use Rattle.std.specs.Prelude.{◌≡◌, ℕ, List, [], ◌∷◌, ◌++◌, Bool, true, false, cond, Option, Some, None, take, drop}
-use Rattle.c_tokens.specs.declared.token.Token.{Token}
-use Rattle.c_tokens.specs.declared.token.TokenKind.{TokenKind}
-use Rattle.c_tokens.specs.declared.token.Punctuator.{Punctuator}
+use Rattle.c_language.specs.declared.token.Token.{Token}
+use Rattle.c_language.specs.declared.token.TokenKind.{TokenKind}
+use Rattle.c_language.specs.declared.token.Punctuator.{Punctuator}
 use Rattle.c_grammar.specs.Parts.{is_punctuator}
 use Rattle.c_grammar.specs.Reading.{◌>>=◌}
 use Rattle.c_grammar.specs.Units.{closer, closing}

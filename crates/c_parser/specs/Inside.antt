@@ -2,8 +2,8 @@
 use Rattle.std.specs.Prelude.{ℕ, List, Result}
 use Rattle.std.specs.declared.alloc.Global.{Global}
 use denote.Ref.{Bor, MutBor}
-use Rattle.c_tokens.specs.declared.token.Token.{Token}
-use Rattle.c_tree.specs.declared.unit.Initializer.{Initializer}
+use Rattle.c_language.specs.declared.token.Token.{Token}
+use Rattle.c_language.specs.declared.unit.Initializer.{Initializer}
 use Rattle.c_grammar.specs.Parts.{Frame}
 use Rattle.c_grammar.specs.UnitReading.{initializer_at}
 use Rattle.c_reading.specs.declared.cursor.Cursor.{Cursor}

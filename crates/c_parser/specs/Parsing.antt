@@ -1,7 +1,7 @@
 -- What a parse says of the tokens.
 use Rattle.std.specs.Prelude.{◌≡◌, List}
-use Rattle.c_tokens.specs.declared.token.Token.{Token}
-use Rattle.c_tree.specs.declared.unit.External.{External}
+use Rattle.c_language.specs.declared.token.Token.{Token}
+use Rattle.c_language.specs.declared.unit.External.{External}
 use Rattle.c_grammar.specs.Units.{derives}
 use Rattle.c_reading.specs.declared.fault.ParseFault.{ParseFault}
 use Rattle.c_reading.specs.declared.fault.ParseFault.TheVariants as fault

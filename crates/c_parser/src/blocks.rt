@@ -8,10 +8,9 @@ ghost use Rattle.c_parser.specs.Turns.{ReachesStatement};
 
 use crate::shared::expr;
 use crate::turns::Turns;
+use c_language::{Keyword, Punctuator, Stmt, Token};
 use c_reading::{Cursor, ParseFault};
 use c_scope::FileNames;
-use c_tokens::{Keyword, Punctuator, Token};
-use c_tree::Stmt;
 use plain_data::{Items, Shared};
 use std::alloc::Global;
 

@@ -8,10 +8,9 @@ ghost use Rattle.c_parser.specs.Bodies.{body_of, found_by, unread_by};
 
 use crate::groups::{Extent, group};
 use crate::statements::statement;
+use c_language::{Body, Stmt, Token};
 use c_reading::{Cursor, ParseFault, Source, front, is_at_end, most_height, rest, start_of};
 use c_scope::{FileNames, Names};
-use c_tokens::Token;
-use c_tree::{Body, Stmt};
 use plain_data::Shared;
 use std::alloc::{AllocError, Global};
 

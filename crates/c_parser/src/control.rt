@@ -9,10 +9,9 @@ ghost use Rattle.c_parser.specs.Turns.{ReachesStatement};
 
 use crate::jumps::condition;
 use crate::turns::Turns;
+use c_language::{Keyword, Punctuator, Stmt, Token};
 use c_reading::{Cursor, ParseFault};
 use c_scope::FileNames;
-use c_tokens::{Keyword, Punctuator, Token};
-use c_tree::Stmt;
 use plain_data::Shared;
 use std::alloc::Global;
 

@@ -9,13 +9,14 @@ ghost use Rattle.c_reading.specs.Reads.{Reads};
 
 use crate::initializers::initializer;
 use crate::scopes::declare;
-use bit_words::Bytes;
 use c_exprs::Trees;
 use c_grammar::DeclaratorPlace;
+use c_language::{
+    Declaration, Declarator, InitDeclarator, Initializer, Keyword, Punctuator, Specifier,
+    StorageClass,
+};
 use c_reading::{Cursor, ParseFault, Source};
-use c_tokens::{Keyword, Punctuator};
-use c_tree::{Declaration, Declarator, InitDeclarator, Initializer, Specifier, StorageClass};
-use plain_data::{Items, Shared};
+use plain_data::{Bytes, Items, Shared};
 use std::alloc::Global;
 
 /// Whether a specifier is `typedef` (C99 6.7.1).

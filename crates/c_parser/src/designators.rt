@@ -7,9 +7,8 @@ ghost use Rattle.c_reading.specs.Reads.{Reads};
 
 use crate::shared::expr;
 use c_exprs::Trees;
+use c_language::{Designator, Punctuator, TokenKind};
 use c_reading::{Cursor, ParseFault, Source};
-use c_tokens::{Punctuator, TokenKind};
-use c_tree::Designator;
 use plain_data::Items;
 
 /// Whether a designator begins with this token.

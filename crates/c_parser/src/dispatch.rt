@@ -12,10 +12,9 @@ use crate::groups::is_mark;
 use crate::jumps::{break_statement, continue_statement, goto, return_statement, value_statement};
 use crate::turns::Turns;
 use c_exprs::Trees;
+use c_language::{Keyword, Punctuator, Stmt, Token, TokenKind};
 use c_reading::{Cursor, ParseFault, Source};
 use c_scope::FileNames;
-use c_tokens::{Keyword, Punctuator, Token, TokenKind};
-use c_tree::Stmt;
 use std::alloc::Global;
 
 /// Whether the token at this index is `:`.

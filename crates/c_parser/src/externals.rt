@@ -7,10 +7,9 @@ ghost use Rattle.c_reading.specs.Reads.{Reads};
 use crate::bodies::body;
 use crate::declarations::{declaration_behind, declaring, makes_types};
 use c_exprs::Trees;
+use c_language::{Declaration, Declarator, External, Punctuator, Specifier, Token};
 use c_reading::{Cursor, ParseFault, Source, is_at_end, most_height};
 use c_scope::{FileNames, Names};
-use c_tokens::{Punctuator, Token};
-use c_tree::{Declaration, Declarator, External, Specifier};
 use plain_data::{Items, Shared};
 use std::alloc::Global;
 

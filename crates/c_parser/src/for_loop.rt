@@ -11,10 +11,9 @@ use crate::declarations::declaration;
 use crate::jumps::optional;
 use crate::turns::Turns;
 use c_exprs::Trees;
+use c_language::{Expr, ForStart, Punctuator, Stmt, Token};
 use c_reading::{Cursor, ParseFault};
 use c_scope::FileNames;
-use c_tokens::{Punctuator, Token};
-use c_tree::{Expr, ForStart, Stmt};
 use plain_data::Shared;
 use std::alloc::Global;
 

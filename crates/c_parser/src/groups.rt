@@ -1,12 +1,12 @@
 //! Groups of tokens in braces, whose brackets match.
 ghost use Rattle.std.specs.Prelude.{◌≡◌, ◌≤◌, ◌∷◌, [], length, drop, IfOk, OnOk};
-ghost use Rattle.c_tokens.specs.declared.token.Punctuator.TheVariants as mark;
+ghost use Rattle.c_language.specs.declared.token.Punctuator.TheVariants as mark;
 ghost use Rattle.c_grammar.specs.Parts.{is_punctuator};
 ghost use Rattle.c_grammar.specs.Units as units;
 ghost use Rattle.c_grammar.specs.UnitReading as spec;
 ghost use Rattle.c_parser.specs.Groups.{wants_none, closed_by, wanted_behind, Changes, parted, closed, reach};
 
-use c_tokens::{Punctuator, Token, TokenKind};
+use c_language::{Punctuator, Token, TokenKind};
 use std::alloc::{AllocError, Global};
 use std::marker::Model;
 
@@ -63,7 +63,7 @@ struct Wanted {
 
 impl Model for Wanted {
     ghost use Rattle.std.specs.Prelude.{List, reverse};
-    ghost use Rattle.c_tokens.specs.declared.token.Punctuator.{Punctuator};
+    ghost use Rattle.c_language.specs.declared.token.Punctuator.{Punctuator};
 
     ghost Value = { List Punctuator };
 

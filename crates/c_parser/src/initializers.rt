@@ -11,10 +11,9 @@ ghost use Rattle.c_parser.specs.Inside.{ReachesInitializer};
 use crate::designators::{designators, is_designated};
 use crate::shared::expr;
 use c_exprs::Trees;
+use c_language::{Initializer, InitializerItem, Punctuator, Token};
 use c_reading::{Cursor, ParseFault, Source};
 use c_scope::FileNames;
-use c_tokens::{Punctuator, Token};
-use c_tree::{Initializer, InitializerItem};
 use plain_data::{Items, Shared};
 use std::alloc::Global;
 

@@ -6,9 +6,8 @@ ghost use Rattle.c_reading.specs.Reads.{Reads};
 
 use crate::shared::expr;
 use c_exprs::Trees;
+use c_language::{Expr, Punctuator, Stmt};
 use c_reading::{Cursor, ParseFault, Source};
-use c_tokens::Punctuator;
-use c_tree::{Expr, Stmt};
 use plain_data::Shared;
 
 /// `[ expression ]` (C99 6.8.3, 6.8.5, 6.8.6): none where this token comes next.

@@ -4,8 +4,8 @@ ghost use Rattle.c_grammar.specs.Reading.{rules};
 ghost use Rattle.c_reading.specs.Reads.{Reads};
 
 use c_exprs::Trees;
+use c_language::Expr;
 use c_reading::{Cursor, ParseFault};
-use c_tree::Expr;
 use plain_data::Shared;
 
 /// An expression at a rank of the grammar (C99 6.5).

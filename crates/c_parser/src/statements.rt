@@ -6,10 +6,9 @@ ghost use Rattle.c_reading.specs.Reads.{Reads};
 
 use crate::turns::Turns;
 use c_exprs::Trees;
+use c_language::{Stmt, Token};
 use c_reading::{Cursor, ParseFault, Source};
 use c_scope::FileNames;
-use c_tokens::Token;
-use c_tree::Stmt;
 use std::alloc::Global;
 
 /// `statement` (C99 6.8) of at most this height, and at rank 1 `block-item: declaration | statement` (C99 6.8.2).

@@ -6,10 +6,9 @@ ghost use Rattle.c_reading.specs.Reads.{Reads};
 ghost use Rattle.c_parser.specs.Turns.{ReachesStatement};
 
 use c_exprs::Trees;
+use c_language::{Stmt, Token};
 use c_reading::{Cursor, ParseFault};
 use c_scope::FileNames;
-use c_tokens::Token;
-use c_tree::Stmt;
 use std::alloc::Global;
 
 /// What reads the parts of a statement: the trees of at most a height, and a function that is handed the allocator, the

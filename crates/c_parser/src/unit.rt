@@ -1,14 +1,13 @@
 //! Units (C99 6.9).
 ghost use Rattle.std.specs.Prelude.{◌≡◌, IfOk, IfErr};
 ghost use Rattle.c_grammar.specs.Units.{derives};
-ghost use Rattle.c_tokens.specs.Standing.{StandInOrder};
-ghost use Rattle.c_tree.specs.PlaceTables.{places_of, AreFound};
+ghost use Rattle.c_language.specs.Standing.{StandInOrder};
+ghost use Rattle.c_language.specs.PlaceTables.{places_of, AreFound};
 ghost use Rattle.c_parser.specs.Parsing.{Refuses, IsOnly};
 
 use crate::externals::read_unit;
+use c_language::{Places, Tokens, Unit};
 use c_reading::ParseFault;
-use c_tokens::Tokens;
-use c_tree::{Places, Unit};
 use plain_data::Shared;
 use std::alloc::Global;
 

@@ -3,21 +3,21 @@
 use Rattle.std.proofs.Common.{◌≡◌, ℕ, suc, ℤ, Bool, true, false, List, [], ◌∷◌, Option, Some, None, refl, sym}
 use Rattle.std.proofs.Common.{ap, subst, ◌∙◌, arith}
 use Rattle.std.specs.Prelude.{map}
-use Rattle.c_tree.specs.declared.expr.BinaryOperator.{BinaryOperator}
-use Rattle.c_tree.specs.declared.expr.BinaryOperator.TheVariants as o
-use Rattle.c_tree.specs.declared.expr.Expr.{Expr}
-use Rattle.c_tree.specs.declared.expr.PostfixOperator.{PostfixOperator}
-use Rattle.c_tree.specs.declared.expr.PostfixOperator.TheVariants as postfix_
-use Rattle.c_tree.specs.declared.expr.UnaryOperator.{UnaryOperator}
-use Rattle.c_tree.specs.declared.expr.UnaryOperator.TheVariants as u
-use Rattle.c_tree.proofs.Induction.{Each, Steps, of_expr}
-use Rattle.c_type_terms.specs.declared.ctype.CType.{CType}
-use Rattle.c_says.specs.declared.scope.Entry.{Entry}
-use Rattle.c_says.specs.declared.scope.Means.{Means}
-use Rattle.c_says.specs.declared.scope.Means.TheVariants as means
-use Rattle.c_says.specs.Scopes.{Scope, look_up}
-use Rattle.c_says.specs.Typing.{Typed, type_of}
-use Rattle.c_says.specs.Typing as says
+use Rattle.c_language.specs.declared.expr.BinaryOperator.{BinaryOperator}
+use Rattle.c_language.specs.declared.expr.BinaryOperator.TheVariants as o
+use Rattle.c_language.specs.declared.expr.Expr.{Expr}
+use Rattle.c_language.specs.declared.expr.PostfixOperator.{PostfixOperator}
+use Rattle.c_language.specs.declared.expr.PostfixOperator.TheVariants as postfix_
+use Rattle.c_language.specs.declared.expr.UnaryOperator.{UnaryOperator}
+use Rattle.c_language.specs.declared.expr.UnaryOperator.TheVariants as u
+use Rattle.c_language.proofs.Induction.{Each, Steps, of_expr}
+use Rattle.c_language.specs.declared.ctype.CType.{CType}
+use Rattle.c_language.specs.declared.scope.Entry.{Entry}
+use Rattle.c_language.specs.declared.scope.Means.{Means}
+use Rattle.c_language.specs.declared.scope.Means.TheVariants as means
+use Rattle.c_language.specs.Scopes.{Scope, look_up}
+use Rattle.c_language.specs.Typing.{Typed, type_of}
+use Rattle.c_language.specs.Typing as says
 use Rattle.c_means.specs.Parts.{Level, Run, Site, Part, entered}
 use Rattle.c_means.specs.Expressions.{Needs, valued, placed, over_one, over_both, over_three, named_as, identifier}
 use Rattle.c_means.specs.Expressions.{member_by, offset_of, postfix, unary, binary}
@@ -25,8 +25,8 @@ use Rattle.c_means.specs.Expressions.{Passed, passed, all_sizes, all_rooms, pass
 use Rattle.c_means.specs.Expressions.{text_at, direct_call, call_of, site, designated, parameters_of}
 use Rattle.c_means.specs.Trees.{ExprMeans, part, through, type_name_said}
 use Rattle.c_means.proofs.Equations as meaning
-use Rattle.c_runs.specs.Notes.{noted}
-use Rattle.c_runs.proofs.Fusion.{part_noted}
+use Rattle.c_means.specs.Notes.{noted}
+use Rattle.c_means.proofs.RunFusion.{part_noted}
 
 -- what is left of a level where nothing runs: the rest is taken from nowhere
 abbrev pub still : Level → Level

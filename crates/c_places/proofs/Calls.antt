@@ -2,25 +2,25 @@
 use Rattle.std.proofs.Common.{◌≡◌, ◌≤◌, ℕ, zero, suc, ◌+◌, ◌*◌, ℤ, pos, negsuc, Bool, true, false, cond, List, [], ◌∷◌}
 use Rattle.std.proofs.Common.{Option, Some, None, refl, arith, le_refl}
 use Rattle.std.specs.Prelude.{not, ◌&&◌, nat_eq, nat_lt, drop}
-use Rattle.bit_words.specs.declared.run.Undefined.TheVariants as undefined
-use Rattle.bit_words.specs.declared.run.Finish.TheVariants as finish
-use Rattle.c_type_terms.specs.declared.class.Class.{Class}
-use Rattle.c_type_terms.specs.declared.class.Class.TheVariants as class
+use Rattle.plain_data.specs.declared.run.Undefined.TheVariants as undefined
+use Rattle.plain_data.specs.declared.run.Finish.TheVariants as finish
+use Rattle.c_language.specs.declared.class.Class.{Class}
+use Rattle.c_language.specs.declared.class.Class.TheVariants as class
 use Rattle.c_store.specs.Store.{start, end, object_of}
 use Rattle.c_store.specs.Access.{can_access, can_write, can_free}
-use Rattle.c_says.specs.declared.scope.Entry.{Entry}
+use Rattle.c_language.specs.declared.scope.Entry.{Entry}
 use Rattle.c_means.specs.Parts.{State, Env, Level, Site, meet, with_store}
 use Rattle.c_means.specs.Values.{address, class_in}
-use Rattle.c_runs.specs.declared.profile.FillAnswer.{FillAnswer}
-use Rattle.c_runs.specs.declared.profile.FillAnswer.TheVariants as answer
-use Rattle.c_runs.specs.declared.profile.FillFunction.{FillFunction}
-use Rattle.c_runs.specs.declared.profile.LogText.{LogText}
-use Rattle.c_runs.specs.Rules.{Library, Exit, Abort, Malloc, Calloc, Free}
-use Rattle.c_runs.specs.Calls.{answers, stopped, finished, asked, value_or_zero, meets, prints, prints_if, log_call}
-use Rattle.c_runs.specs.Calls.{log_pieces}
-use Rattle.c_runs.specs.Calls.{pointers_in, as_number, heap_object, freed, library_call, outside_object}
-use Rattle.c_runs.specs.Calls.{pointed, outside_pointer, outside_answer, fill_count, fills_at, filled, is_odd, fill_by}
-use Rattle.c_runs.specs.Calls.{outside_call, text_with, arguments_of, before_format, spoken}
+use Rattle.c_means.specs.declared.profile.FillAnswer.{FillAnswer}
+use Rattle.c_means.specs.declared.profile.FillAnswer.TheVariants as answer
+use Rattle.c_means.specs.declared.profile.FillFunction.{FillFunction}
+use Rattle.c_means.specs.declared.profile.LogText.{LogText}
+use Rattle.c_means.specs.Rules.{Library, Exit, Abort, Malloc, Calloc, Free}
+use Rattle.c_means.specs.Calls.{answers, stopped, finished, asked, value_or_zero, meets, prints, prints_if, log_call}
+use Rattle.c_means.specs.Calls.{log_pieces}
+use Rattle.c_means.specs.Calls.{pointers_in, as_number, heap_object, freed, library_call, outside_object}
+use Rattle.c_means.specs.Calls.{pointed, outside_pointer, outside_answer, fill_count, fills_at, filled, is_odd, fill_by}
+use Rattle.c_means.specs.Calls.{outside_call, text_with, arguments_of, before_format, spoken}
 use Rattle.c_places.specs.Places.{once}
 use Rattle.c_places.proofs.Counts.{Rises, met, times-append}
 

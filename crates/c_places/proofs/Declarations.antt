@@ -1,26 +1,26 @@
 -- Declarations in blocks: objects have the places of their declarations.
 use Rattle.std.proofs.Common.{◌≡◌, ℕ, suc, ◌+◌, Bool, true, false, cond, List, [], ◌∷◌, Option, Some, None, refl, arith}
 use Rattle.std.specs.Prelude.{map, option_map}
-use Rattle.c_tree.specs.declared.unit.Declaration.{Declaration}
-use Rattle.c_tree.specs.declared.unit.InitDeclarator.{InitDeclarator}
-use Rattle.c_tree.specs.declared.unit.Initializer.{Initializer}
+use Rattle.c_language.specs.declared.unit.Declaration.{Declaration}
+use Rattle.c_language.specs.declared.unit.InitDeclarator.{InitDeclarator}
+use Rattle.c_language.specs.declared.unit.Initializer.{Initializer}
 use Rattle.c_store.specs.Store.{start}
-use Rattle.c_says.specs.declared.scope.Duration.TheVariants as duration
-use Rattle.c_says.specs.declared.scope.Entry.{Entry}
-use Rattle.c_says.specs.declared.scope.Linkage.{Linkage}
-use Rattle.c_says.specs.declared.scope.Means.{Means}
-use Rattle.c_says.specs.declared.scope.Means.TheVariants as means
-use Rattle.c_says.specs.Scopes.{Scope}
-use Rattle.c_says.specs.Declares.{Said, said_by}
-use Rattle.c_says.specs.Declarations.{Declared, declares}
+use Rattle.c_language.specs.declared.scope.Duration.TheVariants as duration
+use Rattle.c_language.specs.declared.scope.Entry.{Entry}
+use Rattle.c_language.specs.declared.scope.Linkage.{Linkage}
+use Rattle.c_language.specs.declared.scope.Means.{Means}
+use Rattle.c_language.specs.declared.scope.Means.TheVariants as means
+use Rattle.c_language.specs.Scopes.{Scope}
+use Rattle.c_language.specs.Declares.{Said, said_by}
+use Rattle.c_language.specs.Declarations.{Declared, declares}
 use Rattle.c_means.specs.Parts.{State}
 use Rattle.c_means.specs.Values.{bytes_of}
-use Rattle.c_runs.specs.Notes.{specifier_noted}
-use Rattle.c_runs.specs.Items.{typing}
-use Rattle.c_runs.specs.Initials.{Initial, Initially, initially, initialising_if, said_if}
-use Rattle.c_runs.specs.Statements.{Declaring, zeroed_if, automatic, no_env, lasting, declared_means}
-use Rattle.c_runs.specs.Statements.{declared_entry, type_in_entry, declared_item, defines, name_offset, declares_formed}
-use Rattle.c_runs.specs.Statements.{declares_all, is_alone, declaring, declaration}
+use Rattle.c_means.specs.Notes.{specifier_noted}
+use Rattle.c_means.specs.Items.{typing}
+use Rattle.c_means.specs.Initials.{Initial, Initially, initially, initialising_if, said_if}
+use Rattle.c_means.specs.Statements.{Declaring, zeroed_if, automatic, no_env, lasting, declared_means}
+use Rattle.c_means.specs.Statements.{declared_entry, type_in_entry, declared_item, defines, name_offset, declares_formed}
+use Rattle.c_means.specs.Statements.{declares_all, is_alone, declaring, declaration}
 use Rattle.c_places.proofs.Counts.{met}
 use Rattle.c_means.specs.Parts.{Level}
 use Rattle.c_places.proofs.Blind.{still}

@@ -1,17 +1,17 @@
 -- What an expression does meets no place but those of its room: one induction over all trees.
 use Rattle.std.proofs.Common.{◌≡◌, ℕ, List, [], ◌∷◌, sym, subst}
 use Rattle.std.specs.Prelude.{map}
-use Rattle.c_tree.specs.declared.expr.Expr.{Expr}
-use Rattle.c_tree.proofs.Induction.{Each, Steps, of_expr}
-use Rattle.c_says.specs.Scopes.{Scope, look_up}
-use Rattle.c_says.specs.Typing.{type_of, constant_of}
-use Rattle.c_says.specs.Typing as says
+use Rattle.c_language.specs.declared.expr.Expr.{Expr}
+use Rattle.c_language.proofs.Induction.{Each, Steps, of_expr}
+use Rattle.c_language.specs.Scopes.{Scope, look_up}
+use Rattle.c_language.specs.Typing.{type_of, constant_of}
+use Rattle.c_language.specs.Typing as says
 use Rattle.c_means.specs.Parts.{Level}
 use Rattle.c_means.specs.Expressions.{offset_of}
 use Rattle.c_means.specs.Trees.{ExprMeans, part, through, type_name_said}
 use Rattle.c_means.proofs.Equations as meaning
-use Rattle.c_runs.specs.Notes.{noted}
-use Rattle.c_runs.proofs.Fusion.{part_noted}
+use Rattle.c_means.specs.Notes.{noted}
+use Rattle.c_means.proofs.RunFusion.{part_noted}
 use Rattle.c_places.proofs.Parts as parts
 use Rattle.c_places.proofs.Parts.{Calling, Keeps, EachKeeps}
 

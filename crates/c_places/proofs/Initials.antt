@@ -2,25 +2,25 @@
 use Rattle.std.proofs.Common.{◌≤◌, ℕ, ◌+◌, Bool, true, false, cond, List, [], ◌∷◌, ◌++◌, Option, Some, None}
 use Rattle.std.proofs.Common.{sym, subst, arith, le_refl}
 use Rattle.std.specs.Prelude.{map, unwrap_or}
-use Rattle.c_tree.specs.declared.unit.Initializer.{Initializer}
-use Rattle.c_tree.specs.declared.unit.InitializerItem.{InitializerItem}
-use Rattle.c_type_terms.specs.declared.ctype.CType.{CType}
+use Rattle.c_language.specs.declared.unit.Initializer.{Initializer}
+use Rattle.c_language.specs.declared.unit.InitializerItem.{InitializerItem}
+use Rattle.c_language.specs.declared.ctype.CType.{CType}
 use Rattle.c_grammar.proofs.UnitEquations.{EachValue, InitialSteps, of_initializer}
-use Rattle.c_says.specs.Initials.{Part, Designates, ToMember, ToElement, is_text_of}
-use Rattle.c_says.specs.Scopes.{Scope}
+use Rattle.c_language.specs.Initials.{Part, Designates, ToMember, ToElement, is_text_of}
+use Rattle.c_language.specs.Scopes.{Scope}
 use Rattle.c_means.specs.Parts.{State, Env, Level}
-use Rattle.c_runs.specs.Notes.{Noted, ExprNoted}
-use Rattle.c_runs.specs.Items.{with_value}
-use Rattle.c_runs.specs.Initials.{Element, Evaluates, Indexes, Initially, Initial, initially, listed_item, designated}
-use Rattle.c_runs.specs.Initials.{indices, all_elements, evaluated, sets, sets_all, sets_text, stores, all_rooms}
-use Rattle.c_runs.specs.Initials.{initialising_if}
-use Rattle.c_runs.proofs.Equations as eqs
+use Rattle.c_means.specs.Notes.{Noted, ExprNoted}
+use Rattle.c_means.specs.Items.{with_value}
+use Rattle.c_means.specs.Initials.{Element, Evaluates, Indexes, Initially, Initial, initially, listed_item, designated}
+use Rattle.c_means.specs.Initials.{indices, all_elements, evaluated, sets, sets_all, sets_text, stores, all_rooms}
+use Rattle.c_means.specs.Initials.{initialising_if}
+use Rattle.c_means.proofs.RunEquations as eqs
 use Rattle.c_places.proofs.Counts.{met}
-use Rattle.c_runs.specs.Notes.{noted}
+use Rattle.c_means.specs.Notes.{noted}
 use Rattle.std.proofs.Common.{◌≡◌, refl}
 use Rattle.c_places.proofs.Parts.{Calling, Keeps}
-use Rattle.c_tree.specs.declared.expr.Expr.{Expr}
-use Rattle.c_runs.specs.Initials.{all_sizes}
+use Rattle.c_language.specs.declared.expr.Expr.{Expr}
+use Rattle.c_means.specs.Initials.{all_sizes}
 use Rattle.c_places.proofs.Expressions.{noted_keeps}
 use Rattle.c_places.proofs.Blind.{still, Blind, noted_blind}
 use Rattle.c_places.proofs.Items.{runs, with_value_adds}

@@ -2,21 +2,21 @@
 -- block among them, and its block makes these.
 use Rattle.std.proofs.Common.{◌≡◌, ◌≤◌, ℕ, suc, ◌+◌, ℤ, Bool, true, false, cond, List, [], ◌∷◌, ◌++◌, Ok, Err}
 use Rattle.std.proofs.Common.{refl, arith}
-use Rattle.bit_words.specs.declared.run.Happening.TheVariants as happening
-use Rattle.bit_words.specs.declared.run.Side.TheVariants as side
-use Rattle.c_type_terms.specs.Integers.{is_zero}
-use Rattle.c_says.specs.Scopes.{Scope}
+use Rattle.plain_data.specs.declared.run.Happening.TheVariants as happening
+use Rattle.plain_data.specs.declared.run.Side.TheVariants as side
+use Rattle.c_language.specs.Integers.{is_zero}
+use Rattle.c_language.specs.Scopes.{Scope}
 use Rattle.c_means.specs.declared.kind.Kind.{Kind}
 use Rattle.c_means.specs.declared.kind.Kind.TheVariants as k
 use Rattle.c_store.specs.declared.object.ObjectKind.TheVariants.{Automatic}
 use Rattle.c_store.specs.Store.{make, end}
 use Rattle.c_means.specs.Parts.{State, Outcome, Env, Level, note, meet, with_store}
 use Rattle.c_means.specs.Expressions.{on_branch}
-use Rattle.c_runs.specs.declared.breach.Breach.{Breach}
-use Rattle.c_runs.specs.Items.{Item, Made, Lasting, Code, Context, Acts, Arrow, born, dead, known, running}
-use Rattle.c_runs.specs.Items.{where_running}
-use Rattle.c_runs.specs.Items.{with_value, nothing, followed, with_breaches, node, guarded, closed, without_cases}
-use Rattle.c_runs.specs.Items.{in_turn, in_scope, sub, block_of, unchosen, opened}
+use Rattle.c_means.specs.declared.breach.Breach.{Breach}
+use Rattle.c_means.specs.Items.{Item, Made, Lasting, Code, Context, Acts, Arrow, born, dead, known, running}
+use Rattle.c_means.specs.Items.{where_running}
+use Rattle.c_means.specs.Items.{with_value, nothing, followed, with_breaches, node, guarded, closed, without_cases}
+use Rattle.c_means.specs.Items.{in_turn, in_scope, sub, block_of, unchosen, opened}
 use Rattle.c_places.specs.Places.{once}
 use Rattle.c_places.proofs.Counts.{met, AddsTo, times-append}
 use Rattle.c_places.proofs.Parts.{Calling}

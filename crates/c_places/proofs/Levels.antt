@@ -3,23 +3,23 @@ use Rattle.std.proofs.Common.{◌≡◌, ◌≤◌, ℕ, zero, suc, ◌+◌, ℤ
 use Rattle.std.proofs.Common.{None}
 use Rattle.std.proofs.Common.{refl, arith, length}
 use Rattle.std.specs.Str.{bytes_eq}
-use Rattle.c_type_terms.specs.declared.tables.Tables.{Tables}
+use Rattle.c_language.specs.declared.tables.Tables.{Tables}
 use Rattle.c_store.specs.Store.{Store, start}
-use Rattle.c_says.specs.declared.scope.Entry.{Entry}
-use Rattle.c_says.specs.declared.scope.Means.{Means}
-use Rattle.c_says.specs.declared.scope.Means.TheVariants as means
-use Rattle.c_says.specs.Scopes.{Name, Scope}
+use Rattle.c_language.specs.declared.scope.Entry.{Entry}
+use Rattle.c_language.specs.declared.scope.Means.{Means}
+use Rattle.c_language.specs.declared.scope.Means.TheVariants as means
+use Rattle.c_language.specs.Scopes.{Name, Scope}
 use Rattle.c_means.specs.Parts.{State, Env, Level, Site, entered}
-use Rattle.c_runs.specs.Items.{born, known, lived}
-use Rattle.c_runs.specs.Statements.{no_env}
-use Rattle.c_runs.specs.Rules.{Rules, LogCall, IdentityCall, BodyCall, LibraryCall, PreludeCall, OutsideCall, Library}
-use Rattle.c_runs.specs.Rules.{Taking, rule_by, identity_or, body_or, library_or, prelude_or_outside, log_of}
-use Rattle.c_runs.specs.Rules.{identity_index, library_of, callee_taking, same_taking, declared_taking, fill_of}
-use Rattle.c_runs.specs.declared.profile.LogFunction.{LogFunction}
-use Rattle.c_runs.specs.Programs.{Function, functions_of, function_named, watched_lasting}
-use Rattle.c_runs.specs.Runs.{Machine, Below, bare, level, level_of, frame, passes, passes_as, by_body}
-use Rattle.c_runs.specs.Runs.{body_room, call_below, room_below, room_by, call_by, rule_of, prelude_if}
-use Rattle.c_runs.specs.Runs.{prelude_of, is_never_null}
+use Rattle.c_means.specs.Items.{born, known, lived}
+use Rattle.c_means.specs.Statements.{no_env}
+use Rattle.c_means.specs.Rules.{Rules, LogCall, IdentityCall, BodyCall, LibraryCall, PreludeCall, OutsideCall, Library}
+use Rattle.c_means.specs.Rules.{Taking, rule_by, identity_or, body_or, library_or, prelude_or_outside, log_of}
+use Rattle.c_means.specs.Rules.{identity_index, library_of, callee_taking, same_taking, declared_taking, fill_of}
+use Rattle.c_means.specs.declared.profile.LogFunction.{LogFunction}
+use Rattle.c_means.specs.Programs.{Function, functions_of, function_named, watched_lasting}
+use Rattle.c_means.specs.Runs.{Machine, Below, bare, level, level_of, frame, passes, passes_as, by_body}
+use Rattle.c_means.specs.Runs.{body_room, call_below, room_below, room_by, call_by, rule_of, prelude_if}
+use Rattle.c_means.specs.Runs.{prelude_of, is_never_null}
 use Rattle.c_places.proofs.Counts.{met}
 use Rattle.c_places.proofs.Items.{Counting, ItemKeeps, made, born_met, dead_met, closed_keeps}
 use Rattle.c_places.proofs.Calls.{Counts, log_within, library_within, outside_within}

@@ -2,17 +2,17 @@
 use Rattle.std.proofs.Common.{ℕ, Bool, true, false, cond, List, [], ◌∷◌, ◌++◌, Option, Some, None}
 use Rattle.std.specs.Str.{bytes_eq}
 use Rattle.std.specs.Prelude.{nat_lt, nat_eq}
-use Rattle.c_says.specs.declared.scope.Linked.{Linked}
-use Rattle.c_says.specs.Scopes.{Name, Scope, linked_as, last_where}
-use Rattle.c_runs.specs.declared.profile.Profile.{Profile}
-use Rattle.c_runs.specs.Items.{Lasting, Item}
-use Rattle.c_runs.specs.Names.{Literal, Names, Word}
-use Rattle.c_runs.specs.Programs.{Function, Outer, Program, Text, Needs, no_needs, and_needs, texts_of, item_needs}
-use Rattle.c_runs.specs.Programs.{declared_needs, function_needs, all_needs, needs_of, is_needed, has_function}
-use Rattle.c_runs.specs.Programs.{needed_words, reached}
-use Rattle.c_runs.specs.Runs.{with_offset, linked_offsets, lasting_offsets, literal_offsets, function_offsets}
-use Rattle.c_runs.specs.Runs.{outer_offsets}
-use Rattle.c_runs.specs.Runs.{offsets_of, linked_offset, name_offsets, text_offsets}
+use Rattle.c_language.specs.declared.scope.Linked.{Linked}
+use Rattle.c_language.specs.Scopes.{Name, Scope, linked_as, last_where}
+use Rattle.c_means.specs.declared.profile.Profile.{Profile}
+use Rattle.c_means.specs.Items.{Lasting, Item}
+use Rattle.c_means.specs.Names.{Literal, Names, Word}
+use Rattle.c_means.specs.Programs.{Function, Outer, Program, Text, Needs, no_needs, and_needs, texts_of, item_needs}
+use Rattle.c_means.specs.Programs.{declared_needs, function_needs, all_needs, needs_of, is_needed, has_function}
+use Rattle.c_means.specs.Programs.{needed_words, reached}
+use Rattle.c_means.specs.Runs.{with_offset, linked_offsets, lasting_offsets, literal_offsets, function_offsets}
+use Rattle.c_means.specs.Runs.{outer_offsets}
+use Rattle.c_means.specs.Runs.{offsets_of, linked_offset, name_offsets, text_offsets}
 use Rattle.c_places.proofs.Offsets.{Ascends, Has, AllIn, ascends_with, has_itself, has_still}
 use Rattle.c_places.proofs.Items.{ItemKeeps, LastingKeep, lasting_append}
 use Rattle.c_places.proofs.Levels.{MaybeFunction}

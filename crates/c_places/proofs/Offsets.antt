@@ -2,8 +2,8 @@
 use Rattle.std.proofs.Common.{◌≡◌, ◌≤◌, ◌<◌, ◌⊎◌, inl, inr, ℕ, suc, ◌+◌, Bool, true, false, cond, List, [], ◌∷◌}
 use Rattle.std.proofs.Common.{refl, sym, subst, arith, length, map}
 use Rattle.std.specs.Prelude.{nat_lt, nat_eq}
-use Rattle.c_runs.specs.Runs.{with_offset}
-use Rattle.c_runs.specs.Runs.{place_in}
+use Rattle.c_means.specs.Runs.{with_offset}
+use Rattle.c_means.specs.Runs.{place_in}
 use Rattle.c_places.specs.Places.{times}
 use Rattle.c_places.proofs.Calls.{Counts}
 

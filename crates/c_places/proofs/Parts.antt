@@ -2,31 +2,31 @@
 use Rattle.std.proofs.Common.{◌≤◌, ℕ, ◌+◌, ℤ, pos, Bool, true, false, List, [], ◌∷◌, Ok}
 use Rattle.std.proofs.Common.{arith, Option, Some, None, le_refl}
 use Rattle.std.specs.Prelude.{not, unwrap_or}
-use Rattle.bit_words.specs.declared.run.Side.TheVariants as side
-use Rattle.bit_words.specs.declared.run.Happening.TheVariants as happening
-use Rattle.c_tree.specs.declared.expr.BinaryOperator.{BinaryOperator}
-use Rattle.c_tree.specs.declared.expr.BinaryOperator.TheVariants as o
-use Rattle.c_tree.specs.declared.expr.PostfixOperator.{PostfixOperator}
-use Rattle.c_tree.specs.declared.expr.PostfixOperator.TheVariants as postfix_
-use Rattle.c_tree.specs.declared.expr.UnaryOperator.{UnaryOperator}
-use Rattle.c_tree.specs.declared.expr.UnaryOperator.TheVariants as u
-use Rattle.c_type_terms.specs.declared.class.Class.{Class}
-use Rattle.c_type_terms.specs.declared.class.Class.TheVariants as class
+use Rattle.plain_data.specs.declared.run.Side.TheVariants as side
+use Rattle.plain_data.specs.declared.run.Happening.TheVariants as happening
+use Rattle.c_language.specs.declared.expr.BinaryOperator.{BinaryOperator}
+use Rattle.c_language.specs.declared.expr.BinaryOperator.TheVariants as o
+use Rattle.c_language.specs.declared.expr.PostfixOperator.{PostfixOperator}
+use Rattle.c_language.specs.declared.expr.PostfixOperator.TheVariants as postfix_
+use Rattle.c_language.specs.declared.expr.UnaryOperator.{UnaryOperator}
+use Rattle.c_language.specs.declared.expr.UnaryOperator.TheVariants as u
+use Rattle.c_language.specs.declared.class.Class.{Class}
+use Rattle.c_language.specs.declared.class.Class.TheVariants as class
 use Rattle.c_store.specs.Store.{Store}
-use Rattle.c_says.specs.declared.scope.Duration.{Duration}
-use Rattle.c_says.specs.declared.scope.Entry.{Entry}
-use Rattle.c_says.specs.declared.scope.Means.{Means}
-use Rattle.c_says.specs.declared.scope.Means.TheVariants as means
-use Rattle.c_says.specs.Scopes.{Name, Scope}
-use Rattle.c_says.specs.Typing.{Typed, NamedType, type_of}
-use Rattle.c_says.specs.Typing as says
+use Rattle.c_language.specs.declared.scope.Duration.{Duration}
+use Rattle.c_language.specs.declared.scope.Entry.{Entry}
+use Rattle.c_language.specs.declared.scope.Means.{Means}
+use Rattle.c_language.specs.declared.scope.Means.TheVariants as means
+use Rattle.c_language.specs.Scopes.{Name, Scope}
+use Rattle.c_language.specs.Typing.{Typed, NamedType, type_of}
+use Rattle.c_language.specs.Typing as says
 use Rattle.c_means.specs.Parts.{State, Outcome, Env, Run, Level, Site, Part, ◌>>=◌, note, returned, returned_in}
 use Rattle.c_means.specs.Operators.{Operand, operand, one, operated, operated_on, turned_value, negated, target_in}
 use Rattle.c_means.specs.Operators.{value_type}
 use Rattle.c_means.specs.Objects.{load, put}
 use Rattle.c_means.specs.Values.{address, class_in, converted_to}
-use Rattle.c_type_terms.specs.Integers.{is_zero, number_of}
-use Rattle.c_says.specs.declared.scope.Duration.TheVariants as duration
+use Rattle.c_language.specs.Integers.{is_zero, number_of}
+use Rattle.c_language.specs.declared.scope.Duration.TheVariants as duration
 use Rattle.c_means.specs.Expressions.{Needs, valued, placed, alone, over_one, over_both, over_three, on_value}
 use Rattle.c_means.specs.Expressions.{part_of_value, both_run, subscript, member, member_by}
 use Rattle.c_means.specs.Expressions.{offset_of, arrow, stepped, postfix, postfix_by, prefix, unary, size_of_expression}
@@ -38,7 +38,7 @@ use Rattle.c_means.specs.Expressions.{call_of, call, constant, unmeant, made_for
 use Rattle.c_means.specs.Expressions.{identifier, named_as, object_of, site, designated, parameters_of}
 use Rattle.c_means.specs.declared.kind.Kind.{Kind}
 use Rattle.c_means.specs.declared.kind.Kind.TheVariants as kind
-use Rattle.c_type_terms.specs.declared.ctype.CType.{CType}
+use Rattle.c_language.specs.declared.ctype.CType.{CType}
 use Rattle.c_places.proofs.Counts.{Rises, met, AddsTo, Quiet, bind, weaken, quiet, times-append}
 use Rattle.c_places.proofs.Values.{either, loads, puts, operates, operates_on, turns}
 

@@ -2,21 +2,21 @@
 use Rattle.std.proofs.Common.{ℕ, List, [], ◌∷◌, ◌++◌, Option, Some, None}
 use Rattle.std.specs.Prelude.{map}
 use Rattle.std.proofs.Common.{refl}
-use Rattle.c_tree.specs.declared.unit.Body.{Body}
-use Rattle.c_tree.specs.declared.unit.Body.TheVariants as body
-use Rattle.c_tree.specs.declared.unit.External.{External}
-use Rattle.c_tree.specs.declared.unit.External.TheVariants as external
-use Rattle.c_says.specs.declared.scope.Entry.{Entry}
-use Rattle.c_says.specs.Scopes.{Scope, empty}
-use Rattle.c_says.specs.Declarations.{FunctionSaid, function_by}
-use Rattle.c_runs.specs.Names.{Names, external_names}
-use Rattle.c_runs.specs.Notes.{declarator_noted, specifier_noted}
-use Rattle.c_runs.specs.Items.{Item, Code}
-use Rattle.c_runs.specs.Programs.{Function, Outer, body_context, body_item, function_from}
-use Rattle.c_runs.specs.Programs.{with_function, code_in, unread_in, head_names, outer, in_order, program_of}
-use Rattle.c_runs.specs.Programs.{function_if}
-use Rattle.c_runs.specs.Programs.{functions_in, functions_of}
-use Rattle.c_runs.specs.Prelude.{functions_from}
+use Rattle.c_language.specs.declared.unit.Body.{Body}
+use Rattle.c_language.specs.declared.unit.Body.TheVariants as body
+use Rattle.c_language.specs.declared.unit.External.{External}
+use Rattle.c_language.specs.declared.unit.External.TheVariants as external
+use Rattle.c_language.specs.declared.scope.Entry.{Entry}
+use Rattle.c_language.specs.Scopes.{Scope, empty}
+use Rattle.c_language.specs.Declarations.{FunctionSaid, function_by}
+use Rattle.c_means.specs.Names.{Names, external_names}
+use Rattle.c_means.specs.Notes.{declarator_noted, specifier_noted}
+use Rattle.c_means.specs.Items.{Item, Code}
+use Rattle.c_means.specs.Programs.{Function, Outer, body_context, body_item, function_from}
+use Rattle.c_means.specs.Programs.{with_function, code_in, unread_in, head_names, outer, in_order, program_of}
+use Rattle.c_means.specs.Programs.{function_if}
+use Rattle.c_means.specs.Programs.{functions_in, functions_of}
+use Rattle.c_means.specs.Prelude.{functions_from}
 use Rattle.c_places.proofs.Items.{ItemKeeps, CodeKeeps, nothing_keeps}
 use Rattle.c_places.proofs.Statements.{statement_keeps}
 use Rattle.c_places.proofs.Declarations.{declaration_keeps}

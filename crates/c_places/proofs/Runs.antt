@@ -3,21 +3,21 @@ use Rattle.std.proofs.Common.{◌≡◌, ◌≤◌, ℕ, zero, suc, ◌+◌, ◌
 use Rattle.std.proofs.Common.{Option, Some, None, refl, ◌∙◌, arith, map, le_refl}
 use Rattle.c_store.specs.Store.{initial, start, zero_range, write}
 use Rattle.c_store.specs.declared.object.ObjectKind.TheVariants as object
-use Rattle.c_says.specs.declared.scope.Entry.{Entry}
-use Rattle.c_says.specs.declared.scope.Linked.{Linked}
-use Rattle.c_says.specs.Scopes.{Name, linked_as, entry_in}
+use Rattle.c_language.specs.declared.scope.Entry.{Entry}
+use Rattle.c_language.specs.declared.scope.Linked.{Linked}
+use Rattle.c_language.specs.Scopes.{Name, linked_as, entry_in}
 use Rattle.c_means.specs.Parts.{State, entered, meet}
-use Rattle.c_runs.specs.Items.{Lasting}
-use Rattle.c_runs.specs.Calls.{meets}
-use Rattle.c_runs.specs.Programs.{Function, Text, Needs, needs_of, functions_of}
-use Rattle.c_runs.specs.Programs.{main'}
-use Rattle.c_runs.specs.Runs.{Machine, bare, level_of, by_body, body_room, offsets_of, places_of, entry_place}
-use Rattle.c_runs.specs.Runs.{object_at, zeroed_if, makes_object, makes_objects, makes_link, makes_links, makes_text}
-use Rattle.c_runs.specs.Runs.{makes_texts, makes, sets, lasting_offsets, text_offsets, name_offsets, meets_offsets}
-use Rattle.c_runs.specs.Runs.{meets_needs, prepared, entry_room, argument_count, makes_strings, points_to}
-use Rattle.c_runs.specs.Runs.{makes_arguments}
-use Rattle.c_runs.specs.Runs.{main_state, main_arguments, called_main, main_run, main_of, met_of}
-use Rattle.c_runs.specs.Runs.{main_room, room_of, final_size}
+use Rattle.c_means.specs.Items.{Lasting}
+use Rattle.c_means.specs.Calls.{meets}
+use Rattle.c_means.specs.Programs.{Function, Text, Needs, needs_of, functions_of}
+use Rattle.c_means.specs.Programs.{main'}
+use Rattle.c_means.specs.Runs.{Machine, bare, level_of, by_body, body_room, offsets_of, places_of, entry_place}
+use Rattle.c_means.specs.Runs.{object_at, zeroed_if, makes_object, makes_objects, makes_link, makes_links, makes_text}
+use Rattle.c_means.specs.Runs.{makes_texts, makes, sets, lasting_offsets, text_offsets, name_offsets, meets_offsets}
+use Rattle.c_means.specs.Runs.{meets_needs, prepared, entry_room, argument_count, makes_strings, points_to}
+use Rattle.c_means.specs.Runs.{makes_arguments}
+use Rattle.c_means.specs.Runs.{main_state, main_arguments, called_main, main_run, main_of, met_of}
+use Rattle.c_means.specs.Runs.{main_room, room_of, final_size}
 use Rattle.c_places.specs.Places.{times}
 use Rattle.c_places.proofs.Counts.{met, times-append}
 use Rattle.c_places.proofs.Parts.{Calling}

@@ -1,14 +1,14 @@
 -- The run of every source meets no place twice, and none but those of its room.
 use Rattle.std.proofs.Common.{◌≡◌, ◌≤◌, ◌<◌, ℕ, suc, ◌+◌, Bool, true, false, cond, List, [], ◌∷◌, refl, arith, le_refl}
 use Rattle.std.specs.Prelude.{nat_lt, nat_eq}
-use Rattle.bit_words.specs.declared.bounds.Bounds.{Bounds}
-use Rattle.bit_words.specs.Worlds.{WorldTables}
-use Rattle.c_tree.specs.declared.unit.External.{External}
-use Rattle.c_runs.specs.declared.profile.Profile.{Profile}
-use Rattle.c_runs.specs.Prelude.{externals}
-use Rattle.c_runs.specs.Runs.{Machine, met_of, room_of}
+use Rattle.plain_data.specs.declared.bounds.Bounds.{Bounds}
+use Rattle.plain_data.specs.Worlds.{WorldTables}
+use Rattle.c_language.specs.declared.unit.External.{External}
+use Rattle.c_means.specs.declared.profile.Profile.{Profile}
+use Rattle.c_means.specs.Prelude.{externals}
+use Rattle.c_means.specs.Runs.{Machine, met_of, room_of}
 use Rattle.c_means.specs.Parts.{World, Limits}
-use Rattle.c_runs.specs.Units.{machine_in, machine_of, world_of, limits_of, silent, source_met, source_room, source_size}
+use Rattle.c_means.specs.Units.{machine_in, machine_of, world_of, limits_of, silent, source_met, source_room, source_size}
 use Rattle.c_places.specs.Places.{once, times, AreDistinct, AreWithin, MeetsItsPlacesOnce}
 use Rattle.c_places.specs.Places.{IsTheSameInEveryWorld}
 use Rattle.c_places.proofs.Worlds.{room_in_world, size_in_world}

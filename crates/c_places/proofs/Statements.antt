@@ -2,34 +2,34 @@
 use Rattle.std.proofs.Common.{◌≡◌, ◌≤◌, ℕ, zero, suc, ◌+◌, ◌*◌, ℤ, Bool, true, false, List, [], ◌∷◌, Option, Some, None}
 use Rattle.std.proofs.Common.{refl, sym, ap, subst, ◌∙◌, arith, le_refl, suc-mul, one-mul}
 use Rattle.std.specs.Prelude.{map, option_map}
-use Rattle.c_tree.specs.declared.expr.Expr.{Expr}
-use Rattle.c_tree.specs.declared.unit.ForStart.{ForStart}
-use Rattle.c_tree.specs.declared.unit.ForStart.TheVariants as start_
-use Rattle.c_tree.specs.declared.unit.Stmt.{Stmt}
-use Rattle.c_type_terms.specs.declared.ctype.CType.{CType}
-use Rattle.c_type_terms.specs.Integers.{converted}
+use Rattle.c_language.specs.declared.expr.Expr.{Expr}
+use Rattle.c_language.specs.declared.unit.ForStart.{ForStart}
+use Rattle.c_language.specs.declared.unit.ForStart.TheVariants as start_
+use Rattle.c_language.specs.declared.unit.Stmt.{Stmt}
+use Rattle.c_language.specs.declared.ctype.CType.{CType}
+use Rattle.c_language.specs.Integers.{converted}
 use Rattle.c_grammar.proofs.UnitEquations.{EachStmt, MaybeStmt, StmtSteps, of_stmt}
-use Rattle.c_says.specs.Scopes.{Name, Scope, enter}
+use Rattle.c_language.specs.Scopes.{Name, Scope, enter}
 use Rattle.c_means.specs.declared.kind.Kind.{Kind}
 use Rattle.c_means.specs.declared.kind.Kind.TheVariants as k
 use Rattle.c_means.specs.Parts.{State, Env, Level}
 use Rattle.c_means.specs.Values.{class_in, converted_to}
 use Rattle.c_means.specs.Expressions.{on_branch}
-use Rattle.c_runs.specs.declared.breach.Breach.{Breach}
-use Rattle.c_runs.specs.Notes.{Noted, ExprNoted, noted}
-use Rattle.c_runs.specs.Items.{Item, Code, Context, Label, Arrow, Acts, running, become, arrive}
-use Rattle.c_runs.specs.Items.{with_value, nothing, followed, node, guarded, closed}
-use Rattle.c_runs.specs.Items.{in_scope, opened, block_of, unchosen, sub, in_turn, labels_of, past_break, past_continue}
-use Rattle.c_runs.specs.Items.{past_switch, at_label, at_case, at_default}
-use Rattle.c_runs.specs.Statements.{plain, value_of, maybe_value, tested, acting, one_of, if_runs, if_item, maybe_sub}
-use Rattle.c_runs.specs.Statements.{switch_runs, switch_item, switch_kind, choose, chosen, Test, test_of, always}
-use Rattle.c_runs.specs.Statements.{maybe_test, turn_room, turns_from, left_at, each_turn, looped, rounds_from}
-use Rattle.c_runs.specs.Statements.{repeated}
-use Rattle.c_runs.specs.Statements.{left_scope, while_from, in_loop, do_from, for_turns, for_from, jump, returns}
-use Rattle.c_runs.specs.Statements.{return_of, code, compound, arrived, labeled, case_of, case_value, case_labeled}
-use Rattle.c_runs.specs.Statements.{default_labeled, stmt, begun_by, switch_context}
-use Rattle.c_says.specs.Typing.{constant_of}
-use Rattle.c_runs.proofs.Equations as eqs
+use Rattle.c_means.specs.declared.breach.Breach.{Breach}
+use Rattle.c_means.specs.Notes.{Noted, ExprNoted, noted}
+use Rattle.c_means.specs.Items.{Item, Code, Context, Label, Arrow, Acts, running, become, arrive}
+use Rattle.c_means.specs.Items.{with_value, nothing, followed, node, guarded, closed}
+use Rattle.c_means.specs.Items.{in_scope, opened, block_of, unchosen, sub, in_turn, labels_of, past_break, past_continue}
+use Rattle.c_means.specs.Items.{past_switch, at_label, at_case, at_default}
+use Rattle.c_means.specs.Statements.{plain, value_of, maybe_value, tested, acting, one_of, if_runs, if_item, maybe_sub}
+use Rattle.c_means.specs.Statements.{switch_runs, switch_item, switch_kind, choose, chosen, Test, test_of, always}
+use Rattle.c_means.specs.Statements.{maybe_test, turn_room, turns_from, left_at, each_turn, looped, rounds_from}
+use Rattle.c_means.specs.Statements.{repeated}
+use Rattle.c_means.specs.Statements.{left_scope, while_from, in_loop, do_from, for_turns, for_from, jump, returns}
+use Rattle.c_means.specs.Statements.{return_of, code, compound, arrived, labeled, case_of, case_value, case_labeled}
+use Rattle.c_means.specs.Statements.{default_labeled, stmt, begun_by, switch_context}
+use Rattle.c_language.specs.Typing.{constant_of}
+use Rattle.c_means.proofs.RunEquations as eqs
 use Rattle.c_places.proofs.Counts.{met}
 use Rattle.c_places.proofs.Items.{Counting, ItemKeeps, CodeKeeps, EachCode, LastingKeep, ActsWithin, Adds, runs}
 use Rattle.c_places.proofs.Items.{with_value_adds, on_branch_adds, nothing_keeps, followed_keeps, closed_keeps}

@@ -2,17 +2,17 @@
 use Rattle.std.proofs.Common.{ℕ, ℤ, pos, negsuc, ◌+ℤ◌, ◌*ℤ◌, neg_ℤ, Bool, true, false, cond, Option, Some, None}
 use Rattle.std.proofs.Common.{Ok, Err, le_refl}
 use Rattle.std.specs.Prelude.{◌-ℤ◌, not, ◌||◌, nat_lt, nat_le, nat_eq}
-use Rattle.bit_words.specs.declared.run.Undefined.TheVariants.{Dereference, LiteralWrite, PointerRange, PointerOrder}
-use Rattle.c_type_terms.specs.Integers.{promoted, usual, number_of}
+use Rattle.plain_data.specs.declared.run.Undefined.TheVariants.{Dereference, LiteralWrite, PointerRange, PointerOrder}
+use Rattle.c_language.specs.Integers.{promoted, usual, number_of}
 use Rattle.c_store.specs.Store.{write}
 use Rattle.c_store.specs.Access.{can_access, can_write, in_one_object}
-use Rattle.c_tree.specs.declared.expr.BinaryOperator.{BinaryOperator}
-use Rattle.c_tree.specs.declared.expr.BinaryOperator.TheVariants as o
-use Rattle.c_tree.specs.declared.expr.UnaryOperator.{UnaryOperator}
-use Rattle.c_type_terms.specs.declared.ctype.IntegerKind.{IntegerKind}
-use Rattle.c_type_terms.specs.declared.tables.Tables.{Tables}
-use Rattle.c_type_terms.specs.Operators.{Answer}
-use Rattle.c_says.specs.Typing.{Typed, type_of, worked, turned}
+use Rattle.c_language.specs.declared.expr.BinaryOperator.{BinaryOperator}
+use Rattle.c_language.specs.declared.expr.BinaryOperator.TheVariants as o
+use Rattle.c_language.specs.declared.expr.UnaryOperator.{UnaryOperator}
+use Rattle.c_language.specs.declared.ctype.IntegerKind.{IntegerKind}
+use Rattle.c_language.specs.declared.tables.Tables.{Tables}
+use Rattle.c_language.specs.Operators.{Answer}
+use Rattle.c_language.specs.Typing.{Typed, type_of, worked, turned}
 use Rattle.c_means.specs.Parts.{State, Outcome, stop, or_stop, with_store}
 use Rattle.c_means.specs.Values.{address, class_in, bytes_of, converted_to, bytes_of_value}
 use Rattle.c_means.specs.Objects.{load, put, is_read, value_at}

@@ -1,12 +1,12 @@
 -- The room and the size of a program are the same in every world.
 use Rattle.std.proofs.Common.{◌≡◌, ℕ, zero, suc, ◌+◌, ◌-◌, Option, Some, None, refl, sym, ap, ◌∙◌, length}
 use Rattle.std.proofs.Math.Path.{fun_ext}
-use Rattle.c_says.specs.Scopes.{Name}
+use Rattle.c_language.specs.Scopes.{Name}
 use Rattle.c_means.specs.Parts.{World, Level, Site, entered}
-use Rattle.c_runs.specs.Rules.{Rules, LogCall, IdentityCall, BodyCall, LibraryCall, PreludeCall, OutsideCall}
-use Rattle.c_runs.specs.Programs.{Function, functions_of, main'}
-use Rattle.c_runs.specs.Runs.{Machine, Below, level, level_of, size_below, room_below, size_by, room_by, rule_of, body_room}
-use Rattle.c_runs.specs.Runs.{entry_room, main_room, main_size, main_of, room_of, unrolled_size, offsets_of}
+use Rattle.c_means.specs.Rules.{Rules, LogCall, IdentityCall, BodyCall, LibraryCall, PreludeCall, OutsideCall}
+use Rattle.c_means.specs.Programs.{Function, functions_of, main'}
+use Rattle.c_means.specs.Runs.{Machine, Below, level, level_of, size_below, room_below, size_by, room_by, rule_of, body_room}
+use Rattle.c_means.specs.Runs.{entry_room, main_room, main_size, main_of, room_of, unrolled_size, offsets_of}
 use Rattle.c_places.proofs.Blind.{still}
 use Rattle.c_places.proofs.Levels.{FunctionKeeps, MaybeFunction, MachineKeeps, RuleKeeps, rule_is_kept, named_keeps}
 

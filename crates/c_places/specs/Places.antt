@@ -1,11 +1,11 @@
 -- How often a place stands among those that a run meets; that none stands twice; and that each is one of the room.
 use Rattle.std.specs.Prelude.{◌≡◌, ℕ, ◌+◌, ◌≤◌, cond, nat_eq, List, [], ◌∷◌}
-use Rattle.bit_words.specs.declared.bounds.Bounds.{Bounds}
-use Rattle.bit_words.specs.Worlds.{WorldTables}
-use Rattle.c_tree.specs.declared.unit.External.{External}
-use Rattle.c_runs.specs.declared.profile.Profile.{Profile}
-use Rattle.c_runs.specs.Runs.{room_of, unrolled_size}
-use Rattle.c_runs.specs.Units.{machine_in, source_met, source_room, source_size}
+use Rattle.plain_data.specs.declared.bounds.Bounds.{Bounds}
+use Rattle.plain_data.specs.Worlds.{WorldTables}
+use Rattle.c_language.specs.declared.unit.External.{External}
+use Rattle.c_means.specs.declared.profile.Profile.{Profile}
+use Rattle.c_means.specs.Runs.{room_of, unrolled_size}
+use Rattle.c_means.specs.Units.{machine_in, source_met, source_room, source_size}
 
 abbrev pub once : ℕ → ℕ → ℕ
 once place met = cond (nat_eq place met) 1 0

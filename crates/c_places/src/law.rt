@@ -1,9 +1,9 @@
 //! The laws, each as the contract of a function.
 ghost use Rattle.std.specs.Prelude.{List};
-ghost use Rattle.bit_words.specs.declared.bounds.Bounds.{Bounds};
-ghost use Rattle.bit_words.specs.Worlds.{WorldTables};
-ghost use Rattle.c_tree.specs.declared.unit.External.{External};
-ghost use Rattle.c_runs.specs.declared.profile.Profile.{Profile};
+ghost use Rattle.plain_data.specs.declared.bounds.Bounds.{Bounds};
+ghost use Rattle.plain_data.specs.Worlds.{WorldTables};
+ghost use Rattle.c_language.specs.declared.unit.External.{External};
+ghost use Rattle.c_means.specs.declared.profile.Profile.{Profile};
 ghost use Rattle.c_places.specs.Places.{IsTheSameInEveryWorld, MeetsItsPlacesOnce};
 
 /// Does nothing. What it promises is the law: whatever the source is, in every world and for all bounds, its run meets

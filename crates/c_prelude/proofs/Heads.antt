@@ -2,28 +2,28 @@
 use Rattle.std.proofs.Common.{◌≡◌, Bool, true, false, cond, ℕ, ◌+◌, ◌^◌, List, [], ◌∷◌, ◌++◌, map, length, Option, Some, None, refl, ap, ap₂, ◌∙◌}
 use Rattle.std.specs.Prelude.{option_map}
 use Rattle.std.specs.Str.{bytes_eq}
-use Rattle.c_tree.specs.declared.expr.Qualifier.TheVariants as qualifier
-use Rattle.c_tree.specs.declared.expr.TypeWord.{TypeWord}
-use Rattle.c_tree.specs.declared.expr.TypeWord.TheVariants as w
-use Rattle.c_tree.specs.declared.unit.Body.{Body}
-use Rattle.c_tree.specs.declared.unit.Body.TheVariants as body
-use Rattle.c_tree.specs.declared.unit.External.TheVariants as external
-use Rattle.c_tree.specs.Folds.{fold_specifier}
-use Rattle.c_says.specs.Declares.{Says}
-use Rattle.c_says.specs.Declarations.{FunctionSaid, function_by}
-use Rattle.c_says.specs.Scopes.{Name, empty}
-use Rattle.c_says.proofs.Built.{trees, all_say}
-use Rattle.c_says.proofs.Built as built
-use Rattle.c_says.specs.declared.scope.Entry.{Entry}
-use Rattle.c_runs.specs.Notes.{ExprNoted, noting, declarator_noted, specifier_noted}
-use Rattle.c_tree.specs.declared.expr.Specifier.{Specifier}
-use Rattle.c_tree.specs.declared.unit.External.{External}
-use Rattle.c_runs.specs.Items.{Item}
-use Rattle.c_runs.specs.Names.{Names}
-use Rattle.c_runs.specs.Programs.{Function, program_of, functions_of, function_if, function_from, function_named}
-use Rattle.c_runs.specs.Rules.{declared_taking}
-use Rattle.c_runs.specs.Prelude as texts
-use Rattle.c_runs.proofs.Scene.{OfSpecifier, OfDeclarator, OfParameter, specifiers_are, declarator_is}
+use Rattle.c_language.specs.declared.expr.Qualifier.TheVariants as qualifier
+use Rattle.c_language.specs.declared.expr.TypeWord.{TypeWord}
+use Rattle.c_language.specs.declared.expr.TypeWord.TheVariants as w
+use Rattle.c_language.specs.declared.unit.Body.{Body}
+use Rattle.c_language.specs.declared.unit.Body.TheVariants as body
+use Rattle.c_language.specs.declared.unit.External.TheVariants as external
+use Rattle.c_language.specs.Folds.{fold_specifier}
+use Rattle.c_language.specs.Declares.{Says}
+use Rattle.c_language.specs.Declarations.{FunctionSaid, function_by}
+use Rattle.c_language.specs.Scopes.{Name, empty}
+use Rattle.c_language.proofs.Built.{trees, all_say}
+use Rattle.c_language.proofs.Built as built
+use Rattle.c_language.specs.declared.scope.Entry.{Entry}
+use Rattle.c_means.specs.Notes.{ExprNoted, noting, declarator_noted, specifier_noted}
+use Rattle.c_language.specs.declared.expr.Specifier.{Specifier}
+use Rattle.c_language.specs.declared.unit.External.{External}
+use Rattle.c_means.specs.Items.{Item}
+use Rattle.c_means.specs.Names.{Names}
+use Rattle.c_means.specs.Programs.{Function, program_of, functions_of, function_if, function_from, function_named}
+use Rattle.c_means.specs.Rules.{declared_taking}
+use Rattle.c_means.specs.Prelude as texts
+use Rattle.c_means.proofs.RunScene.{OfSpecifier, OfDeclarator, OfParameter, specifiers_are, declarator_is}
 use Rattle.c_prelude.specs.Heads.{Head, head_of, head_named}
 use Rattle.c_prelude.specs.Heads as heads
 

@@ -2,10 +2,10 @@
 -- parameters there are.
 use Rattle.std.specs.Prelude.{ℕ, cond, List, [], ◌∷◌, length, Option, Some, None}
 use Rattle.std.specs.Str.{bytes_eq}
-use Rattle.c_type_terms.specs.declared.ctype.IntegerKind.TheVariants as int_
-use Rattle.c_says.specs.Scopes.{Name}
-use Rattle.c_runs.specs.Programs.{Function}
-use Rattle.c_runs.specs.Rules.{Plain, Taking, declared_taking, PlainInteger, PlainPointer}
+use Rattle.c_language.specs.declared.ctype.IntegerKind.TheVariants as int_
+use Rattle.c_language.specs.Scopes.{Name}
+use Rattle.c_means.specs.Programs.{Function}
+use Rattle.c_means.specs.Rules.{Plain, Taking, declared_taking, PlainInteger, PlainPointer}
 
 pub record Head : Type 0 where
   pub name : Name

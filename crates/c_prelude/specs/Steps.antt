@@ -1,24 +1,24 @@
 -- Trees made by steps, a node behind its parts.
 use Rattle.std.specs.Prelude.{ℕ, ◌+◌, ◌^◌, pos, Bool, true, false, List, [], ◌∷◌, ◌++◌, Option, Some, None}
-use Rattle.c_tokens.specs.declared.token.IntegerType.TheVariants as integer_type
-use Rattle.c_tree.specs.declared.expr.Declarator.{Declarator}
-use Rattle.c_tree.specs.declared.expr.Declarator.TheVariants as declarator
-use Rattle.c_tree.specs.declared.expr.Expr.{Expr}
-use Rattle.c_tree.specs.declared.expr.Expr.TheVariants as expr
-use Rattle.c_tree.specs.declared.expr.Parameter.{Parameter}
-use Rattle.c_tree.specs.declared.expr.PostfixOperator.TheVariants as postfix
-use Rattle.c_tree.specs.declared.expr.Qualifier.TheVariants as qualifier
-use Rattle.c_tree.specs.declared.expr.Specifier.{Specifier}
-use Rattle.c_tree.specs.declared.expr.Specifier.TheVariants as specifier
-use Rattle.c_tree.specs.declared.unit.Body.TheVariants as body
-use Rattle.c_tree.specs.declared.unit.External.{External}
-use Rattle.c_tree.specs.declared.unit.External.TheVariants as external
-use Rattle.c_tree.specs.declared.unit.ForStart.TheVariants as start
-use Rattle.c_tree.specs.declared.unit.Initializer.{Initializer}
-use Rattle.c_tree.specs.declared.unit.Initializer.TheVariants as initializer
-use Rattle.c_tree.specs.declared.unit.Stmt.{Stmt}
-use Rattle.c_tree.specs.declared.unit.Stmt.TheVariants as stmt
-use Rattle.c_says.specs.Scopes.{Name}
+use Rattle.c_language.specs.declared.token.IntegerType.TheVariants as integer_type
+use Rattle.c_language.specs.declared.expr.Declarator.{Declarator}
+use Rattle.c_language.specs.declared.expr.Declarator.TheVariants as declarator
+use Rattle.c_language.specs.declared.expr.Expr.{Expr}
+use Rattle.c_language.specs.declared.expr.Expr.TheVariants as expr
+use Rattle.c_language.specs.declared.expr.Parameter.{Parameter}
+use Rattle.c_language.specs.declared.expr.PostfixOperator.TheVariants as postfix
+use Rattle.c_language.specs.declared.expr.Qualifier.TheVariants as qualifier
+use Rattle.c_language.specs.declared.expr.Specifier.{Specifier}
+use Rattle.c_language.specs.declared.expr.Specifier.TheVariants as specifier
+use Rattle.c_language.specs.declared.unit.Body.TheVariants as body
+use Rattle.c_language.specs.declared.unit.External.{External}
+use Rattle.c_language.specs.declared.unit.External.TheVariants as external
+use Rattle.c_language.specs.declared.unit.ForStart.TheVariants as start
+use Rattle.c_language.specs.declared.unit.Initializer.{Initializer}
+use Rattle.c_language.specs.declared.unit.Initializer.TheVariants as initializer
+use Rattle.c_language.specs.declared.unit.Stmt.{Stmt}
+use Rattle.c_language.specs.declared.unit.Stmt.TheVariants as stmt
+use Rattle.c_language.specs.Scopes.{Name}
 use Rattle.c_prelude.specs.declared.functions.Head.{Head}
 use Rattle.c_prelude.specs.declared.step.Step.{Step}
 use Rattle.c_prelude.specs.declared.step.Step.TheVariants as step_

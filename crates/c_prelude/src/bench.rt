@@ -5,13 +5,12 @@ ghost use Rattle.c_prelude.specs.Steps as spec;
 ghost use Rattle.c_prelude.specs.declared.step.Step.TheVariants as step;
 
 use crate::stack::Stack;
-use bit_words::Bytes;
-use c_tokens::{IntegerConstant, IntegerType, Name};
-use c_tree::{
+use c_language::{
     BinaryOperator, Declaration, Declarator, Expr, ForStart, InitDeclarator, Initializer,
-    Parameter, PostfixOperator, Qualifier, Specifier, Stmt, TypeName, TypeWord, UnaryOperator,
+    IntegerConstant, IntegerType, Name, Parameter, PostfixOperator, Qualifier, Specifier, Stmt,
+    TypeName, TypeWord, UnaryOperator,
 };
-use plain_data::{Items, Shared};
+use plain_data::{Bytes, Items, Shared};
 use std::alloc::{AllocError, Global};
 use std::mem::replace;
 

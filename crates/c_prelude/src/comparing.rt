@@ -2,7 +2,7 @@
 //! own types.
 
 use crate::step::Step;
-use c_tree::{BinaryOperator, TypeWord, UnaryOperator};
+use c_language::{BinaryOperator, TypeWord, UnaryOperator};
 
 /// `unsigned long strlen(const char *s) { unsigned long n = 0; while (s[n]) n++; return n; }`
 pub(crate) const STRLEN: [Step; 23] = [

@@ -2,7 +2,7 @@
 //! own types.
 
 use crate::step::Step;
-use c_tree::{BinaryOperator, TypeWord};
+use c_language::{BinaryOperator, TypeWord};
 
 /// `char *strcpy(char *d, const char *s) { unsigned long i = 0; while ((d[i] = s[i])) i++; return d; }`
 pub(crate) const STRCPY: [Step; 29] = [

@@ -2,14 +2,13 @@
 ghost use Rattle.std.specs.Prelude.{◌≡◌, ◌++◌, ◌∷◌, [], IfOk, OnOk, Some};
 ghost use Rattle.c_prelude.specs.Benches.{parts};
 ghost use Rattle.c_prelude.specs.Steps as spec;
-ghost use Rattle.c_runs.specs.Prelude as texts;
+ghost use Rattle.c_means.specs.Prelude as texts;
 
 use crate::bench::{Bench, far, pointed};
 use crate::step::Step;
 use crate::{comparing, copying, numbers};
-use bit_words::Bytes;
-use c_tree::{Body, Declarator, External, Parameter};
-use plain_data::{Items, Shared};
+use c_language::{Body, Declarator, External, Parameter};
+use plain_data::{Bytes, Items, Shared};
 use std::alloc::{AllocError, Global};
 
 /// The offsets of a function's name, of the `(` of its parameters, and of a `*` before the name.

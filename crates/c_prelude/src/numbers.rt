@@ -2,7 +2,7 @@
 //! type.
 
 use crate::step::Step;
-use c_tree::{BinaryOperator, TypeWord, UnaryOperator};
+use c_language::{BinaryOperator, TypeWord, UnaryOperator};
 
 /// `int atoi(const char *s) { int v = 0; int g = 1; while (*s == ' ' || (*s >= 9 && *s <= 13)) s++; if (*s == '-')
 /// { g = -1; s++; } else if (*s == '+') s++; while (*s >= '0' && *s <= '9') { v = v * 10 + g * (*s - '0'); s++; }

@@ -1,6 +1,6 @@
 //! The steps by which a tree is made.
 
-use c_tree::{BinaryOperator, TypeWord, UnaryOperator};
+use c_language::{BinaryOperator, TypeWord, UnaryOperator};
 
 /// A step: it takes the parts of a node from where they were put, and puts the node there. Each `at` is the offset of a
 /// token in the text of the prelude; a letter is a variable's name, and `star` the offset of a `*` before it.

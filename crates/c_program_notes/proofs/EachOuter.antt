@@ -3,24 +3,24 @@ use Rattle.std.proofs.Common.{◌≡◌, ℕ, suc, add-one, ◌+◌, ◌<◌, Li
 use Rattle.std.proofs.Common.{Option, Some, None, map, refl, sym, ap, ◌∙◌}
 use Rattle.std.specs.Prelude.{option_map}
 use Rattle.std.proofs.lemmas.List.{append_assoc}
-use Rattle.c_tree.specs.declared.expr.Declarator.{Declarator}
-use Rattle.c_tree.specs.declared.expr.Specifier.{Specifier}
-use Rattle.c_tree.specs.declared.unit.Body.{Body}
-use Rattle.c_tree.specs.declared.unit.Declaration.{Declaration}
-use Rattle.c_tree.specs.declared.unit.External.{External}
-use Rattle.c_tree.specs.declared.unit.External.TheVariants as external
-use Rattle.c_says.specs.declared.scope.Entry.{Entry}
-use Rattle.c_says.specs.Scopes.{Name, Scope, leave}
-use Rattle.c_says.specs.Declares.{DeclaratorSays, Saying}
-use Rattle.c_says.specs.Declarations.{FunctionSaid, function_by}
-use Rattle.c_says.specs.Units.{function_says}
-use Rattle.c_says.specs.Trees.{declarator_says, specifier_says}
-use Rattle.c_runs.specs.Items.{Code, Item}
-use Rattle.c_runs.specs.Notes.{declarator_noted, specifier_noted}
-use Rattle.c_runs.specs.Names as names
-use Rattle.c_runs.specs.Programs.{Function, Outer, Program, body_item, code_in, function_outer}
-use Rattle.c_runs.specs.Programs.{head_names, in_order, outer, unread_in}
-use Rattle.c_runs.specs.Programs as programs
+use Rattle.c_language.specs.declared.expr.Declarator.{Declarator}
+use Rattle.c_language.specs.declared.expr.Specifier.{Specifier}
+use Rattle.c_language.specs.declared.unit.Body.{Body}
+use Rattle.c_language.specs.declared.unit.Declaration.{Declaration}
+use Rattle.c_language.specs.declared.unit.External.{External}
+use Rattle.c_language.specs.declared.unit.External.TheVariants as external
+use Rattle.c_language.specs.declared.scope.Entry.{Entry}
+use Rattle.c_language.specs.Scopes.{Name, Scope, leave}
+use Rattle.c_language.specs.Declares.{DeclaratorSays, Saying}
+use Rattle.c_language.specs.Declarations.{FunctionSaid, function_by}
+use Rattle.c_language.specs.Units.{function_says}
+use Rattle.c_language.specs.Trees.{declarator_says, specifier_says}
+use Rattle.c_means.specs.Items.{Code, Item}
+use Rattle.c_means.specs.Notes.{declarator_noted, specifier_noted}
+use Rattle.c_means.specs.Names as names
+use Rattle.c_means.specs.Programs.{Function, Outer, Program, body_item, code_in, function_outer}
+use Rattle.c_means.specs.Programs.{head_names, in_order, outer, unread_in}
+use Rattle.c_means.specs.Programs as programs
 use Rattle.c_item_notes.specs.declared.items.ItemNotes.{ItemNotes}
 use Rattle.c_item_notes.specs.ItemTellings.{item_notes, nothing_noted, summed, summed_in, Summed}
 use Rattle.c_item_notes.specs.Levels.{Judged}

@@ -1,7 +1,7 @@
 -- One object more, and those behind it.
 use Rattle.std.proofs.Common.{◌≡◌, ℕ, Bool, true, false, not, List, [], ◌∷◌, ◌++◌, Option, Some, None, refl}
-use Rattle.c_says.specs.declared.scope.Linked.{Linked}
-use Rattle.c_says.specs.Scopes.{Scope}
+use Rattle.c_language.specs.declared.scope.Linked.{Linked}
+use Rattle.c_language.specs.Scopes.{Scope}
 use Rattle.core_tree.specs.declared.program.LastingObject.{LastingObject}
 use Rattle.core_programs.specs.Programs.{maybe_function, only_if}
 use Rattle.c_item_notes.specs.declared.items.LastingNote.{LastingNote}

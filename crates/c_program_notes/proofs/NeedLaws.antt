@@ -1,17 +1,17 @@
--- What is reached, needed and made, over summaries, is what `c_runs` says.
+-- What is reached, needed and made, over summaries, is what `c_means` says.
 use Rattle.std.proofs.Common.{◌≡◌, ℕ, Bool, true, false, cond, not, List, [], ◌∷◌, ◌++◌, Option, Some, None, map, refl, sym, ap, ◌∙◌}
 use Rattle.std.specs.Prelude.{option_map, nat_eq, ◌||◌}
 use Rattle.std.proofs.lemmas.List.{append-nil, append_assoc}
 use Rattle.c_store.specs.declared.object.ObjectKind.TheVariants as object
-use Rattle.c_says.specs.declared.scope.Entry.{Entry}
-use Rattle.c_says.specs.Scopes.{Name, entry_in}
-use Rattle.c_runs.specs.Items.{Item, Lasting}
-use Rattle.c_runs.specs.Names.{Word}
-use Rattle.c_runs.specs.Names as names
-use Rattle.c_runs.specs.Programs.{Function, Outer, Program, Text, Needs, all_needs, and_needs, declared_needs}
-use Rattle.c_runs.specs.Programs.{declares_some, function_needs, has_function, item_needs, no_needs, texts_of}
-use Rattle.c_runs.specs.Programs as programs
-use Rattle.c_runs.specs.Runs.{Machine, final_size, places_of}
+use Rattle.c_language.specs.declared.scope.Entry.{Entry}
+use Rattle.c_language.specs.Scopes.{Name, entry_in}
+use Rattle.c_means.specs.Items.{Item, Lasting}
+use Rattle.c_means.specs.Names.{Word}
+use Rattle.c_means.specs.Names as names
+use Rattle.c_means.specs.Programs.{Function, Outer, Program, Text, Needs, all_needs, and_needs, declared_needs}
+use Rattle.c_means.specs.Programs.{declares_some, function_needs, has_function, item_needs, no_needs, texts_of}
+use Rattle.c_means.specs.Programs as programs
+use Rattle.c_means.specs.Runs.{Machine, final_size, places_of}
 use Rattle.core_tree.specs.declared.program.LastingObject.{LastingObject}
 use Rattle.core_programs.specs.Programs.{contents_if, link_objects, object_of, objects_of, only_if, text_object}
 use Rattle.core_programs.specs.Programs as core

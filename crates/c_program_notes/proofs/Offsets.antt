@@ -1,15 +1,15 @@
--- The offsets of what lives throughout the run, as a list in the order of the source, are those of `c_runs`.
+-- The offsets of what lives throughout the run, as a list in the order of the source, are those of `c_means`.
 use Rattle.std.proofs.Common.{◌≡◌, ℕ, List, [], ◌∷◌, ◌++◌, Option, Some, None, map, reverse, refl, sym, ap, ◌∙◌}
 use Rattle.std.proofs.lemmas.List.{reverse-append}
 use Rattle.std.specs.Prelude.{option_map}
-use Rattle.c_says.specs.declared.scope.Linked.{Linked}
-use Rattle.c_says.specs.Scopes.{Name, Scope, linked_as}
-use Rattle.c_runs.specs.Items.{Item, Lasting}
-use Rattle.c_runs.specs.Names.{Literal}
-use Rattle.c_runs.specs.Names as names
-use Rattle.c_runs.specs.Programs.{Function, Outer, Program, Text, Needs}
-use Rattle.c_runs.specs.Runs.{with_offset, linked_offsets, lasting_offsets, literal_offsets, function_offsets}
-use Rattle.c_runs.specs.Runs.{outer_offsets, offsets_of, linked_offset, name_offsets, text_offsets}
+use Rattle.c_language.specs.declared.scope.Linked.{Linked}
+use Rattle.c_language.specs.Scopes.{Name, Scope, linked_as}
+use Rattle.c_means.specs.Items.{Item, Lasting}
+use Rattle.c_means.specs.Names.{Literal}
+use Rattle.c_means.specs.Names as names
+use Rattle.c_means.specs.Programs.{Function, Outer, Program, Text, Needs}
+use Rattle.c_means.specs.Runs.{with_offset, linked_offsets, lasting_offsets, literal_offsets, function_offsets}
+use Rattle.c_means.specs.Runs.{outer_offsets, offsets_of, linked_offset, name_offsets, text_offsets}
 use Rattle.core_programs.specs.Offsets.{offsets_from, offsets_in}
 use Rattle.c_item_notes.specs.ItemTellings.{item_notes, lasting_notes}
 use Rattle.c_item_notes.specs.Levels.{Judged}

@@ -3,11 +3,11 @@ use Rattle.std.proofs.Common.{◌≡◌, ℕ, Bool, true, false, cond, List, [],
 use Rattle.std.specs.Prelude.{option_map}
 use Rattle.std.specs.Cmp.Lexicographic.{bytes_decides}
 use Rattle.std.specs.Str.{bytes_eq}
-use Rattle.c_says.specs.Scopes.{Name}
-use Rattle.c_runs.specs.Prelude.{prelude_functions}
-use Rattle.c_runs.specs.Programs.{Function, function_named}
-use Rattle.c_runs.specs.Rules.{Taking, declared_taking, same_taking}
-use Rattle.c_runs.specs.Runs.{prelude_if}
+use Rattle.c_language.specs.Scopes.{Name}
+use Rattle.c_means.specs.Prelude.{prelude_functions}
+use Rattle.c_means.specs.Programs.{Function, function_named}
+use Rattle.c_means.specs.Rules.{Taking, declared_taking, same_taking}
+use Rattle.c_means.specs.Runs.{prelude_if}
 use Rattle.c_notes.specs.CallsTold.{prelude_count}
 use Rattle.c_prelude.specs.Heads.{Head, head_of, head_named}
 use Rattle.c_prelude.specs.Heads as heads

@@ -1,25 +1,25 @@
--- The first broken rule over summaries is that of `c_runs`.
+-- The first broken rule over summaries is that of `c_means`.
 use Rattle.std.proofs.Common.{◌≡◌, ℕ, Bool, true, false, cond, List, [], ◌∷◌, ◌++◌, length, Option, Some, None, map, reverse, refl, sym, ap, ◌∙◌}
 use Rattle.std.specs.Prelude.{option_map, is_some}
-use Rattle.c_says.specs.declared.scope.Entry.{Entry}
-use Rattle.c_says.specs.Scopes.{Name, Scope, entry_in}
+use Rattle.c_language.specs.declared.scope.Entry.{Entry}
+use Rattle.c_language.specs.Scopes.{Name, Scope, entry_in}
 use Rattle.c_means.specs.Parts.{Level, Site}
-use Rattle.c_runs.specs.declared.breach.Breach.{Breach}
-use Rattle.c_runs.specs.declared.profile.FillFunction.{FillFunction}
-use Rattle.c_runs.specs.declared.profile.LogFunction.{LogFunction}
-use Rattle.c_runs.specs.declared.profile.LogText.{LogText}
-use Rattle.c_runs.specs.declared.profile.LogText.TheVariants as log_
-use Rattle.c_runs.specs.Checks.{rule_breaches, call_breaches, item_breaches, function_breaches, final_breaches}
-use Rattle.c_runs.specs.Checks.{lasting_breaches, outer_breaches, breaches_of, unread_breaches}
-use Rattle.c_runs.specs.Checks as checks
-use Rattle.c_runs.specs.Items.{Item, Lasting}
-use Rattle.c_runs.specs.Names.{Word}
-use Rattle.c_runs.specs.Programs.{Function, Outer, declares_some, functions_in, function_named, main', needed_among}
-use Rattle.c_runs.specs.Programs.{needed_words, reached}
-use Rattle.c_runs.specs.Rules.{Library, body_or, callee_taking, fill_of, identity_index, identity_or, library_named}
-use Rattle.c_runs.specs.Rules.{library_of, library_or, log_of, prelude_or_outside, rule_by}
-use Rattle.c_runs.specs.Runs.{Machine, bare, prelude_of, rule_of}
-use Rattle.c_runs.specs.Units.{least, machine_of, silent}
+use Rattle.c_means.specs.declared.breach.Breach.{Breach}
+use Rattle.c_means.specs.declared.profile.FillFunction.{FillFunction}
+use Rattle.c_means.specs.declared.profile.LogFunction.{LogFunction}
+use Rattle.c_means.specs.declared.profile.LogText.{LogText}
+use Rattle.c_means.specs.declared.profile.LogText.TheVariants as log_
+use Rattle.c_means.specs.Checks.{rule_breaches, call_breaches, item_breaches, function_breaches, final_breaches}
+use Rattle.c_means.specs.Checks.{lasting_breaches, outer_breaches, breaches_of, unread_breaches}
+use Rattle.c_means.specs.Checks as checks
+use Rattle.c_means.specs.Items.{Item, Lasting}
+use Rattle.c_means.specs.Names.{Word}
+use Rattle.c_means.specs.Programs.{Function, Outer, declares_some, functions_in, function_named, main', needed_among}
+use Rattle.c_means.specs.Programs.{needed_words, reached}
+use Rattle.c_means.specs.Rules.{Library, body_or, callee_taking, fill_of, identity_index, identity_or, library_named}
+use Rattle.c_means.specs.Rules.{library_of, library_or, log_of, prelude_or_outside, rule_by}
+use Rattle.c_means.specs.Runs.{Machine, bare, prelude_of, rule_of}
+use Rattle.c_means.specs.Units.{least, machine_of, silent}
 use Rattle.c_checks.specs.Calls as calls
 use Rattle.c_checks.specs.Refusals.{least_of, lesser}
 use Rattle.c_checks.proofs.Least.{of_both}

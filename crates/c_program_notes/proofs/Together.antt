@@ -1,13 +1,13 @@
--- What is found over the summaries of a whole program is what `c_runs` says of it.
+-- What is found over the summaries of a whole program is what `c_means` says of it.
 use Rattle.std.proofs.Common.{◌≡◌, ℕ, List, [], ◌∷◌, ◌++◌, Option, Some, None, map, reverse, refl, sym, ap, ◌∙◌}
 use Rattle.std.specs.Prelude.{option_map}
-use Rattle.c_runs.specs.declared.profile.Profile.{Profile}
-use Rattle.c_runs.specs.Names.{Word}
-use Rattle.c_runs.specs.Programs.{Function, Outer, Program, Needs, needed_words, needs_of, ordinaries}
-use Rattle.c_runs.specs.Programs.{functions_of, program_of}
-use Rattle.c_runs.specs.Programs as programs
-use Rattle.c_runs.specs.Runs.{Machine, offsets_of, places_of}
-use Rattle.c_runs.specs.Units.{least, machine_of, silent}
+use Rattle.c_means.specs.declared.profile.Profile.{Profile}
+use Rattle.c_means.specs.Names.{Word}
+use Rattle.c_means.specs.Programs.{Function, Outer, Program, Needs, needed_words, needs_of, ordinaries}
+use Rattle.c_means.specs.Programs.{functions_of, program_of}
+use Rattle.c_means.specs.Programs as programs
+use Rattle.c_means.specs.Runs.{Machine, offsets_of, places_of}
+use Rattle.c_means.specs.Units.{least, machine_of, silent}
 use Rattle.core_tree.specs.declared.program.LastingObject.{LastingObject}
 use Rattle.core_programs.specs.Programs.{met_by, objects_of}
 use Rattle.core_programs.specs.Offsets.{offsets_in}

@@ -1,10 +1,10 @@
--- The watched variables of a function over its summary are those that `c_runs` says.
+-- The watched variables of a function over its summary are those that `c_means` says.
 use Rattle.std.proofs.Common.{◌≡◌, ℕ, cond, List, [], ◌∷◌, Some, refl, ap}
-use Rattle.c_says.specs.declared.scope.Entry.{Entry}
-use Rattle.c_says.specs.Scopes.{Scope}
-use Rattle.c_runs.specs.Items.{Lasting}
-use Rattle.c_runs.specs.Programs.{Function, in_file, is_bound, watches}
-use Rattle.c_runs.specs.Programs as programs
+use Rattle.c_language.specs.declared.scope.Entry.{Entry}
+use Rattle.c_language.specs.Scopes.{Scope}
+use Rattle.c_means.specs.Items.{Lasting}
+use Rattle.c_means.specs.Programs.{Function, in_file, is_bound, watches}
+use Rattle.c_means.specs.Programs as programs
 use Rattle.c_item_notes.specs.ItemTellings.{lasting_notes}
 use Rattle.c_item_notes.specs.Levels.{Judged}
 use Rattle.c_reach.specs.Summaries.{function_notes}

@@ -1,9 +1,9 @@
 -- What lives throughout the run, over summaries: one external declaration behind the other.
 use Rattle.std.specs.Prelude.{ℕ, Bool, cond, List, [], ◌∷◌, ◌++◌, Option, Some, None, unwrap_or}
-use Rattle.c_says.specs.Scopes.{Name}
-use Rattle.c_runs.specs.Names.{Literal, Word}
-use Rattle.c_runs.specs.Programs.{Text, declares_some, texts_of}
-use Rattle.c_runs.specs.Programs as programs
+use Rattle.c_language.specs.Scopes.{Name}
+use Rattle.c_means.specs.Names.{Literal, Word}
+use Rattle.c_means.specs.Programs.{Text, declares_some, texts_of}
+use Rattle.c_means.specs.Programs as programs
 use Rattle.c_item_notes.specs.declared.items.ItemNotes.{ItemNotes}
 use Rattle.c_item_notes.specs.declared.items.LastingNote.{LastingNote}
 use Rattle.c_item_notes.specs.ItemTellings.{lasting_notes}
@@ -13,7 +13,7 @@ use Rattle.c_reach.specs.Reaching.{has_at}
 use Rattle.c_program_notes.specs.declared.needing.Needs.{Needs}
 use Rattle.c_program_notes.specs.declared.outers.OuterNotes.{OuterNotes}
 
--- of what `c_runs` says
+-- of what `c_means` says
 abbrev pub needs_notes : programs.Needs → Needs
 needs_notes x = record { links = x.links; lasting = lasting_notes x.lasting; texts = x.texts }
 

@@ -1,13 +1,13 @@
 -- The offsets of what lives throughout the run, in the order of the source, and the objects that are made of it.
 use Rattle.std.specs.Prelude.{ℕ, suc, Bool, true, false, cond, nat_eq, not, List, [], ◌∷◌, ◌++◌, map, Option, Some, None}
 use Rattle.c_store.specs.declared.object.ObjectKind.TheVariants as object
-use Rattle.c_type_terms.specs.declared.tables.Tables.{Tables}
-use Rattle.c_says.specs.declared.scope.Entry.{Entry}
-use Rattle.c_says.specs.declared.scope.Linked.{Linked}
-use Rattle.c_says.specs.Scopes.{Name, Scope, entry_in, linked_as}
-use Rattle.c_runs.specs.Names.{Literal}
-use Rattle.c_runs.specs.Programs.{Text}
-use Rattle.c_runs.specs.Runs.{size_of_means}
+use Rattle.c_language.specs.declared.tables.Tables.{Tables}
+use Rattle.c_language.specs.declared.scope.Entry.{Entry}
+use Rattle.c_language.specs.declared.scope.Linked.{Linked}
+use Rattle.c_language.specs.Scopes.{Name, Scope, entry_in, linked_as}
+use Rattle.c_means.specs.Names.{Literal}
+use Rattle.c_means.specs.Programs.{Text}
+use Rattle.c_means.specs.Runs.{size_of_means}
 use Rattle.core_tree.specs.declared.program.LastingObject.{LastingObject}
 use Rattle.core_programs.specs.Programs.{contents_if, link_objects, only_if, text_object}
 use Rattle.c_item_notes.specs.declared.items.ItemNotes.{ItemNotes}

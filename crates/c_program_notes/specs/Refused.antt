@@ -1,17 +1,17 @@
--- Which rule a source breaks first, over summaries, and as `c_runs` says it.
+-- Which rule a source breaks first, over summaries, and as `c_means` says it.
 use Rattle.std.specs.Prelude.{ℕ, Bool, false, cond, nat_eq, not, ◌&&◌, List, [], ◌∷◌, Option, Some, None}
-use Rattle.c_type_terms.specs.declared.tables.Tables.{Tables}
-use Rattle.c_says.specs.declared.scope.Entry.{Entry}
-use Rattle.c_says.specs.Scopes.{Scope, entry_in}
-use Rattle.c_says.specs.Typing as typing
-use Rattle.c_runs.specs.declared.breach.Breach.{Breach}
-use Rattle.c_runs.specs.declared.breach.BrokenRule.{BrokenRule}
-use Rattle.c_runs.specs.declared.breach.BrokenRule.TheVariants as broken
-use Rattle.c_runs.specs.Checks.{breaches_of, has_main as has_main_in, is_known, mismatch, unread_breaches}
-use Rattle.c_runs.specs.Items.{breach_if}
-use Rattle.c_runs.specs.Names.{Word}
-use Rattle.c_runs.specs.Programs.{declares_some, main'}
-use Rattle.c_runs.specs.Runs.{Machine}
+use Rattle.c_language.specs.declared.tables.Tables.{Tables}
+use Rattle.c_language.specs.declared.scope.Entry.{Entry}
+use Rattle.c_language.specs.Scopes.{Scope, entry_in}
+use Rattle.c_language.specs.Typing as typing
+use Rattle.c_means.specs.declared.breach.Breach.{Breach}
+use Rattle.c_means.specs.declared.breach.BrokenRule.{BrokenRule}
+use Rattle.c_means.specs.declared.breach.BrokenRule.TheVariants as broken
+use Rattle.c_means.specs.Checks.{breaches_of, has_main as has_main_in, is_known, mismatch, unread_breaches}
+use Rattle.c_means.specs.Items.{breach_if}
+use Rattle.c_means.specs.Names.{Word}
+use Rattle.c_means.specs.Programs.{declares_some, main'}
+use Rattle.c_means.specs.Runs.{Machine}
 use Rattle.c_checks.specs.Refusals.{least_of, lesser}
 use Rattle.c_notes.specs.declared.calls.CallNote.{CallNote}
 use Rattle.c_item_notes.specs.declared.items.ItemNotes.{ItemNotes}

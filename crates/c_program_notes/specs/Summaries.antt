@@ -1,22 +1,22 @@
--- What is noted of external declarations and of whole programs, as functions of what `c_runs` says of them.
+-- What is noted of external declarations and of whole programs, as functions of what `c_means` says of them.
 use Rattle.std.specs.Prelude.{ℕ, Bool, false, List, [], ◌∷◌, ◌++◌, length, map, option_map, Option, Some, None}
-use Rattle.c_tree.specs.declared.expr.Declarator.{Declarator}
-use Rattle.c_tree.specs.declared.expr.Specifier.{Specifier}
-use Rattle.c_tree.specs.declared.unit.Body.{Body}
-use Rattle.c_tree.specs.declared.unit.Declaration.{Declaration}
-use Rattle.c_tree.specs.declared.unit.External.{External}
-use Rattle.c_type_terms.specs.declared.tables.Tables.{Tables}
-use Rattle.c_says.specs.declared.scope.Entry.{Entry}
-use Rattle.c_says.specs.declared.scope.Fault.{Fault}
-use Rattle.c_says.specs.Scopes.{Block, Name, Scope, enter_with, leave}
-use Rattle.c_says.specs.Declarations.{FunctionSaid}
-use Rattle.c_says.specs.Units.{function_says}
+use Rattle.c_language.specs.declared.expr.Declarator.{Declarator}
+use Rattle.c_language.specs.declared.expr.Specifier.{Specifier}
+use Rattle.c_language.specs.declared.unit.Body.{Body}
+use Rattle.c_language.specs.declared.unit.Declaration.{Declaration}
+use Rattle.c_language.specs.declared.unit.External.{External}
+use Rattle.c_language.specs.declared.tables.Tables.{Tables}
+use Rattle.c_language.specs.declared.scope.Entry.{Entry}
+use Rattle.c_language.specs.declared.scope.Fault.{Fault}
+use Rattle.c_language.specs.Scopes.{Block, Name, Scope, enter_with, leave}
+use Rattle.c_language.specs.Declarations.{FunctionSaid}
+use Rattle.c_language.specs.Units.{function_says}
 use Rattle.c_declarations.specs.declared.functions.FunctionSaid.{FunctionSaid as Held}
 use Rattle.c_declarations.specs.Views.{function_in}
-use Rattle.c_runs.specs.Checks.{is_main_means}
-use Rattle.c_runs.specs.Items.{typing}
-use Rattle.c_runs.specs.Programs.{Outer, Program, body_item, code_in, entry_name, head_names, outer, unread_in}
-use Rattle.c_runs.specs.Statements.{declaration}
+use Rattle.c_means.specs.Checks.{is_main_means}
+use Rattle.c_means.specs.Items.{typing}
+use Rattle.c_means.specs.Programs.{Outer, Program, body_item, code_in, entry_name, head_names, outer, unread_in}
+use Rattle.c_means.specs.Statements.{declaration}
 use Rattle.c_checks.specs.Refusals.{least_of}
 use Rattle.c_item_notes.specs.declared.items.ItemNotes.{ItemNotes}
 use Rattle.c_item_notes.specs.ItemTellings.{item_notes, nothing_noted, summed}

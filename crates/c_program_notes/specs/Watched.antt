@@ -1,8 +1,8 @@
 -- The watched variables of a function that live throughout the run, over its summary.
 use Rattle.std.specs.Prelude.{ℕ, cond, List, [], ◌∷◌, Some}
-use Rattle.c_says.specs.declared.scope.Entry.{Entry}
-use Rattle.c_says.specs.Scopes.{Scope}
-use Rattle.c_runs.specs.Programs.{in_file, is_bound, watches}
+use Rattle.c_language.specs.declared.scope.Entry.{Entry}
+use Rattle.c_language.specs.Scopes.{Scope}
+use Rattle.c_means.specs.Programs.{in_file, is_bound, watches}
 use Rattle.c_item_notes.specs.declared.items.LastingNote.{LastingNote}
 use Rattle.c_reach.specs.declared.summaries.FunctionNotes.{FunctionNotes}
 

@@ -1,10 +1,10 @@
--- A whole source: what is reached, needed and made, over summaries, and as `c_runs` says it.
+-- A whole source: what is reached, needed and made, over summaries, and as `c_means` says it.
 use Rattle.std.specs.Prelude.{List, [], ◌∷◌, ◌++◌, map, reverse, Option, Some, None}
-use Rattle.c_runs.specs.declared.profile.Profile.{Profile}
-use Rattle.c_runs.specs.Names.{Word}
-use Rattle.c_runs.specs.Programs.{Needs, Program, needed_words, needs_of, ordinaries, program_of, reached}
-use Rattle.c_runs.specs.Runs.{Machine, offsets_of, place_in}
-use Rattle.c_runs.specs.Units.{least, machine_of, silent}
+use Rattle.c_means.specs.declared.profile.Profile.{Profile}
+use Rattle.c_means.specs.Names.{Word}
+use Rattle.c_means.specs.Programs.{Needs, Program, needed_words, needs_of, ordinaries, program_of, reached}
+use Rattle.c_means.specs.Runs.{Machine, offsets_of, place_in}
+use Rattle.c_means.specs.Units.{least, machine_of, silent}
 use Rattle.core_programs.specs.Offsets.{offsets_in}
 use Rattle.c_item_notes.specs.Levels.{Judged}
 use Rattle.c_names.specs.declared.summaries.Names.{Names}
@@ -65,7 +65,7 @@ prepared x = record {
   objects = objects (place_in x.places) x.program.scope x.needs;
 }
 
--- ---- as `c_runs` says it
+-- ---- as `c_means` says it
 
 abbrev pub overview_of : Judged → Program → Overview
 overview_of j p = record {

@@ -3,8 +3,8 @@
 
 ghost use Rattle.std.specs.Prelude.{◌≡◌, ◌≤◌, length, nat_eq, not, reverse, IfOk, Some};
 ghost use Rattle.std.specs.Option.{option_copied};
-ghost use Rattle.c_runs.specs.Checks as checks;
-ghost use Rattle.c_runs.specs.Items as items;
+ghost use Rattle.c_means.specs.Checks as checks;
+ghost use Rattle.c_means.specs.Items as items;
 ghost use Rattle.c_checks.specs.Refusals.{least_of};
 ghost use Rattle.c_item_notes.specs.Levels.{judged};
 ghost use Rattle.c_reach.specs.Reaching.{named_in};
@@ -16,14 +16,13 @@ use crate::whole::{Overview, functions_in};
 use c_checks::lesser;
 use c_declarations::tentative_type;
 use c_item_notes::{ItemNotes, LastingNote, Source};
+use c_language::{Entry, LayoutRule, Means, Rule, Tables};
+use c_means::{Breach, BrokenRule};
 use c_names::{Word, is_needed};
 use c_notes::CallNote;
 use c_reach::{FunctionNotes, named_functions};
-use c_runs::{Breach, BrokenRule};
-use c_says::{Entry, LayoutRule, Means, Rule};
 use c_type_forms::has_size;
 use c_type_scope::{Named, Scope};
-use c_type_terms::Tables;
 use plain_data::Shared;
 use std::alloc::{AllocError, Global};
 

@@ -3,22 +3,19 @@
 ghost use Rattle.std.specs.Prelude.{◌≡◌, ◌∷◌, [], ◌++◌, suc, cond, length, map, nat_eq, IfOk, OnOk, Some};
 ghost use Rattle.std.specs.Option.{option_copied};
 ghost use Rattle.c_means.specs.Values as values;
-ghost use Rattle.c_runs.specs.Runs as runs;
+ghost use Rattle.c_means.specs.Runs as runs;
 ghost use Rattle.core_programs.specs.Programs.{contents_if, function_object, link_objects, maybe_function, text_object};
 ghost use Rattle.c_program_notes.specs.Placed as spec;
 
 use crate::needing::{Needs, Text};
-use bit_words::Bytes;
 use c_declarations::tentative_type;
 use c_item_notes::LastingNote;
-use c_says::{Entry, Linked, Means};
+use c_language::{CType, Class, Entry, Linked, Means, Name, Tables};
 use c_store::ObjectKind;
-use c_tokens::Name;
 use c_type_scope::Scope;
-use c_type_terms::{CType, Class, Tables};
 use core_programs::PlaceTable;
 use core_tree::{Contents, LastingObject};
-use plain_data::{Items, Shared};
+use plain_data::{Bytes, Items, Shared};
 use std::alloc::{AllocError, Global};
 
 // ---- sizes

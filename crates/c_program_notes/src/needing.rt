@@ -6,12 +6,11 @@ ghost use Rattle.c_reach.specs.Reaching.{has_at};
 ghost use Rattle.c_program_notes.specs.Needed as spec;
 
 use crate::outers::OuterNotes;
-use bit_words::Bytes;
 use c_item_notes::{ItemNotes, LastingNote};
+use c_language::Name;
 use c_names::{Literal, Names, Word, is_needed};
 use c_reach::FunctionNotes;
-use c_tokens::Name;
-use plain_data::{Items, Shared};
+use plain_data::{Bytes, Items, Shared};
 use std::alloc::{AllocError, Global};
 use std::marker::Model;
 
@@ -23,7 +22,7 @@ pub struct Text {
 }
 
 impl Model for Text {
-    ghost use Rattle.c_runs.specs.Programs.{Text as Spec};
+    ghost use Rattle.c_means.specs.Programs.{Text as Spec};
 
     ghost Value = { Spec };
 

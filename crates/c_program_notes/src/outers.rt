@@ -1,9 +1,9 @@
 //! The external declarations of a source, one by one (C99 6.9).
 
 ghost use Rattle.std.specs.Prelude.{◌≡◌, [], ◌∷◌, ◌++◌, length, map, IfOk, OnOk};
-ghost use Rattle.c_says.specs.Scopes as scopes;
-ghost use Rattle.c_says.specs.Units as units;
-ghost use Rattle.c_runs.specs.Programs as programs;
+ghost use Rattle.c_language.specs.Scopes as scopes;
+ghost use Rattle.c_language.specs.Units as units;
+ghost use Rattle.c_means.specs.Programs as programs;
 ghost use Rattle.c_item_notes.specs.ItemTellings.{nothing_noted};
 ghost use Rattle.c_item_notes.specs.Levels.{judged};
 ghost use Rattle.c_program_notes.specs.Summaries as spec;
@@ -11,14 +11,11 @@ ghost use Rattle.c_program_notes.specs.Summaries as spec;
 use c_checks::{is_main, least_fault};
 use c_declarations::{FunctionSaid, function_says};
 use c_item_notes::{ItemNotes, Source, declaration_notes, nothing_noted};
+use c_language::{Body, CType, Declaration, Declarator, Entry, External, Name, Specifier, Tables};
 use c_names::{Names, external_names, head_names};
 use c_reach::FunctionNotes;
-use c_says::Entry;
 use c_stmt_notes::body_notes;
-use c_tokens::Name;
-use c_tree::{Body, Declaration, Declarator, External, Specifier};
 use c_type_scope::{Block, Scope};
-use c_type_terms::{CType, Tables};
 use plain_data::{Items, Shared};
 use std::alloc::{AllocError, Global};
 

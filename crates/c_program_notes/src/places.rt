@@ -2,17 +2,16 @@
 
 ghost use Rattle.std.specs.Prelude.{◌≡◌, ◌++◌, [], map, reverse, IfOk, OnOk};
 ghost use Rattle.std.specs.Option.{option_copied};
-ghost use Rattle.c_runs.specs.Runs.{place_in};
+ghost use Rattle.c_means.specs.Runs.{place_in};
 ghost use Rattle.core_programs.specs.Offsets.{offsets_in};
 ghost use Rattle.c_program_notes.specs.Placed as spec;
 
 use crate::needing::{Needs, Text};
 use crate::outers::{OuterNotes, ProgramNotes};
 use c_item_notes::{ItemNotes, LastingNote};
+use c_language::{Linked, Name};
 use c_names::{Literal, Names};
 use c_reach::FunctionNotes;
-use c_says::Linked;
-use c_tokens::Name;
 use c_type_scope::Scope;
 use core_programs::PlaceTable;
 use plain_data::{Items, Shared};

@@ -2,15 +2,15 @@
 
 ghost use Rattle.std.specs.Prelude.{◌≡◌, ◌++◌, ◌≤◌, cond, length, IfOk, OnOk, Some};
 ghost use Rattle.std.specs.Option.{option_copied};
-ghost use Rattle.c_says.specs.Scopes.{entry_in};
-ghost use Rattle.c_runs.specs.Calls as calls;
-ghost use Rattle.c_runs.specs.Programs as programs;
+ghost use Rattle.c_language.specs.Scopes.{entry_in};
+ghost use Rattle.c_means.specs.Calls as calls;
+ghost use Rattle.c_means.specs.Programs as programs;
 ghost use Rattle.c_program_notes.specs.Watched as spec;
 
 use c_item_notes::LastingNote;
+use c_language::{Duration, Entry, Means};
 use c_names::Word;
 use c_reach::FunctionNotes;
-use c_says::{Duration, Entry, Means};
 use c_type_scope::Scope;
 use plain_data::{Items, Shared};
 use std::alloc::{AllocError, Global};

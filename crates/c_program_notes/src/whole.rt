@@ -2,7 +2,7 @@
 //! lives throughout the run.
 
 ghost use Rattle.std.specs.Prelude.{◌≡◌, ◌∷◌, ◌++◌, [], map, IfOk, OnOk};
-ghost use Rattle.c_runs.specs.Programs as programs;
+ghost use Rattle.c_means.specs.Programs as programs;
 ghost use Rattle.core_programs.specs.Programs.{met_by, objects_of};
 ghost use Rattle.c_item_notes.specs.Levels.{judged};
 ghost use Rattle.c_reach.specs.Reaching as reaching;
@@ -13,9 +13,9 @@ use crate::needing::{Needs, needs_of};
 use crate::outers::{OuterNotes, ProgramNotes, program_notes};
 use crate::places::{met, place_table};
 use c_item_notes::Source;
+use c_language::Name;
 use c_names::{Names, Word, needed_words};
 use c_reach::{FunctionNotes, named_functions, reached};
-use c_tokens::Name;
 use core_programs::PlaceTable;
 use core_tree::LastingObject;
 use plain_data::{Items, Shared};

@@ -1,14 +1,14 @@
--- The functions that are found over summaries are those that `c_runs` reaches.
+-- The functions that are found over summaries are those that `c_means` reaches.
 use Rattle.std.proofs.Common.{◌≡◌, ℕ, zero, suc, ◌+◌, Bool, true, false, cond, ◌||◌, nat_eq, List, [], ◌∷◌, ◌++◌, length}
 use Rattle.std.proofs.Common.{reverse, map, Option, Some, None, refl, sym, ap, ◌∙◌, arith}
 use Rattle.std.specs.Prelude.{option_map, is_some}
 use Rattle.std.specs.Str.{bytes_eq}
 use Rattle.std.proofs.lemmas.List.{append-nil, reverse-append}
-use Rattle.c_says.specs.Scopes.{Name, last_where}
-use Rattle.c_runs.specs.declared.profile.Profile.{Profile}
-use Rattle.c_runs.specs.Programs.{Function, Program, functions_of, function_named, main'}
-use Rattle.c_runs.specs.Programs as programs
-use Rattle.c_runs.specs.Rules.{log_of, identity_index}
+use Rattle.c_language.specs.Scopes.{Name, last_where}
+use Rattle.c_means.specs.declared.profile.Profile.{Profile}
+use Rattle.c_means.specs.Programs.{Function, Program, functions_of, function_named, main'}
+use Rattle.c_means.specs.Programs as programs
+use Rattle.c_means.specs.Rules.{log_of, identity_index}
 use Rattle.c_item_notes.specs.Levels.{Judged}
 use Rattle.c_reach.specs.declared.search.Reaching.{Reaching}
 use Rattle.c_reach.specs.declared.summaries.FunctionNotes.{FunctionNotes}

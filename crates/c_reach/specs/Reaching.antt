@@ -1,11 +1,11 @@
--- The search for functions that are reached, over their summaries: as `c_runs` defines it, step by step.
+-- The search for functions that are reached, over their summaries: as `c_means` defines it, step by step.
 use Rattle.std.specs.Prelude.{ℕ, zero, suc, ◌+◌, Bool, false, cond, ◌||◌, nat_eq, List, [], ◌∷◌, ◌++◌, length, Option}
 use Rattle.std.specs.Prelude.{Some, None, is_some}
 use Rattle.std.specs.Str.{bytes_eq}
-use Rattle.c_says.specs.Scopes.{Name, last_where}
-use Rattle.c_runs.specs.declared.profile.Profile.{Profile}
-use Rattle.c_runs.specs.Programs.{main'}
-use Rattle.c_runs.specs.Rules.{log_of, identity_index}
+use Rattle.c_language.specs.Scopes.{Name, last_where}
+use Rattle.c_means.specs.declared.profile.Profile.{Profile}
+use Rattle.c_means.specs.Programs.{main'}
+use Rattle.c_means.specs.Rules.{log_of, identity_index}
 use Rattle.c_reach.specs.declared.search.Reaching.{Reaching}
 use Rattle.c_reach.specs.declared.summaries.FunctionNotes.{FunctionNotes}
 

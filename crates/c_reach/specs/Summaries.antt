@@ -1,7 +1,7 @@
--- What summaries of function definitions have, as functions of what `c_runs` says of them.
+-- What summaries of function definitions have, as functions of what `c_means` says of them.
 use Rattle.std.specs.Prelude.{length}
-use Rattle.c_runs.specs.Checks.{is_main_means}
-use Rattle.c_runs.specs.Programs.{Function}
+use Rattle.c_means.specs.Checks.{is_main_means}
+use Rattle.c_means.specs.Programs.{Function}
 use Rattle.c_item_notes.specs.ItemTellings.{item_notes}
 use Rattle.c_item_notes.specs.Levels.{Judged}
 use Rattle.c_names.specs.Kept.{kept}

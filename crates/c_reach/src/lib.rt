@@ -1,4 +1,4 @@
-//! Which functions of a program are reached (`c_runs`), over summaries that are made once of each definition.
+//! Which functions of a program are reached (`c_means`), over summaries that are made once of each definition.
 #![tactic(auto)]
 
 mod search;

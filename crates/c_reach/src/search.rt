@@ -5,13 +5,12 @@ ghost use Rattle.std.specs.Option.{option_copied};
 ghost use Rattle.c_reach.specs.Reaching as spec;
 
 use crate::summaries::FunctionNotes;
-use bit_words::Bytes;
 use c_checks::runs_body;
+use c_language::Name;
+use c_means::Profile;
 use c_names::Stack;
-use c_runs::Profile;
-use c_tokens::Name;
 use c_type_scope::Named;
-use plain_data::Shared;
+use plain_data::{Bytes, Shared};
 use std::alloc::{AllocError, Global};
 
 /// The names that are left to look at, and the functions that were found.

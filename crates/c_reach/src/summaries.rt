@@ -3,8 +3,8 @@
 ghost use Rattle.std.specs.Prelude.{◌≡◌};
 
 use c_item_notes::ItemNotes;
+use c_language::Name;
 use c_names::Names;
-use c_tokens::Name;
 use c_type_scope::HasName;
 
 /// A function definition (C99 6.9.1): the offset of its name's first declaration, how many parameters it has, the `{` of a

@@ -18,8 +18,8 @@ use Rattle.std.proofs.Common.{
   ◌∙◌,
   append_assoc,
 }
-use Rattle.c_tokens.specs.declared.token.TokenKind.{TokenKind}
-use Rattle.c_tokens.specs.declared.token.Token.{Token}
+use Rattle.c_language.specs.declared.token.TokenKind.{TokenKind}
+use Rattle.c_language.specs.declared.token.Token.{Token}
 use Rattle.c_grammar.specs.Parts.{State, Scope}
 use Rattle.c_grammar.specs.Reading.{Reading, ◌>>=◌, run_at, begins_by}
 use Rattle.c_reading.specs.Cursor.{Takes, after, taken_by}

@@ -1,8 +1,8 @@
 -- What the functions of the parser say of their cursor.
 use Rattle.std.specs.Prelude.{◌≡◌, List, [], ◌∷◌, ◌++◌, drop, false, Option, Some, None, Result, Ok, Err}
 use denote.Ref.{Bor}
-use Rattle.c_tokens.specs.declared.token.Token.{Token}
-use Rattle.c_tokens.specs.declared.token.TokenKind.{TokenKind}
+use Rattle.c_language.specs.declared.token.Token.{Token}
+use Rattle.c_language.specs.declared.token.TokenKind.{TokenKind}
 use Rattle.c_grammar.specs.Parts.{Frame, Scope, State}
 use Rattle.c_grammar.specs.Reading.{Reading, ◌>>=◌, begins_by}
 use Rattle.c_scope.specs.Local.{scope_of}

@@ -8,9 +8,8 @@ ghost use Rattle.c_reading.specs.Reads.{Reads};
 
 use crate::fault::ParseFault;
 use c_grammar::{binding_of, unary_of};
+use c_language::{Keyword, Name, Punctuator, TagName, Token, TokenKind, UnaryOperator};
 use c_scope::{FileNames, Names};
-use c_tokens::{Keyword, Name, Punctuator, Token, TokenKind};
-use c_tree::{TagName, UnaryOperator};
 use std::alloc::Global;
 
 /// How far the tokens are read, and the names that are in scope there.

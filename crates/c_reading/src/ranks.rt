@@ -3,7 +3,7 @@ ghost use Rattle.std.specs.Prelude.{◌≡◌, ◌≤◌, pred};
 ghost use Rattle.c_grammar.specs.Spelling.{rank_of as rank_spec};
 
 use c_grammar::rank_of;
-use c_tree::BinaryOperator;
+use c_language::BinaryOperator;
 
 /// How loosely the right operand of a binary operator may bind: less than the operator, so operators of one rank
 /// group to the left (C99 6.5.5 to 6.5.14).

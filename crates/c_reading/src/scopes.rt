@@ -7,7 +7,7 @@ ghost use Rattle.c_reading.specs.Cursor.{here};
 
 use crate::cursor::{Cursor, Source};
 use c_grammar::DeclaratorPlace;
-use c_tokens::{Name, Punctuator, TokenKind};
+use c_language::{Name, Punctuator, TokenKind};
 use std::alloc::AllocError;
 
 /// Whether a declarator may be without a name at such a place.

@@ -3,7 +3,7 @@ ghost use Rattle.std.specs.Prelude.{◌≡◌, ◌≤◌, drop, take, length};
 ghost use Rattle.c_grammar.specs.UnitReading as spec;
 
 use crate::cursor::Cursor;
-use c_tokens::Token;
+use c_language::Token;
 
 /// The tokens from a position on.
 pub fn rest(tokens: &[Token], position: usize) -> &[Token]

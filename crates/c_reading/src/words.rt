@@ -6,11 +6,9 @@ ghost use Rattle.c_reading.specs.Reads.{Reads};
 
 use crate::cursor::{Cursor, Source};
 use crate::fault::ParseFault;
-use bit_words::Bytes;
 use c_grammar::{array_word_of, qualifier_of};
-use c_tokens::TokenKind;
-use c_tree::{ArrayWord, Qualifier};
-use plain_data::{Items, Shared};
+use c_language::{ArrayWord, Qualifier, TokenKind};
+use plain_data::{Bytes, Items, Shared};
 use std::alloc::{AllocError, Global};
 
 impl<'a> Source<'a> {

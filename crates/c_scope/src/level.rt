@@ -5,7 +5,7 @@ ghost use Rattle.c_grammar.specs.Parts.{same_name};
 ghost use Rattle.c_scope.specs.Local.{found, frame_of};
 
 use crate::file::FileNames;
-use c_tokens::Name;
+use c_language::Name;
 use std::alloc::{AllocError, Global};
 use std::marker::Model;
 

@@ -9,7 +9,7 @@ ghost use Rattle.c_scope.specs.Known.{OutermostAlone, IsUsual};
 use crate::file::FileNames;
 use crate::known::Known;
 use crate::level::{Declared, Level};
-use c_tokens::Name;
+use c_language::Name;
 use std::alloc::{AllocError, Global};
 use std::marker::Model;
 

@@ -7,7 +7,7 @@ ghost use Rattle.c_scope.specs.Local.{scope_of};
 use crate::file::FileNames;
 use crate::level::Level;
 use crate::levels::Levels;
-use c_tokens::Name;
+use c_language::Name;
 use std::alloc::{AllocError, Global};
 use std::marker::Model;
 

@@ -1,9 +1,9 @@
 -- What is added to what was noted so far.
 use Rattle.std.proofs.Common.{◌≡◌, ℕ, ℤ, List, [], ◌∷◌, ◌++◌, Option, None, refl, sym, ap, ◌∙◌}
 use Rattle.std.proofs.lemmas.List.{append-nil}
-use Rattle.c_says.specs.Scopes.{Name}
-use Rattle.c_runs.specs.declared.breach.Breach.{Breach}
-use Rattle.c_runs.specs.Items.{Case}
+use Rattle.c_language.specs.Scopes.{Name}
+use Rattle.c_means.specs.declared.breach.Breach.{Breach}
+use Rattle.c_means.specs.Items.{Case}
 use Rattle.c_checks.specs.Refusals.{lesser}
 use Rattle.c_notes.specs.declared.calls.CallNote.{CallNote}
 use Rattle.c_notes.specs.declared.notes.ExprNotes.{ExprNotes}

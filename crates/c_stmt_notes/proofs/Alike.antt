@@ -1,13 +1,13 @@
 -- What is kept of each form of statement is what is kept of its parts, one behind the other.
 use Rattle.std.proofs.Common.{◌≡◌, ℕ, ℤ, List, [], ◌++◌, Option, Some, None, refl, sym, ap, ◌∙◌}
 use Rattle.std.proofs.lemmas.List.{append-nil, append_assoc}
-use Rattle.c_says.specs.Scopes.{Name, Scope}
-use Rattle.c_runs.specs.declared.breach.Breach.{Breach}
-use Rattle.c_runs.specs.Notes.{ExprNoted, Noted}
-use Rattle.c_runs.specs.Items.{Code, Context, Item, Lasting, closed, followed, nothing, with_breaches}
-use Rattle.c_runs.specs.Statements.{case_breaches, case_of, condition_breaches, if_item, looped}
-use Rattle.c_runs.specs.Statements.{maybe_sub, maybe_test, maybe_value, repeated_cases, switch_breaches, switch_item}
-use Rattle.c_runs.specs.Statements.{test_of, tested}
+use Rattle.c_language.specs.Scopes.{Name, Scope}
+use Rattle.c_means.specs.declared.breach.Breach.{Breach}
+use Rattle.c_means.specs.Notes.{ExprNoted, Noted}
+use Rattle.c_means.specs.Items.{Code, Context, Item, Lasting, closed, followed, nothing, with_breaches}
+use Rattle.c_means.specs.Statements.{case_breaches, case_of, condition_breaches, if_item, looped}
+use Rattle.c_means.specs.Statements.{maybe_sub, maybe_test, maybe_value, repeated_cases, switch_breaches, switch_item}
+use Rattle.c_means.specs.Statements.{test_of, tested}
 use Rattle.c_checks.specs.Refusals.{least_of, lesser}
 use Rattle.c_checks.proofs.Least.{grouping, of_both}
 use Rattle.c_notes.specs.declared.calls.CallNote.{CallNote}

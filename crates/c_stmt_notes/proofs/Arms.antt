@@ -1,25 +1,25 @@
 -- What each arm of the recursion notes is what is kept of the statement that it is handed.
 use Rattle.std.proofs.Common.{◌≡◌, ℕ, true, List, [], ◌∷◌, ◌++◌, map, Option, Some, None, refl, sym, ap, ap₂, ◌∙◌}
 use Rattle.std.specs.Prelude.{option_map}
-use Rattle.c_tree.specs.declared.expr.Expr.{Expr}
-use Rattle.c_tree.specs.declared.unit.Declaration.{Declaration}
-use Rattle.c_tree.specs.declared.unit.ForStart.{ForStart}
-use Rattle.c_tree.specs.declared.unit.Stmt.{Stmt}
-use Rattle.c_tree.specs.declared.unit.Stmt.TheVariants as tree
-use Rattle.c_type_terms.specs.declared.ctype.IntegerKind.{IntegerKind}
-use Rattle.c_says.specs.Scopes.{Name, Scope, enter, leave}
-use Rattle.c_says.specs.Typing.{constant_of}
+use Rattle.c_language.specs.declared.expr.Expr.{Expr}
+use Rattle.c_language.specs.declared.unit.Declaration.{Declaration}
+use Rattle.c_language.specs.declared.unit.ForStart.{ForStart}
+use Rattle.c_language.specs.declared.unit.Stmt.{Stmt}
+use Rattle.c_language.specs.declared.unit.Stmt.TheVariants as tree
+use Rattle.c_language.specs.declared.ctype.IntegerKind.{IntegerKind}
+use Rattle.c_language.specs.Scopes.{Name, Scope, enter, leave}
+use Rattle.c_language.specs.Typing.{constant_of}
 use Rattle.c_grammar.proofs.UnitEquations.{StmtSteps, of_stmt}
-use Rattle.c_runs.specs.declared.breach.Breach.{Breach}
-use Rattle.c_runs.specs.Notes.{Noted, noted}
-use Rattle.c_runs.specs.Items.{Case, Code, Context, Item, Label}
-use Rattle.c_runs.specs.Items.{closed, followed, in_scope, in_turn, nothing, opened, sub, unchosen}
-use Rattle.c_runs.specs.Statements.{Test, begun_by, case_item, case_value, code, compound, declaration, for_from, for_of}
-use Rattle.c_runs.specs.Statements.{if_from, if_of, in_loop, left_scope, looped, maybe_sub, maybe_test, maybe_value}
-use Rattle.c_runs.specs.Statements.{return_of, stmt, switch_breaches, switch_context, switch_item, switch_kind}
-use Rattle.c_runs.specs.Statements.{switch_of, test_of, tested, while_from}
-use Rattle.c_runs.specs.Statements as form
-use Rattle.c_runs.proofs.Equations as eq
+use Rattle.c_means.specs.declared.breach.Breach.{Breach}
+use Rattle.c_means.specs.Notes.{Noted, noted}
+use Rattle.c_means.specs.Items.{Case, Code, Context, Item, Label}
+use Rattle.c_means.specs.Items.{closed, followed, in_scope, in_turn, nothing, opened, sub, unchosen}
+use Rattle.c_means.specs.Statements.{Test, begun_by, case_item, case_value, code, compound, declaration, for_from, for_of}
+use Rattle.c_means.specs.Statements.{if_from, if_of, in_loop, left_scope, looped, maybe_sub, maybe_test, maybe_value}
+use Rattle.c_means.specs.Statements.{return_of, stmt, switch_breaches, switch_context, switch_item, switch_kind}
+use Rattle.c_means.specs.Statements.{switch_of, test_of, tested, while_from}
+use Rattle.c_means.specs.Statements as form
+use Rattle.c_means.proofs.RunEquations as eq
 use Rattle.c_checks.specs.declared.statements.SwitchSaid.{SwitchSaid}
 use Rattle.c_checks.specs.Refusals.{least_of}
 use Rattle.c_checks.specs.Rules.{default_breaches, goto_breaches, label_breaches}

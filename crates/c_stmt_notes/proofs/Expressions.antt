@@ -2,14 +2,14 @@
 use Rattle.std.proofs.Common.{◌≡◌, ℕ, ℤ, List, [], Option, Some, None, refl, sym, ap, ap₂, ◌∙◌}
 use Rattle.std.proofs.lemmas.List.{append-nil}
 use Rattle.std.specs.Prelude.{option_map}
-use Rattle.c_tree.specs.declared.expr.Expr.{Expr}
-use Rattle.c_type_terms.specs.declared.ctype.IntegerKind.{IntegerKind}
-use Rattle.c_says.specs.Scopes.{Scope}
-use Rattle.c_says.specs.Typing.{Typed, constant_of, told_of, typed_in, value_in}
-use Rattle.c_runs.specs.declared.breach.Breach.{Breach}
-use Rattle.c_runs.specs.Items.{Context, Item, nothing, typing}
-use Rattle.c_runs.specs.Notes.{Noted, noted}
-use Rattle.c_runs.specs.Statements.{case_value, maybe_test, maybe_value, return_of, test_of, tested, value_of, value_return}
+use Rattle.c_language.specs.declared.expr.Expr.{Expr}
+use Rattle.c_language.specs.declared.ctype.IntegerKind.{IntegerKind}
+use Rattle.c_language.specs.Scopes.{Scope}
+use Rattle.c_language.specs.Typing.{Typed, constant_of, told_of, typed_in, value_in}
+use Rattle.c_means.specs.declared.breach.Breach.{Breach}
+use Rattle.c_means.specs.Items.{Context, Item, nothing, typing}
+use Rattle.c_means.specs.Notes.{Noted, noted}
+use Rattle.c_means.specs.Statements.{case_value, maybe_test, maybe_value, return_of, test_of, tested, value_of, value_return}
 use Rattle.c_checks.specs.Refusals.{least_of}
 use Rattle.c_checks.specs.Rules.{bare_return_breaches, case_breaches, condition_breaches, return_value_breaches}
 use Rattle.c_notes.specs.declared.notes.NotedExpr.{NotedExpr}

@@ -1,10 +1,10 @@
 -- Items one behind the other, and blocks.
 use Rattle.std.proofs.Common.{◌≡◌, List, [], ◌++◌, sym, ap, ap₂, ◌∙◌}
 use Rattle.std.proofs.lemmas.List.{append-nil}
-use Rattle.c_says.specs.Scopes.{Scope, enter, leave}
-use Rattle.c_runs.specs.Items.{Case, Code, Context, Item, Label}
-use Rattle.c_runs.specs.Items.{closed, followed, guarded, nothing, opened, sub, unchosen, without_cases}
-use Rattle.c_runs.specs.Statements.{left_scope}
+use Rattle.c_language.specs.Scopes.{Scope, enter, leave}
+use Rattle.c_means.specs.Items.{Case, Code, Context, Item, Label}
+use Rattle.c_means.specs.Items.{closed, followed, guarded, nothing, opened, sub, unchosen, without_cases}
+use Rattle.c_means.specs.Statements.{left_scope}
 use Rattle.c_item_notes.specs.declared.items.ItemNotes.{ItemNotes}
 use Rattle.c_item_notes.specs.Levels.{Judged}
 use Rattle.c_item_notes.specs.ItemTellings.{Summed, and_item, both, item_notes, nothing_noted, summed, summed_in}

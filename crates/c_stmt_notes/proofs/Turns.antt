@@ -1,6 +1,6 @@
 -- The items of a block, one after the other.
 use Rattle.std.proofs.Common.{◌≡◌, List, [], ◌∷◌, sym, ap, ◌∙◌}
-use Rattle.c_runs.specs.Items.{Code, Context, in_scope, in_turn}
+use Rattle.c_means.specs.Items.{Code, Context, in_scope, in_turn}
 use Rattle.c_item_notes.specs.declared.items.ItemNotes.{ItemNotes}
 use Rattle.c_item_notes.specs.Levels.{Judged}
 use Rattle.c_item_notes.specs.ItemTellings.{Summed, and_item, summed_in}

@@ -1,17 +1,17 @@
--- What code keeps of what `c_runs` says of statements, by what they stand in.
+-- What code keeps of what `c_means` says of statements, by what they stand in.
 use Rattle.std.specs.Prelude.{ℕ, ℤ, Bool, not, List, [], ◌∷◌, Option, Some, None}
-use Rattle.c_type_terms.specs.declared.ctype.CType.{CType}
-use Rattle.c_type_terms.specs.declared.ctype.IntegerKind.{IntegerKind}
-use Rattle.c_says.specs.Scopes.{Scope, enter}
-use Rattle.c_says.specs.Typing.{constant_of, told_of}
-use Rattle.c_says.specs.Declarations.{FunctionSaid}
-use Rattle.c_runs.specs.declared.breach.Breach.{Breach}
-use Rattle.c_runs.specs.declared.breach.BrokenRule.TheVariants as broken_
-use Rattle.c_runs.specs.Notes.{Noted}
-use Rattle.c_runs.specs.Items.{Case, Code, Item, Label, breach_if, nothing}
-use Rattle.c_runs.specs.Items.{closed, guarded, in_turn, node, opened, unchosen, without_cases}
-use Rattle.c_runs.specs.Items as runs
-use Rattle.c_runs.specs.Statements.{case_value, repeated_cases}
+use Rattle.c_language.specs.declared.ctype.CType.{CType}
+use Rattle.c_language.specs.declared.ctype.IntegerKind.{IntegerKind}
+use Rattle.c_language.specs.Scopes.{Scope, enter}
+use Rattle.c_language.specs.Typing.{constant_of, told_of}
+use Rattle.c_language.specs.Declarations.{FunctionSaid}
+use Rattle.c_means.specs.declared.breach.Breach.{Breach}
+use Rattle.c_means.specs.declared.breach.BrokenRule.TheVariants as broken_
+use Rattle.c_means.specs.Notes.{Noted}
+use Rattle.c_means.specs.Items.{Case, Code, Item, Label, breach_if, nothing}
+use Rattle.c_means.specs.Items.{closed, guarded, in_turn, node, opened, unchosen, without_cases}
+use Rattle.c_means.specs.Items as runs
+use Rattle.c_means.specs.Statements.{case_value, repeated_cases}
 use Rattle.c_checks.specs.Refusals.{least_of, lesser}
 use Rattle.c_checks.specs.Rules.{case_breaches}
 use Rattle.c_notes.specs.declared.notes.ExprNotes.{ExprNotes}

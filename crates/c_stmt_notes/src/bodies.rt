@@ -1,8 +1,8 @@
 //! The bodies of functions (C99 6.9.1).
 
 ghost use Rattle.std.specs.Prelude.{◌≡◌, IfOk};
-ghost use Rattle.c_runs.specs.Programs as programs;
-ghost use Rattle.c_runs.specs.Statements as statements;
+ghost use Rattle.c_means.specs.Programs as programs;
+ghost use Rattle.c_means.specs.Statements as statements;
 ghost use Rattle.c_item_notes.specs.Levels.{judged};
 ghost use Rattle.c_item_notes.specs.ItemTellings.{summed, summed_in};
 ghost use Rattle.c_stmt_notes.specs.StatementTellings as spec;
@@ -10,9 +10,8 @@ ghost use Rattle.c_stmt_notes.specs.StatementTellings as spec;
 use crate::context::{Context, all_labels, own_labels};
 use crate::statements::content_notes;
 use c_item_notes::{ItemNotes, Source, nothing_noted};
-use c_tree::{Body, Stmt};
+use c_language::{Body, CType, Stmt};
 use c_type_scope::Scope;
-use c_type_terms::CType;
 use plain_data::Shared;
 use std::alloc::{AllocError, Global};
 

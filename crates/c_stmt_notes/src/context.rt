@@ -1,11 +1,10 @@
 //! What a statement stands in.
 
 ghost use Rattle.std.specs.Prelude.{◌≡◌, ◌++◌, IfOk};
-ghost use Rattle.c_runs.specs.Statements as statements;
+ghost use Rattle.c_means.specs.Statements as statements;
 
 use c_checks::{Label, block_labels, every_label};
-use c_tree::Stmt;
-use c_type_terms::{CType, IntegerKind};
+use c_language::{CType, IntegerKind, Stmt};
 use plain_data::{Items, Shared};
 use std::alloc::{AllocError, Global};
 

@@ -1,15 +1,15 @@
 //! What was noted so far, with more behind it: each note is moved once, however deep the statement stands.
 
 ghost use Rattle.std.specs.Prelude.{◌≡◌, ◌++◌, [], None, OnOk};
-ghost use Rattle.c_runs.specs.Statements as statements;
+ghost use Rattle.c_means.specs.Statements as statements;
 ghost use Rattle.c_checks.specs.Refusals.{lesser, least_of};
 ghost use Rattle.c_item_notes.specs.ItemTellings.{both};
 ghost use Rattle.c_stmt_notes.specs.StatementTellings as spec;
 
 use c_checks::{Case, lesser, repeated_cases};
 use c_item_notes::ItemNotes;
+use c_means::Breach;
 use c_notes::ExprNotes;
-use c_runs::Breach;
 use plain_data::Items;
 use std::alloc::{AllocError, Global};
 use std::mem::replace;

@@ -1,8 +1,8 @@
 //! Statements without substatements, and the parts of those with some.
 
 ghost use Rattle.std.specs.Prelude.{◌≡◌, option_map, IfOk, OnOk};
-ghost use Rattle.c_runs.specs.Notes as notes;
-ghost use Rattle.c_runs.specs.Statements as statements;
+ghost use Rattle.c_means.specs.Notes as notes;
+ghost use Rattle.c_means.specs.Statements as statements;
 ghost use Rattle.c_checks.specs.Refusals.{least_of};
 ghost use Rattle.c_checks.specs.Rules as rules;
 ghost use Rattle.c_item_notes.specs.Levels.{judged};
@@ -16,13 +16,10 @@ use c_checks::{
     least_fault, misplaced_if, return_value, switch_value,
 };
 use c_item_notes::{ItemNotes, Source, declaration_notes, heard, nothing_noted};
+use c_language::{CType, Declaration, Expr, ForStart, Name, Told};
+use c_means::Breach;
 use c_notes::NotedExpr;
-use c_runs::Breach;
-use c_says::Told;
-use c_tokens::Name;
-use c_tree::{Declaration, Expr, ForStart};
 use c_type_scope::Scope;
-use c_type_terms::CType;
 use plain_data::Shared;
 use std::alloc::{AllocError, Global};
 

@@ -1,9 +1,9 @@
 //! The recursion over statements (C99 6.8).
 
 ghost use Rattle.std.specs.Prelude.{◌≡◌, map, option_map, IfOk, OnOk};
-ghost use Rattle.c_runs.specs.Items as items_;
-ghost use Rattle.c_runs.specs.Notes as notes;
-ghost use Rattle.c_runs.specs.Statements as statements;
+ghost use Rattle.c_means.specs.Items as items_;
+ghost use Rattle.c_means.specs.Notes as notes;
+ghost use Rattle.c_means.specs.Statements as statements;
 ghost use Rattle.c_item_notes.specs.Levels.{judged};
 ghost use Rattle.c_item_notes.specs.ItemTellings.{summed, summed_in};
 ghost use Rattle.c_stmt_notes.specs.StatementTellings as spec;
@@ -16,7 +16,7 @@ use crate::pieces::{
 };
 use c_checks::Label;
 use c_item_notes::{ItemNotes, Source, nothing_noted};
-use c_tree::{Expr, Stmt};
+use c_language::{Expr, Stmt};
 use c_type_scope::Scope;
 use plain_data::{Items, Shared};
 use std::alloc::{AllocError, Global};

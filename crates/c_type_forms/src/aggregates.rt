@@ -1,16 +1,14 @@
 //! Subscripts and members (C99 6.5.2.1, 6.5.2.3).
 ghost use Rattle.std.specs.Prelude.{◌≡◌, IfOk};
 ghost use Rattle.std.specs.Option.{option_copied};
-ghost use Rattle.c_type_terms.specs.Types as types;
-ghost use Rattle.c_type_terms.specs.Layouts.{member_named};
-ghost use Rattle.c_says.specs.Typing as spec;
+ghost use Rattle.c_language.specs.Types as types;
+ghost use Rattle.c_language.specs.Layouts.{member_named};
+ghost use Rattle.c_language.specs.Typing as spec;
 
 use crate::operators::addition;
 use crate::turning::indirection;
 use crate::values::{INCOMPLETE, an_object};
-use c_says::{Rule, Shown};
-use c_tokens::Name;
-use c_type_terms::{Content, Member, OpaqueCause, Qualifiers, Tables};
+use c_language::{Content, Member, Name, OpaqueCause, Qualifiers, Rule, Shown, Tables};
 use std::alloc::{AllocError, Global};
 
 /// The target of a sum. It fails for want of memory alone.

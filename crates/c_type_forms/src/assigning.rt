@@ -1,14 +1,12 @@
 //! Casts, choices, assignment, and `++` and `--` (C99 6.5.2.4, 6.5.3.1, 6.5.4, 6.5.15, 6.5.16).
 ghost use Rattle.std.specs.Prelude.{◌≡◌, IfOk};
-ghost use Rattle.c_type_terms.specs.Types as types;
-ghost use Rattle.c_says.specs.Typing as spec;
+ghost use Rattle.c_language.specs.Types as types;
+ghost use Rattle.c_language.specs.Typing as spec;
 
 use crate::operators::{is_integer, is_pointer, is_scalar, moved};
 use crate::turning::{is_void, on_modifiable, unqualified_type};
 use crate::values::{an_integer, is_zero_value, some_value};
-use c_says::{Rule, Shown};
-use c_tree::BinaryOperator;
-use c_type_terms::{CType, Class, IntegerKind, Qualifiers, Tables};
+use c_language::{BinaryOperator, CType, Class, IntegerKind, Qualifiers, Rule, Shown, Tables};
 use std::alloc::{AllocError, Global};
 
 // ---- steps

@@ -1,13 +1,15 @@
 //! Calls (C99 6.5.2.2).
 ghost use Rattle.std.specs.Prelude.{◌≡◌, ◌++◌, slice_get, IfOk};
-ghost use Rattle.c_type_terms.specs.Types as types;
-ghost use Rattle.c_says.specs.Typing as spec;
+ghost use Rattle.c_language.specs.Types as types;
+ghost use Rattle.c_language.specs.Typing as spec;
 
 use crate::told::{joined, typeless};
 use crate::turning::is_function;
 use crate::values::some_value;
-use c_says::{Argument, Called, Fault, Rule, Shown, Told};
-use c_type_terms::{CType, Class, Derivation, Prototype, Qualifiers, Tables};
+use c_language::{
+    Argument, CType, Called, Class, Derivation, Fault, Prototype, Qualifiers, Rule, Shown, Tables,
+    Told,
+};
 use plain_data::Items;
 use std::alloc::{AllocError, Global};
 

@@ -1,4 +1,4 @@
-//! Types and constants of C: what each form of expression says over what its parts say (`c_says`), as code.
+//! Types and constants of C: what each form of expression says over what its parts say (`c_language`), as code.
 #![tactic(auto)]
 
 mod aggregates;

@@ -1,13 +1,11 @@
 //! Binary operators over values (C99 6.5.5 to 6.5.14).
 ghost use Rattle.std.specs.Prelude.{◌≡◌, IfOk};
-ghost use Rattle.c_type_terms.specs.Types as types;
-ghost use Rattle.c_says.specs.Typing as spec;
+ghost use Rattle.c_language.specs.Types as types;
+ghost use Rattle.c_language.specs.Typing as spec;
 
 use crate::values::{INCOMPLETE, an_integer, has_size, some_value};
-use bit_words::Undefined;
-use c_says::{Rule, Shown};
-use c_tree::BinaryOperator;
-use c_type_terms::{CType, Class, IntegerKind, Tables};
+use c_language::{BinaryOperator, CType, Class, IntegerKind, Rule, Shown, Tables};
+use plain_data::Undefined;
 use std::alloc::{AllocError, Global};
 
 /// What an operator makes of two numbers, brought to the type in which it works; `&&` and `||` take them as they are.

@@ -1,17 +1,16 @@
 //! Primary expressions (C99 6.5.1), apart from the look-up of a name.
 ghost use Rattle.std.specs.Prelude.{◌≡◌, suc, [], IfOk};
 ghost use Rattle.std.specs.Option.{option_copied};
-ghost use Rattle.c_says.specs.Scopes.{Scope};
-ghost use Rattle.c_says.specs.Typing.{typed_in};
-ghost use Rattle.c_says.specs.Typing as spec;
+ghost use Rattle.c_language.specs.Scopes.{Scope};
+ghost use Rattle.c_language.specs.Typing.{typed_in};
+ghost use Rattle.c_language.specs.Typing as spec;
 
 use crate::told::{node, refused, typeless};
 use crate::values::{TOO_LARGE, an_integer, an_object, some_value};
-use bit_words::Bytes;
-use c_says::{Entry, Means, Rule, Shown, Told};
-use c_tokens::{IntegerConstant, Name};
-use c_type_terms::{Base, CType, IntegerKind, Tables};
-use plain_data::{Items, Shared};
+use c_language::{
+    Base, CType, Entry, IntegerConstant, IntegerKind, Means, Name, Rule, Shown, Tables, Told,
+};
+use plain_data::{Bytes, Items, Shared};
 use std::alloc::{AllocError, Global};
 use std::slice;
 

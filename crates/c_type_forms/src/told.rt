@@ -1,17 +1,16 @@
 //! What an expression says, apart from the scope behind it, and what a node says over its parts.
 ghost use Rattle.std.specs.Prelude.{◌≡◌, ◌++◌, IfOk};
-ghost use Rattle.c_type_terms.specs.Types as types;
-ghost use Rattle.c_says.specs.Typing as spec;
+ghost use Rattle.c_language.specs.Types as types;
+ghost use Rattle.c_language.specs.Typing as spec;
 
 use crate::aggregates::{element, member_shown_of, pointed_member};
 use crate::assigning::{assigned, cast_to, choice_of, compound, stepped};
 use crate::operators::operated;
 use crate::turning::{address, indirection, negated, promoted_by, size_in};
 use crate::values::{some_value, value_of};
-use c_says::{Fault, Rule, Shown, Told};
-use c_tokens::Name;
-use c_tree::{BinaryOperator, UnaryOperator};
-use c_type_terms::{CType, Class, Tables};
+use c_language::{
+    BinaryOperator, CType, Class, Fault, Name, Rule, Shown, Tables, Told, UnaryOperator,
+};
 use plain_data::Items;
 use std::alloc::{AllocError, Global};
 

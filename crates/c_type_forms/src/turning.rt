@@ -1,14 +1,12 @@
 //! Unary operators, `sizeof` and casts (C99 6.5.2.4, 6.5.3, 6.5.4).
 ghost use Rattle.std.specs.Prelude.{◌≡◌, IfOk};
-ghost use Rattle.c_type_terms.specs.Types as types;
-ghost use Rattle.c_says.specs.Typing as spec;
+ghost use Rattle.c_language.specs.Types as types;
+ghost use Rattle.c_language.specs.Typing as spec;
 
 use crate::operators::{is_scalar, moved};
 use crate::values::{INCOMPLETE, TOO_LARGE, an_integer, an_object, is_zero_value, some_value};
-use bit_words::Undefined;
-use c_says::{Rule, Shown};
-use c_tree::UnaryOperator;
-use c_type_terms::{CType, Class, IntegerKind, Qualifiers, Tables};
+use c_language::{CType, Class, IntegerKind, Qualifiers, Rule, Shown, Tables, UnaryOperator};
+use plain_data::Undefined;
 use std::alloc::{AllocError, Global};
 
 /// Whether this is a function type.

@@ -1,11 +1,10 @@
 //! What nodes show, and the values of lvalues, arrays and functions (C99 6.3.2.1).
 ghost use Rattle.std.specs.Prelude.{◌≡◌, IfOk};
-ghost use Rattle.c_type_terms.specs.Layouts.{is_sized};
-ghost use Rattle.c_type_terms.specs.Compatible.{decayed};
-ghost use Rattle.c_says.specs.Typing as spec;
+ghost use Rattle.c_language.specs.Layouts.{is_sized};
+ghost use Rattle.c_language.specs.Compatible.{decayed};
+ghost use Rattle.c_language.specs.Typing as spec;
 
-use c_says::{LayoutRule, Rule, Shown};
-use c_type_terms::{Base, CType, Class, IntegerKind, Qualifiers, Tables};
+use c_language::{Base, CType, Class, IntegerKind, LayoutRule, Qualifiers, Rule, Shown, Tables};
 use std::alloc::{AllocError, Global};
 
 /// The rule that a type without size breaks where one is wanted.

@@ -8,7 +8,7 @@ use Rattle.std.specs.Global.{Vec}
 use Rattle.std.specs.Map.{lookup, IsKeyTest, AreApart, KeepsOthers}
 use Rattle.std.proofs.lemmas.List.{reverse-append}
 use Rattle.std.proofs.lemmas.Bool.{cases_Bool, cond-true, cond-false}
-use Rattle.c_says.specs.Scopes.{last_where}
+use Rattle.c_language.specs.Scopes.{last_where}
 use mathlib.Core.Logic.{⊎_elim}
 
 module _ {X S : Type 0} (bs : List ℕ) (m n : HashMap (Vec ℕ) X S) where

@@ -3,9 +3,9 @@ use Rattle.std.proofs.Common.{◌≡◌, refl, ap, sym, subst, ◌∙◌, ℕ, s
 use Rattle.std.proofs.Math.Seq.{take-suc}
 use Rattle.std.proofs.Math.ListN.{length-take}
 use Rattle.std.proofs.lemmas.List.{reverse-append, take_all}
-use Rattle.c_says.specs.declared.scope.Linked.{Linked}
-use Rattle.c_says.specs.Scopes.{Name, Block, Scope, innermost, with_innermost}
-use Rattle.c_type_terms.specs.declared.tables.Tables.{Tables}
+use Rattle.c_language.specs.declared.scope.Linked.{Linked}
+use Rattle.c_language.specs.Scopes.{Name, Block, Scope, innermost, with_innermost}
+use Rattle.c_language.specs.declared.tables.Tables.{Tables}
 
 set_last : {A : Type 0} (xs : List A) (x y : A) → set (xs ++ x ∷ []) (length xs) y ≡ xs ++ y ∷ []
 set_last [] x y = refl

@@ -2,7 +2,7 @@
 
 ghost use Rattle.std.specs.Prelude.{◌≡◌, IfOk};
 
-use c_type_terms::{Aggregate, CType, Content, Layout, Member, Signature, Tables};
+use c_language::{Aggregate, CType, Content, Layout, Member, Signature, Tables};
 use plain_data::Items;
 use std::alloc::{AllocError, Global};
 

@@ -3,10 +3,9 @@
 ghost use Rattle.std.specs.Prelude.{◌≡◌, ℕ, List, [], ◌∷◌, ◌++◌, None, IfOk, OnOk};
 ghost use Rattle.std.specs.Option.{option_copied};
 ghost use Rattle.std.specs.Str.{bytes_eq};
-ghost use Rattle.c_says.specs.Scopes.{last_where};
+ghost use Rattle.c_language.specs.Scopes.{last_where};
 
-use c_says::{Entry, Linked, Tag};
-use c_tokens::Name;
+use c_language::{Entry, Linked, Name, Tag};
 use plain_data::Shared;
 use std::alloc::{AllocError, Global};
 use std::collections::HashMap;
@@ -57,7 +56,7 @@ impl<T: HasName> Model for Named<T> {
     ghost use Rattle.std.specs.Coded.{coded_list};
     ghost use Rattle.std.specs.Str.{bytes_eq};
     ghost use Rattle.std.specs.HashMap.{get_by};
-    ghost use Rattle.c_says.specs.Scopes.{last_where};
+    ghost use Rattle.c_language.specs.Scopes.{last_where};
 
     ghost Value = { List T };
 

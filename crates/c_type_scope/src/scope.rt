@@ -2,13 +2,11 @@
 
 ghost use Rattle.std.specs.Prelude.{◌≡◌, reverse, IfOk, OnOk};
 ghost use Rattle.std.specs.Option.{option_copied};
-ghost use Rattle.c_says.specs.Scopes as spec;
+ghost use Rattle.c_language.specs.Scopes as spec;
 
 use crate::copies::copied_tables;
 use crate::names::Named;
-use c_says::{Entry, Linked, Tag};
-use c_tokens::Name;
-use c_type_terms::Tables;
+use c_language::{Entry, Linked, Name, Tables, Tag};
 use plain_data::{Items, Shared};
 use std::alloc::{AllocError, Global};
 use std::marker::Model;
@@ -21,7 +19,7 @@ pub struct Block {
 }
 
 impl Model for Block {
-    ghost use Rattle.c_says.specs.Scopes as spec;
+    ghost use Rattle.c_language.specs.Scopes as spec;
 
     ghost Value = { spec.Block };
 
@@ -153,7 +151,7 @@ pub struct Scope {
 
 impl Model for Scope {
     ghost use Rattle.std.specs.Prelude.{reverse};
-    ghost use Rattle.c_says.specs.Scopes as spec;
+    ghost use Rattle.c_language.specs.Scopes as spec;
 
     ghost Value = { spec.Scope };
 

@@ -1,10 +1,10 @@
 //! The tables of types, which stay when a block is left. A new entry is the last, and its number is how many there were.
 
 ghost use Rattle.std.specs.Prelude.{◌≡◌, IfOk, OnOk};
-ghost use Rattle.c_says.specs.Scopes as spec;
+ghost use Rattle.c_language.specs.Scopes as spec;
 
 use crate::scope::Scope;
-use c_type_terms::{Aggregate, AggregateForm, CType, Content, Enumeration, Prototype, Signature};
+use c_language::{Aggregate, AggregateForm, CType, Content, Enumeration, Prototype, Signature};
 use plain_data::Items;
 use std::alloc::AllocError;
 

@@ -1,11 +1,11 @@
 -- The first cause among broken rules.
 use Rattle.std.proofs.Common.{◌≡◌, List, [], ◌∷◌, ◌++◌, Option, Some, None, refl, ap, ◌∙◌}
-use Rattle.c_says.specs.declared.scope.Fault.{Fault}
-use Rattle.c_says.specs.declared.scope.LayoutRule.{LayoutRule}
-use Rattle.c_says.specs.declared.scope.LayoutRule.TheVariants as layout
-use Rattle.c_says.specs.declared.scope.Rule.{Rule}
-use Rattle.c_says.specs.declared.scope.Rule.TheVariants as rule
-use Rattle.c_says.specs.Typing.{fault_at, cause_in}
+use Rattle.c_language.specs.declared.scope.Fault.{Fault}
+use Rattle.c_language.specs.declared.scope.LayoutRule.{LayoutRule}
+use Rattle.c_language.specs.declared.scope.LayoutRule.TheVariants as layout
+use Rattle.c_language.specs.declared.scope.Rule.{Rule}
+use Rattle.c_language.specs.declared.scope.Rule.TheVariants as rule
+use Rattle.c_language.specs.Typing.{fault_at, cause_in}
 use Rattle.c_types.specs.Causes.{first_cause}
 
 abbrev or_not_constant : Option LayoutRule → LayoutRule

@@ -1,15 +1,15 @@
 -- A type has no size, and no alignment, exactly where it lacks a size.
 use Rattle.std.proofs.Common.{◌≡◌, ℕ, Bool, true, false, not, List, [], ◌∷◌, Option, Some, None, refl, ◌∙◌}
-use Rattle.c_type_terms.specs.declared.ctype.Base.{Base}
-use Rattle.c_type_terms.specs.declared.ctype.Base.TheVariants as b
-use Rattle.c_type_terms.specs.declared.ctype.CType.{CType}
-use Rattle.c_type_terms.specs.declared.ctype.Derivation.{Derivation}
-use Rattle.c_type_terms.specs.declared.ctype.Derivation.TheVariants as d
-use Rattle.c_type_terms.specs.declared.tables.Content.{Content}
-use Rattle.c_type_terms.specs.declared.tables.Content.TheVariants as c
-use Rattle.c_type_terms.specs.declared.tables.Tables.{Tables}
-use Rattle.c_type_terms.specs.Types.{content_of, is_listed}
-use Rattle.c_type_terms.specs.Layouts.{
+use Rattle.c_language.specs.declared.ctype.Base.{Base}
+use Rattle.c_language.specs.declared.ctype.Base.TheVariants as b
+use Rattle.c_language.specs.declared.ctype.CType.{CType}
+use Rattle.c_language.specs.declared.ctype.Derivation.{Derivation}
+use Rattle.c_language.specs.declared.ctype.Derivation.TheVariants as d
+use Rattle.c_language.specs.declared.tables.Content.{Content}
+use Rattle.c_language.specs.declared.tables.Content.TheVariants as c
+use Rattle.c_language.specs.declared.tables.Tables.{Tables}
+use Rattle.c_language.specs.Types.{content_of, is_listed}
+use Rattle.c_language.specs.Layouts.{
   size_of,
   size_from,
   size_in,

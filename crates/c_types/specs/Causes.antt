@@ -1,13 +1,13 @@
 -- Why a type or a constant has no answer (C99 6.6, 6.7.2 to 6.7.6).
 use Rattle.std.specs.Prelude.{◌≡◌, List, [], ◌∷◌, ◌++◌, Option, Some, None, Result, Ok, Err}
-use Rattle.c_type_terms.specs.declared.ctype.CType.{CType}
-use Rattle.c_says.specs.declared.scope.Fault.{Fault}
-use Rattle.c_says.specs.declared.scope.LayoutRule.{LayoutRule}
-use Rattle.c_says.specs.declared.scope.LayoutRule.TheVariants as layout
-use Rattle.c_says.specs.declared.scope.Rule.{Rule}
-use Rattle.c_says.specs.declared.scope.Rule.TheVariants as rule
-use Rattle.c_says.specs.Typing.{NamedType}
-use Rattle.c_says.specs.Declares.{TypeSaid, faults_in}
+use Rattle.c_language.specs.declared.ctype.CType.{CType}
+use Rattle.c_language.specs.declared.scope.Fault.{Fault}
+use Rattle.c_language.specs.declared.scope.LayoutRule.{LayoutRule}
+use Rattle.c_language.specs.declared.scope.LayoutRule.TheVariants as layout
+use Rattle.c_language.specs.declared.scope.Rule.{Rule}
+use Rattle.c_language.specs.declared.scope.Rule.TheVariants as rule
+use Rattle.c_language.specs.Typing.{NamedType}
+use Rattle.c_language.specs.Declares.{TypeSaid, faults_in}
 use Rattle.c_types.specs.declared.faults.TypeFault.{TypeFault}
 use Rattle.c_types.specs.declared.faults.TypeFault.TheVariants as fault
 

@@ -1,14 +1,14 @@
 -- Types without a size (C99 6.2.5p1, p19, p22, 6.5.3.4p1).
 use Rattle.std.specs.Prelude.{ℕ, Bool, true, false, not, List, [], ◌∷◌, Option, Some, None}
-use Rattle.c_type_terms.specs.declared.ctype.Base.{Base}
-use Rattle.c_type_terms.specs.declared.ctype.Base.TheVariants as b
-use Rattle.c_type_terms.specs.declared.ctype.CType.{CType}
-use Rattle.c_type_terms.specs.declared.ctype.Derivation.{Derivation}
-use Rattle.c_type_terms.specs.declared.ctype.Derivation.TheVariants as d
-use Rattle.c_type_terms.specs.declared.tables.Content.{Content}
-use Rattle.c_type_terms.specs.declared.tables.Content.TheVariants as c
-use Rattle.c_type_terms.specs.declared.tables.Tables.{Tables}
-use Rattle.c_type_terms.specs.Types.{content_of, is_listed}
+use Rattle.c_language.specs.declared.ctype.Base.{Base}
+use Rattle.c_language.specs.declared.ctype.Base.TheVariants as b
+use Rattle.c_language.specs.declared.ctype.CType.{CType}
+use Rattle.c_language.specs.declared.ctype.Derivation.{Derivation}
+use Rattle.c_language.specs.declared.ctype.Derivation.TheVariants as d
+use Rattle.c_language.specs.declared.tables.Content.{Content}
+use Rattle.c_language.specs.declared.tables.Content.TheVariants as c
+use Rattle.c_language.specs.declared.tables.Tables.{Tables}
+use Rattle.c_language.specs.Types.{content_of, is_listed}
 
 abbrev pub is_none : Option ℕ → Bool
 is_none None = true

@@ -1,19 +1,17 @@
 //! Constant expressions (C99 6.6), and the types that type names name (C99 6.7.6).
 
 ghost use Rattle.std.specs.Prelude.{◌≡◌};
-ghost use Rattle.c_says.specs.Scopes.{empty};
-ghost use Rattle.c_says.specs.Typing as typing;
-ghost use Rattle.c_says.specs.Declares.{faults_in};
-ghost use Rattle.c_says.specs.Trees as trees;
+ghost use Rattle.c_language.specs.Scopes.{empty};
+ghost use Rattle.c_language.specs.Typing as typing;
+ghost use Rattle.c_language.specs.Declares.{faults_in};
+ghost use Rattle.c_language.specs.Trees as trees;
 ghost use Rattle.c_declares.specs.Views.{type_said_in};
 ghost use Rattle.c_types.specs.Causes as causes;
 
 use crate::faults::TypeFault;
 use c_declares::TypeSaid;
-use c_says::{Fault, LayoutRule, Rule, Told};
-use c_tree::{Expr, TypeName};
+use c_language::{CType, Expr, Fault, LayoutRule, Rule, Told, TypeName};
 use c_type_scope::Scope;
-use c_type_terms::CType;
 use c_typing::{type_name, typed};
 use std::alloc::Global;
 

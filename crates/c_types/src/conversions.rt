@@ -1,11 +1,11 @@
 //! Integer promotions and the usual arithmetic conversions (C99 6.3.1.1p2, 6.3.1.8), without memory.
 
 ghost use Rattle.std.specs.Prelude.{◌≡◌, true, Some};
-ghost use Rattle.c_type_terms.specs.declared.ctype.IntegerKind.{IntegerKind as Kind};
-ghost use Rattle.c_type_terms.specs.Types as types;
-ghost use Rattle.c_type_terms.specs.Integers as integers;
+ghost use Rattle.c_language.specs.declared.ctype.IntegerKind.{IntegerKind as Kind};
+ghost use Rattle.c_language.specs.Types as types;
+ghost use Rattle.c_language.specs.Integers as integers;
 
-use c_type_terms::{Base, CType, IntegerKind};
+use c_language::{Base, CType, IntegerKind};
 use std::alloc::Global;
 
 /// The kind of an integer type: an enumerated type is as `int`.

@@ -1,6 +1,6 @@
 //! Why a type or a constant has no answer.
 
-use c_says::LayoutRule;
+use c_language::LayoutRule;
 use thiserror::Error;
 
 /// Why there is no type, or no constant value.

@@ -9,16 +9,13 @@ mod sizes;
 
 pub use c_declarations::{DeclarationSaid, FunctionSaid, tentative_type};
 pub use c_initials::{Filling, Frame, Frames, Part, filling_of};
-pub use c_says::{
-    Argument, Called, Duration, Entry, Fault, LayoutRule, Linkage, Linked, Means, Rule, Shown, Tag,
-    TagMeans, Told,
+pub use c_language::{
+    Aggregate, AggregateForm, Argument, Base, CType, Called, Class, Content, Derivation, Domain,
+    Duration, Entry, Enumeration, Fault, FloatingKind, IntegerKind, Layout, LayoutRule, Linkage,
+    Linked, Means, Member, OBJECT_LIMIT, OpaqueCause, Prototype, Qualifiers, RealKind, Rule, Shown,
+    Signature, Tables, Tag, TagMeans, Told,
 };
 pub use c_type_scope::{Block, Scope as Names};
-pub use c_type_terms::{
-    Aggregate, AggregateForm, Base, CType, Class, Content, Derivation, Domain, Enumeration,
-    FloatingKind, IntegerKind, Layout, Member, OBJECT_LIMIT, OpaqueCause, Prototype, Qualifiers,
-    RealKind, Signature, Tables,
-};
 pub use c_typing::typed;
 pub use constants::{const_value, layout};
 pub use conversions::{promote, usual};

@@ -1,12 +1,12 @@
 //! The names in force, where what fails changes nothing.
 
 ghost use Rattle.std.specs.Prelude.{◌≡◌, IfOk, IfSome, OnOk, OnErr};
-ghost use Rattle.c_says.specs.Scopes as spec;
-ghost use Rattle.c_says.specs.Units as units;
+ghost use Rattle.c_language.specs.Scopes as spec;
+ghost use Rattle.c_language.specs.Units as units;
 ghost use Rattle.c_declarations.specs.Views.{declares_in, function_in};
 
 use c_declarations::{DeclarationSaid, FunctionSaid, declaration_says, function_says};
-use c_tree::{Declaration, Declarator, Specifier};
+use c_language::{Declaration, Declarator, Specifier};
 use c_type_scope::Scope as Names;
 use plain_data::Shared;
 use std::alloc::{AllocError, Global};
@@ -25,7 +25,7 @@ pub struct Scope {
 
 impl Model for Scope {
     ghost use Rattle.std.specs.Prelude.{◌≡◌, IfSome};
-    ghost use Rattle.c_says.specs.Scopes as spec;
+    ghost use Rattle.c_language.specs.Scopes as spec;
 
     ghost Value = { spec.Scope };
 

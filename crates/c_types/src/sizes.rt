@@ -1,10 +1,10 @@
 //! Sizes, alignments and offsets (C99 6.5.3.4, 6.7.2.1), without memory.
 
 ghost use Rattle.std.specs.Prelude.{◌≡◌};
-ghost use Rattle.c_type_terms.specs.Layouts as layouts;
+ghost use Rattle.c_language.specs.Layouts as layouts;
 ghost use Rattle.c_types.specs.Sizes.{is_none, lacks_size};
 
-use c_type_terms::{CType, Tables};
+use c_language::{CType, Tables};
 
 /// How many bytes an object of the type takes (C99 6.5.3.4): none exactly where the type is incomplete, opaque or a
 /// function type.

@@ -4,32 +4,32 @@ use Rattle.std.proofs.Common.{◌≡◌, ℕ, suc, add-one, ◌+◌, ◌<◌, �
 use Rattle.std.specs.Bool.{◌==◌}
 use Rattle.std.proofs.lemmas.Bool.{false≢true}
 use Rattle.std.proofs.lemmas.List.{drop_all}
-use Rattle.c_tree.specs.declared.expr.AggregateKind.{AggregateKind}
-use Rattle.c_tree.specs.declared.expr.ArrayWord.{ArrayWord}
-use Rattle.c_tree.specs.declared.expr.Declarator.{Declarator}
-use Rattle.c_tree.specs.declared.expr.Declarator.TheVariants as declarator
-use Rattle.c_tree.specs.declared.expr.Enumerator.{Enumerator}
-use Rattle.c_tree.specs.declared.expr.Expr.{Expr}
-use Rattle.c_tree.specs.declared.expr.Field.{Field}
-use Rattle.c_tree.specs.declared.expr.Field.TheVariants as field
-use Rattle.c_tree.specs.declared.expr.MemberDeclaration.{MemberDeclaration}
-use Rattle.c_tree.specs.declared.expr.Parameter.{Parameter}
-use Rattle.c_tree.specs.declared.expr.Qualifier.{Qualifier}
-use Rattle.c_tree.specs.declared.expr.Specifier.{Specifier}
-use Rattle.c_tree.specs.declared.expr.Specifier.TheVariants as specifier
-use Rattle.c_tree.specs.declared.expr.StorageClass.{StorageClass}
-use Rattle.c_tree.specs.declared.expr.TagName.{TagName}
-use Rattle.c_tree.specs.declared.expr.TypeName.{TypeName}
-use Rattle.c_tree.specs.declared.expr.TypeWord.{TypeWord}
-use Rattle.c_type_terms.specs.Types.{with_both}
-use Rattle.c_type_terms.specs.declared.ctype.CType.{CType}
-use Rattle.c_type_terms.specs.declared.tables.Prototype.{Prototype}
-use Rattle.c_says.specs.declared.scope.Fault.{Fault}
-use Rattle.c_says.specs.declared.shown.Told.{Told}
-use Rattle.c_says.specs.Scopes.{Name, Scope, look_up, tag_of, enter}
-use Rattle.c_says.specs.Typing.{Typed, typed_in}
-use Rattle.c_says.specs.Declares as spec
-use Rattle.c_says.specs.Trees.{
+use Rattle.c_language.specs.declared.expr.AggregateKind.{AggregateKind}
+use Rattle.c_language.specs.declared.expr.ArrayWord.{ArrayWord}
+use Rattle.c_language.specs.declared.expr.Declarator.{Declarator}
+use Rattle.c_language.specs.declared.expr.Declarator.TheVariants as declarator
+use Rattle.c_language.specs.declared.expr.Enumerator.{Enumerator}
+use Rattle.c_language.specs.declared.expr.Expr.{Expr}
+use Rattle.c_language.specs.declared.expr.Field.{Field}
+use Rattle.c_language.specs.declared.expr.Field.TheVariants as field
+use Rattle.c_language.specs.declared.expr.MemberDeclaration.{MemberDeclaration}
+use Rattle.c_language.specs.declared.expr.Parameter.{Parameter}
+use Rattle.c_language.specs.declared.expr.Qualifier.{Qualifier}
+use Rattle.c_language.specs.declared.expr.Specifier.{Specifier}
+use Rattle.c_language.specs.declared.expr.Specifier.TheVariants as specifier
+use Rattle.c_language.specs.declared.expr.StorageClass.{StorageClass}
+use Rattle.c_language.specs.declared.expr.TagName.{TagName}
+use Rattle.c_language.specs.declared.expr.TypeName.{TypeName}
+use Rattle.c_language.specs.declared.expr.TypeWord.{TypeWord}
+use Rattle.c_language.specs.Types.{with_both}
+use Rattle.c_language.specs.declared.ctype.CType.{CType}
+use Rattle.c_language.specs.declared.tables.Prototype.{Prototype}
+use Rattle.c_language.specs.declared.scope.Fault.{Fault}
+use Rattle.c_language.specs.declared.shown.Told.{Told}
+use Rattle.c_language.specs.Scopes.{Name, Scope, look_up, tag_of, enter}
+use Rattle.c_language.specs.Typing.{Typed, typed_in}
+use Rattle.c_language.specs.Declares as spec
+use Rattle.c_language.specs.Trees.{
   typed,
   declarator_says,
   specifier_says,
@@ -39,8 +39,8 @@ use Rattle.c_says.specs.Trees.{
   parameter_says,
   type_name_says,
 }
-use Rattle.c_says.proofs.Equations as eq
-use Rattle.c_type_terms.specs.declared.ctype.Derivation.TheVariants as d
+use Rattle.c_language.proofs.Equations as eq
+use Rattle.c_language.specs.declared.ctype.Derivation.TheVariants as d
 use Rattle.c_typing.specs.Parts.{length_says, bits_say}
 use Rattle.c_declares.specs.declared.declarators.Counted.{Counted}
 use Rattle.c_declares.specs.declared.declarators.Formed.{Formed}

@@ -1,17 +1,17 @@
 -- What each kind of tree says, from what the code has found of its parts: one lemma a constructor.
 use Rattle.std.proofs.Common.{◌≡◌, ℕ, ℤ, List, [], ◌∷◌, ◌++◌, Option, Some, None, Bool, map, refl, sym, ap, ◌∙◌}
-use Rattle.c_tokens.specs.declared.token.IntegerConstant.{IntegerConstant}
-use Rattle.c_tree.specs.declared.expr.UnaryOperator.{UnaryOperator}
-use Rattle.c_tree.specs.declared.expr.PostfixOperator.{PostfixOperator}
-use Rattle.c_tree.specs.declared.expr.BinaryOperator.{BinaryOperator}
-use Rattle.c_tree.specs.declared.expr.Expr.{Expr}
-use Rattle.c_tree.specs.declared.expr.TypeName.{TypeName}
-use Rattle.c_tree.specs.declared.expr.Expr.TheVariants as expr
-use Rattle.c_says.specs.declared.shown.Told.{Told}
-use Rattle.c_says.specs.declared.shown.Shown.{Shown}
-use Rattle.c_says.specs.Scopes.{Name, Scope, look_up}
-use Rattle.c_says.specs.Typing as t
-use Rattle.c_says.specs.Typing.{
+use Rattle.c_language.specs.declared.token.IntegerConstant.{IntegerConstant}
+use Rattle.c_language.specs.declared.expr.UnaryOperator.{UnaryOperator}
+use Rattle.c_language.specs.declared.expr.PostfixOperator.{PostfixOperator}
+use Rattle.c_language.specs.declared.expr.BinaryOperator.{BinaryOperator}
+use Rattle.c_language.specs.declared.expr.Expr.{Expr}
+use Rattle.c_language.specs.declared.expr.TypeName.{TypeName}
+use Rattle.c_language.specs.declared.expr.Expr.TheVariants as expr
+use Rattle.c_language.specs.declared.shown.Told.{Told}
+use Rattle.c_language.specs.declared.shown.Shown.{Shown}
+use Rattle.c_language.specs.Scopes.{Name, Scope, look_up}
+use Rattle.c_language.specs.Typing as t
+use Rattle.c_language.specs.Typing.{
   Typed,
   Arguments,
   typed_in,
@@ -20,11 +20,11 @@ use Rattle.c_says.specs.Typing.{
   over_two,
 }
 use Rattle.c_declares.specs.declared.type_names.TypeSaid.{TypeSaid as Said}
-use Rattle.c_says.specs.Declares.{TypeSaid}
+use Rattle.c_language.specs.Declares.{TypeSaid}
 use Rattle.c_declares.specs.Views.{type_said_in}
-use Rattle.c_says.specs.Trees.{Through, through_one, typed, type_name_says, through}
+use Rattle.c_language.specs.Trees.{Through, through_one, typed, type_name_says, through}
 use Rattle.c_typing.specs.Parts.{behind}
-use Rattle.c_says.proofs.Equations as eq
+use Rattle.c_language.proofs.Equations as eq
 
 -- ---- children
 

@@ -1,11 +1,11 @@
 -- What parts say together, from what the trees in them say.
 use Rattle.std.specs.Prelude.{Option, option_map}
-use Rattle.c_tree.specs.declared.expr.Declarator.{Declarator}
-use Rattle.c_tree.specs.declared.expr.Expr.{Expr}
-use Rattle.c_says.specs.Scopes.{Scope}
-use Rattle.c_says.specs.Typing.{Arguments}
-use Rattle.c_says.specs.Declares.{Counted, Laying, counted, bits_declared}
-use Rattle.c_says.specs.Trees.{ExprSays, Through, itself, typed, declarator_says}
+use Rattle.c_language.specs.declared.expr.Declarator.{Declarator}
+use Rattle.c_language.specs.declared.expr.Expr.{Expr}
+use Rattle.c_language.specs.Scopes.{Scope}
+use Rattle.c_language.specs.Typing.{Arguments}
+use Rattle.c_language.specs.Declares.{Counted, Laying, counted, bits_declared}
+use Rattle.c_language.specs.Trees.{ExprSays, Through, itself, typed, declarator_says}
 
 -- arguments in front of the scope that they leave
 abbrev pub behind : Arguments → Scope → Through

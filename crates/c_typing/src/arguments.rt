@@ -1,8 +1,8 @@
 //! What is said of the arguments of a call together (C99 6.5.2.2).
 ghost use Rattle.std.specs.Prelude.{◌≡◌, IfOk};
-ghost use Rattle.c_says.specs.Typing as spec;
+ghost use Rattle.c_language.specs.Typing as spec;
 
-use c_says::{Argument, Fault, Told};
+use c_language::{Argument, Fault, Told};
 use c_type_forms::joined;
 use plain_data::Items;
 use std::alloc::{AllocError, Global};
@@ -16,7 +16,7 @@ pub struct Arguments {
 }
 
 impl Model for Arguments {
-    ghost use Rattle.c_says.specs.Typing as spec;
+    ghost use Rattle.c_language.specs.Typing as spec;
 
     ghost Value = { spec.Arguments };
 

@@ -1,17 +1,14 @@
 //! Forms of expressions over parts of which the last is taken as it stands behind the scope that it leaves.
 ghost use Rattle.std.specs.Prelude.{◌≡◌, ◌++◌, [], IfOk};
-ghost use Rattle.c_says.specs.Typing as spec;
-ghost use Rattle.c_says.specs.Scopes as scopes;
+ghost use Rattle.c_language.specs.Typing as spec;
+ghost use Rattle.c_language.specs.Scopes as scopes;
 
 use crate::arguments::Arguments;
-use bit_words::Bytes;
 use c_declares::TypeSaid;
-use c_says::{Shown, Told};
-use c_tokens::Name;
-use c_tree::{BinaryOperator, UnaryOperator};
+use c_language::{BinaryOperator, Name, Shown, Told, UnaryOperator};
 use c_type_forms as forms;
 use c_type_scope::Scope;
-use plain_data::Shared;
+use plain_data::{Bytes, Shared};
 use std::alloc::{AllocError, Global};
 
 /// A character constant. It fails for want of memory alone.

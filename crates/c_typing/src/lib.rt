@@ -1,4 +1,4 @@
-//! What the trees of C say of types, constants and names (`c_says`), as code: one recursion over the whole syntax, and
+//! What the trees of C say of types, constants and names (`c_language`), as code: one recursion over the whole syntax, and
 //! its forms of expressions, for walks that find more beside. It
 //! fails for want of memory alone.
 #![tactic(auto)]

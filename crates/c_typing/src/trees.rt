@@ -1,22 +1,20 @@
 //! Expressions (C99 6.5), and the declarations that stand in them (C99 6.7): one function a kind of tree, and one a list.
 ghost use Rattle.std.specs.Prelude.{◌≡◌, [], map, pos, Some, IfOk, OnOk};
-ghost use Rattle.c_says.specs.Typing as spec;
-ghost use Rattle.c_says.specs.Declares as declares;
-ghost use Rattle.c_says.specs.Trees as trees;
+ghost use Rattle.c_language.specs.Typing as spec;
+ghost use Rattle.c_language.specs.Declares as declares;
+ghost use Rattle.c_language.specs.Trees as trees;
 ghost use Rattle.c_typing.specs.Parts.{behind, length_says, bits_say};
 ghost use Rattle.c_declares.specs.Views.{said_in, formed_in, counted_in, type_said_in, laid_in, counting_in, listed_in, named_in};
 
 use crate::arguments::{Arguments, and_argument, no_arguments};
 use crate::forms;
 use c_declares::{Counted, Counting, Formed, Laid, Listed, Named, Said, TypeSaid, prototype};
-use c_says::{Fault, Told};
-use c_tree::{
-    AggregateKind, Declarator, Enumerator, Expr, Field, MemberDeclaration, Parameter, Specifier,
-    TypeName,
+use c_language::{
+    AggregateKind, CType, Declarator, Enumerator, Expr, Fault, Field, MemberDeclaration, Parameter,
+    Specifier, Told, TypeName,
 };
 use c_type_forms::{floating_constant, integer_constant};
 use c_type_scope::Scope;
-use c_type_terms::CType;
 use plain_data::{Items, Shared};
 use std::alloc::{AllocError, Global};
 

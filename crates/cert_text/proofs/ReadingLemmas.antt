@@ -4,7 +4,7 @@ use Rattle.std.specs.Ordering.{nat_cmp}
 use Rattle.std.specs.Map.{keys_of}
 use Rattle.std.specs.List.Sorted.{IsStrictlySortedBy}
 use Rattle.std.proofs.lemmas.Bool.Decides.{nat_tests}
-use Rattle.bit_words.specs.Worlds.{WorldTables, value_at, has_no_zero}
+use Rattle.plain_data.specs.Worlds.{WorldTables, value_at, has_no_zero}
 use Rattle.cert_text.specs.WorldSteps.{Below, said_by, stage_after, with_said, end_read, line_stage, line_world, on_stage, read_from, reading, PutsSaid, TakesLine}
 use Rattle.cert_text.specs.Lines.{Text, lines_of, line_len}
 use Rattle.cert_text.specs.declared.fault.CertFault.TheVariants.{BadLine, Memory}

@@ -9,7 +9,7 @@ use Rattle.std.specs.BTreeMap.{is_at}
 use Rattle.std.specs.List.Sorted.{IsStrictlySortedBy}
 use Rattle.std.proofs.lemmas.Bool.{cases_order}
 use Rattle.std.proofs.lemmas.Bool.Decides.{nat_tests}
-use Rattle.bit_words.specs.Worlds.{Table, value_at, has_no_zero, Sets}
+use Rattle.plain_data.specs.Worlds.{Table, value_at, has_no_zero, Sets}
 use Rattle.cert_text.specs.WorldTexts.{Rises}
 use Rattle.cert_text.specs.WorldSteps.{Below}
 use Rattle.cert_text.proofs.SaidLemmas.{both}

@@ -4,7 +4,7 @@ use Rattle.std.specs.Prelude.{map, codes}
 use Rattle.std.specs.List.{filter, concat}
 use Rattle.std.proofs.lemmas.List.{append_cancel_left, append_cancel_right, take-append-drop}
 use Rattle.std.proofs.lemmas.Bool.Decides.{nat_tests}
-use Rattle.bit_words.specs.Worlds.{Table, WorldTables}
+use Rattle.plain_data.specs.Worlds.{Table, WorldTables}
 use Rattle.cert_text.specs.Lines.{Text, lines_of}
 use Rattle.cert_text.specs.WorldTexts.{head_line, end_line, word_line, byte_line, has_line, world_lines, world_text, Rises, InRange, Begins, AreWhole, IsFirstBad, IsOtherVersion, NamesOtherVersion, ReadsWorld}
 use Rattle.cert_text.specs.WorldSteps.{said_by, from_place, from_address, stage_after, with_said, end_read, line_stage, line_world, on_stage, read_from, reading}

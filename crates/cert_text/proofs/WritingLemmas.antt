@@ -3,7 +3,7 @@ use Rattle.std.proofs.Common.{◌≡◌, ℕ, Bool, true, false, cond, [], ◌�
 use Rattle.std.specs.Prelude.{map}
 use Rattle.std.specs.List.{filter, concat, flat_map}
 use Rattle.std.proofs.lemmas.List.Folds.{concat-append}
-use Rattle.bit_words.specs.Worlds.{Table, WorldTables}
+use Rattle.plain_data.specs.Worlds.{Table, WorldTables}
 use Rattle.cert_text.specs.Lines.{Text}
 use Rattle.cert_text.specs.WorldTexts.{head_line, end_line, word_line, byte_line, has_line, world_text}
 

@@ -2,7 +2,7 @@
 use Rattle.std.specs.Prelude.{◌≡◌, ℕ, suc, ◌+◌, ◌-◌, ◌*◌, ◌<◌, min, Bool, ◌&&◌, ◌==◌, nat_le, if◌then◌else◌, List, [], ◌∷◌, ◌++◌, Option, Some, None, Result, Ok, Err}
 use Rattle.std.specs.Char.{is_ascii_digit}
 use Rattle.std.specs.Str.{bytes_eq}
-use Rattle.bit_words.specs.Worlds.{Table, WorldTables, Sets}
+use Rattle.plain_data.specs.Worlds.{Table, WorldTables, Sets}
 use Rattle.cert_text.specs.Lines.{Text, lines_of}
 use Rattle.cert_text.specs.WorldTexts.{head_line, end_line, entry_line}
 use Rattle.cert_text.specs.declared.fault.CertFault.{CertFault}

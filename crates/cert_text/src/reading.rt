@@ -2,7 +2,7 @@ ghost use Rattle.std.specs.Prelude.{◌≡◌, ◌≢◌, Err, None, true, IfOk,
 ghost use Rattle.std.specs.Ordering.{nat_cmp};
 ghost use Rattle.std.specs.Map.{keys_of};
 ghost use Rattle.std.specs.List.Sorted.{IsStrictlySortedBy};
-ghost use Rattle.bit_words.specs.Worlds.{has_no_zero};
+ghost use Rattle.plain_data.specs.Worlds.{has_no_zero};
 ghost use Rattle.cert_text.specs.WorldTexts.{ReadsWorld};
 ghost use Rattle.cert_text.specs.WorldSteps as spec;
 
@@ -11,7 +11,7 @@ use crate::lines::line_len;
 use crate::saying::{Said, said_by};
 use crate::stage::{Stage, stage_after};
 use crate::version::names_other_version;
-use bit_words::{World, WorldFault};
+use plain_data::{World, WorldFault};
 use std::alloc::Global;
 
 impl From<WorldFault> for CertFault {

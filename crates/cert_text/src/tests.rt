@@ -2,7 +2,7 @@
 ghost use Rattle.std.specs.Prelude.{◌≡◌, IfOk};
 
 use crate::{CertFault, read_world, write_world};
-use bit_words::Bytes;
+use plain_data::Bytes;
 use std::alloc::Global;
 use std::test::Fail;
 

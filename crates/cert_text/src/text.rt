@@ -3,7 +3,7 @@ ghost use Rattle.std.specs.Prelude.{◌≡◌, ◌++◌, IfOk};
 ghost use Rattle.std.specs.Fmt.{decimal};
 ghost use Rattle.cert_text.specs.WorldTexts.{entry_line};
 
-use bit_words::Bytes;
+use plain_data::Bytes;
 use std::alloc::AllocError;
 
 /// Puts a number at the end of a text, in decimal.

@@ -4,8 +4,7 @@ ghost use Rattle.cert_text.specs.WorldTexts as spec;
 
 use crate::fault::CertFault;
 use crate::text::put_entry;
-use bit_words::{Bytes, World};
-use plain_data::Items;
+use plain_data::{Bytes, Items, World};
 use std::alloc::{AllocError, Global};
 
 /// Puts the line of a word at the end of a text, where its place is one.

@@ -1,20 +1,20 @@
 -- Declarations in a block: what the functions of this crate make is the core of the declaration.
 use Rattle.std.proofs.Common.{◌≡◌, ℕ, ◌+◌, Bool, true, false, List, [], ◌∷◌, map, Option, Some, None}
 use Rattle.std.proofs.Common.{refl, sym, ap, ap₂, ◌∙◌, subst}
-use Rattle.c_type_terms.specs.declared.ctype.CType.{CType}
-use Rattle.c_type_terms.specs.declared.tables.Tables.{Tables}
-use Rattle.c_type_terms.specs.Types.{class_of}
-use Rattle.c_says.specs.declared.scope.Entry.{Entry}
-use Rattle.c_says.specs.declared.scope.Linkage.{Linkage}
-use Rattle.c_says.specs.Initials.{Part, Filling, is_text_of}
-use Rattle.c_says.specs.Scopes.{Name, Scope, empty}
-use Rattle.c_says.specs.Typing.{Typed, typed_in, type_of, an_object}
+use Rattle.c_language.specs.declared.ctype.CType.{CType}
+use Rattle.c_language.specs.declared.tables.Tables.{Tables}
+use Rattle.c_language.specs.Types.{class_of}
+use Rattle.c_language.specs.declared.scope.Entry.{Entry}
+use Rattle.c_language.specs.declared.scope.Linkage.{Linkage}
+use Rattle.c_language.specs.Initials.{Part, Filling, is_text_of}
+use Rattle.c_language.specs.Scopes.{Name, Scope, empty}
+use Rattle.c_language.specs.Typing.{Typed, typed_in, type_of, an_object}
 use Rattle.c_means.specs.Parts as c
 use Rattle.c_means.specs.Values.{class_in, bytes_of}
-use Rattle.c_runs.specs.Notes.{Noted}
-use Rattle.c_runs.specs.Initials as initials
-use Rattle.c_runs.specs.Items as runs
-use Rattle.c_runs.specs.Statements as statements
+use Rattle.c_means.specs.Notes.{Noted}
+use Rattle.c_means.specs.Initials as initials
+use Rattle.c_means.specs.Items as runs
+use Rattle.c_means.specs.Statements as statements
 use Rattle.core_tree.specs.declared.code.Code.{Code}
 use Rattle.core_tree.specs.declared.code.Code.TheVariants as tree
 use Rattle.core_tree.specs.declared.code.Setting.{Setting}

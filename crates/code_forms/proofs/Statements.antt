@@ -2,20 +2,20 @@
 use Rattle.std.proofs.Common.{◌≡◌, ℕ, ◌+◌, ℤ, Bool, true, false, List, [], ◌∷◌, ◌++◌, map, Option, Some, None, Ok}
 use Rattle.std.proofs.Common.{refl, sym, ap, ap₂, ◌∙◌, subst}
 use Rattle.std.specs.Prelude.{option_map}
-use Rattle.c_type_terms.specs.declared.ctype.IntegerKind.{IntegerKind}
-use Rattle.c_type_terms.specs.declared.ctype.IntegerKind.TheVariants as int_
-use Rattle.c_type_terms.specs.Integers.{is_bool, converted}
-use Rattle.c_says.specs.declared.shown.Told.{Told}
-use Rattle.c_says.specs.Scopes.{Name, Scope}
-use Rattle.c_says.specs.Typing.{type_in, told_of, used_told}
+use Rattle.c_language.specs.declared.ctype.IntegerKind.{IntegerKind}
+use Rattle.c_language.specs.declared.ctype.IntegerKind.TheVariants as int_
+use Rattle.c_language.specs.Integers.{is_bool, converted}
+use Rattle.c_language.specs.declared.shown.Told.{Told}
+use Rattle.c_language.specs.Scopes.{Name, Scope}
+use Rattle.c_language.specs.Typing.{type_in, told_of, used_told}
 use Rattle.c_means.specs.Parts.{Part}
 use Rattle.c_means.specs.Operators.{kind_in, value_type}
 use Rattle.c_means.specs.Values as values
-use Rattle.c_runs.specs.declared.breach.Breach.{Breach}
-use Rattle.c_runs.specs.Notes.{Noted}
-use Rattle.c_runs.specs.Items.{at_case}
-use Rattle.c_runs.specs.Items as runs
-use Rattle.c_runs.specs.Statements as statements
+use Rattle.c_means.specs.declared.breach.Breach.{Breach}
+use Rattle.c_means.specs.Notes.{Noted}
+use Rattle.c_means.specs.Items.{at_case}
+use Rattle.c_means.specs.Items as runs
+use Rattle.c_means.specs.Statements as statements
 use Rattle.core_tree.specs.declared.code.Code.{Code}
 use Rattle.core_tree.specs.declared.code.Code.TheVariants as tree
 use Rattle.core_tree.specs.declared.expr.Expr.{Expr}

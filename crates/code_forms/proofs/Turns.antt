@@ -3,8 +3,8 @@ use Rattle.std.proofs.Common.{◌≡◌, ℕ, ◌+◌, List, [], ◌∷◌, ◌+
 use Rattle.std.specs.Prelude.{Option, None}
 use Rattle.c_means.specs.Parts.{State, Env}
 use Rattle.c_means.specs.Parts as c
-use Rattle.c_runs.specs.Items.{Made}
-use Rattle.c_runs.specs.Items as runs
+use Rattle.c_means.specs.Items.{Made}
+use Rattle.c_means.specs.Items as runs
 use Rattle.core_tree.specs.declared.code.Code.{Code}
 use Rattle.core_tree.specs.States.{Output, Done, Level, Measures, Acts as CoreActs, onward}
 use Rattle.core_tree.specs.Codes.{Item, code, in_turn, followed}

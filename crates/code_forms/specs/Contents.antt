@@ -1,6 +1,6 @@
 -- What it is to be the core of items in turn, and of what stands in the block that a statement is.
 use Rattle.std.specs.Prelude.{◌≡◌, ℤ, Bool, true, false, List, [], ◌∷◌, map, Option, Some, None}
-use Rattle.c_runs.specs.Items.{Item, Case, node}
+use Rattle.c_means.specs.Items.{Item, Case, node}
 use Rattle.core_tree.specs.declared.code.Code.{Code}
 use Rattle.core_tree.specs.Codes.{code, in_turn}
 use Rattle.elaborate.specs.Means.{Numbering, Acts}

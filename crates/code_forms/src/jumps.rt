@@ -3,7 +3,7 @@ ghost use Rattle.std.specs.Prelude.{◌≡◌, Some, None, IfOk};
 ghost use Rattle.core_tree.specs.declared.code.Code.TheVariants as code;
 ghost use Rattle.core_tree.specs.declared.expr.Expr.TheVariants as expr;
 
-use c_tokens::Name;
+use c_language::Name;
 use core_tree::{Code, Expr, ValueType};
 use plain_data::Shared;
 use std::alloc::{AllocError, Global};

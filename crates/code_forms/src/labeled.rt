@@ -1,10 +1,9 @@
 //! Labeled statements (C99 6.8.1).
 ghost use Rattle.std.specs.Prelude.{◌≡◌, IfOk};
-ghost use Rattle.c_type_terms.specs.Integers.{converted};
+ghost use Rattle.c_language.specs.Integers.{converted};
 ghost use Rattle.core_tree.specs.declared.code.Code.TheVariants as code;
 
-use c_tokens::Name;
-use c_type_terms::IntegerKind;
+use c_language::{IntegerKind, Name};
 use core_tree::{Code, Expr};
 use plain_data::Shared;
 use std::alloc::{AllocError, Global};

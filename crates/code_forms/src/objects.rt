@@ -1,16 +1,15 @@
 //! Objects of a block (C99 6.2.4, 6.7.8).
 ghost use Rattle.std.specs.Prelude.{◌≡◌, Some, IfOk, IfSome};
-ghost use Rattle.c_runs.specs.Initials as initials;
+ghost use Rattle.c_means.specs.Initials as initials;
 ghost use Rattle.core_tree.specs.declared.code.Code.TheVariants as code;
 ghost use Rattle.core_tree.specs.declared.code.Setting.TheVariants as setting;
 ghost use Rattle.code_forms.specs.Nodes.{value_setting_node};
 
 use crate::types::stored_type;
-use bit_words::Bytes;
-use c_type_terms::{CType, Tables};
+use c_language::{CType, Tables};
 use core_forms::NoCore;
 use core_tree::{Code, Expr, Setting};
-use plain_data::{Items, Shared};
+use plain_data::{Bytes, Items, Shared};
 use std::alloc::{AllocError, Global};
 
 /// A part of an object of this type, so many bytes behind its first, that is set to a value (C99 6.7.8p11, p13). A part

@@ -1,16 +1,15 @@
 //! Selection statements (C99 6.8.4).
 ghost use Rattle.std.specs.Prelude.{◌≡◌, IfOk};
-ghost use Rattle.c_says.specs.Typing.{type_in};
+ghost use Rattle.c_language.specs.Typing.{type_in};
 ghost use Rattle.c_means.specs.Operators.{kind_in};
-ghost use Rattle.c_runs.specs.Statements as form;
+ghost use Rattle.c_means.specs.Statements as form;
 ghost use Rattle.core_tree.specs.declared.code.Code.TheVariants as code;
 ghost use Rattle.elaborate.specs.Types as types;
 ghost use Rattle.code_forms.specs.Nodes.{negative_node};
 
 use crate::blocks::Content;
 use crate::steps::declaration;
-use c_says::Told;
-use c_type_terms::IntegerKind;
+use c_language::{IntegerKind, Told};
 use core_tree::{Code, Expr};
 use elaborate::word_type;
 use plain_data::Shared;

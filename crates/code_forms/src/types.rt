@@ -1,11 +1,11 @@
 //! Types of objects and of what a function returns.
 ghost use Rattle.std.specs.Prelude.{◌≡◌, Some};
-ghost use Rattle.c_type_terms.specs.Types as terms;
+ghost use Rattle.c_language.specs.Types as terms;
 ghost use Rattle.c_means.specs.Values as values;
 ghost use Rattle.core_forms.specs.Nodes.{stored_in};
 ghost use Rattle.elaborate.specs.Types as types;
 
-use c_type_terms::{CType, Class, Tables};
+use c_language::{CType, Class, Tables};
 use core_tree::ValueType;
 use elaborate::value_type;
 

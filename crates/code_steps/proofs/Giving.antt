@@ -2,7 +2,7 @@
 use Rattle.std.proofs.Common.{◌≡◌, ℕ, suc, ◌+◌, arith, List, [], ◌∷◌, ◌++◌, Option, Some, None, option_map, refl, sym, ap, ap₂, ◌∙◌}
 use Rattle.std.proofs.Common.{append_assoc, append-nil}
 use Rattle.c_means.specs.Parts.{Env}
-use Rattle.c_runs.specs.Items.{Made, known}
+use Rattle.c_means.specs.Items.{Made, known}
 use Rattle.core_tree.specs.declared.code.Code.{Code}
 use Rattle.core_tree.specs.declared.program.Parameter.{Parameter}
 use Rattle.core_tree.specs.Numbers.{size_of}

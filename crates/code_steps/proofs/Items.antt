@@ -1,8 +1,8 @@
 -- What each kind of code is as an item of its block.
 use Rattle.std.proofs.Common.{◌≡◌, ℕ, ℤ, Bool, List, [], Option, Some, None, sym, ap, ◌∙◌}
 use Rattle.std.specs.Prelude.{map, option_map}
-use Rattle.c_says.specs.Scopes.{Name}
-use Rattle.c_runs.specs.Items.{at_label, at_case, at_default}
+use Rattle.c_language.specs.Scopes.{Name}
+use Rattle.c_means.specs.Items.{at_label, at_case, at_default}
 use Rattle.core_tree.specs.declared.types.WordType.{WordType}
 use Rattle.core_tree.specs.declared.expr.Expr.{Expr}
 use Rattle.core_tree.specs.declared.code.Setting.{Setting as Part}

@@ -6,7 +6,7 @@ use Rattle.c_store.specs.Store.{Store, within, lay, zero_range}
 use Rattle.c_store.proofs.Laws.{store_ext, lay_same}
 use Rattle.c_means.specs.Parts.{State}
 use Rattle.c_means.specs.Parts as means
-use Rattle.c_runs.specs.Initials.{text_byte}
+use Rattle.c_means.specs.Initials.{text_byte}
 use Rattle.core_tree.specs.States.{Output, Done, with_store}
 use Rattle.elaborate.specs.Means.{as_done}
 

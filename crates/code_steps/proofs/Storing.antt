@@ -1,12 +1,12 @@
 -- What the machine's leaf operations do, as the core has it.
 use Rattle.std.proofs.Common.{◌≡◌, ℕ, ℤ, Bool, true, false, Ok, Err, Result, refl, sym, ap, subst, ◌∙◌}
 use Rattle.std.specs.Prelude.{is_err}
-use Rattle.bit_words.specs.declared.width.Width.{Width}
-use Rattle.c_type_terms.specs.declared.class.Class.{Class}
-use Rattle.c_type_terms.specs.declared.class.Class.TheVariants as class
-use Rattle.c_type_terms.specs.declared.ctype.IntegerKind.{IntegerKind}
-use Rattle.c_type_terms.specs.declared.ctype.IntegerKind.TheVariants as k
-use Rattle.c_type_terms.specs.Integers.{is_bool, converted, bytes_of}
+use Rattle.plain_data.specs.declared.width.Width.{Width}
+use Rattle.c_language.specs.declared.class.Class.{Class}
+use Rattle.c_language.specs.declared.class.Class.TheVariants as class
+use Rattle.c_language.specs.declared.ctype.IntegerKind.{IntegerKind}
+use Rattle.c_language.specs.declared.ctype.IntegerKind.TheVariants as k
+use Rattle.c_language.specs.Integers.{is_bool, converted, bytes_of}
 use Rattle.c_store.specs.Store.{write}
 use Rattle.c_means.specs.Parts.{State, Outcome, with_store}
 use Rattle.c_means.specs.Values as values

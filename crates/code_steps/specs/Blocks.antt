@@ -1,6 +1,6 @@
 -- The objects of a block, as they are kept while it runs.
 use Rattle.std.specs.Prelude.{◌+◌, ◌<◌, ◌^◌, ℕ, List, [], ◌∷◌, map}
-use Rattle.c_runs.specs.Items.{Made}
+use Rattle.c_means.specs.Items.{Made}
 use Rattle.core_tree.specs.declared.code.Code.{Code}
 use Rattle.core_tree.specs.States.{Output}
 use Rattle.core_tree.specs.Codes.{Item, code, in_turn}

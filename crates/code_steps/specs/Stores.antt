@@ -1,10 +1,10 @@
 -- Types of C that store as types of the core do, and branches that were noted.
 use Rattle.std.specs.Prelude.{◌≡◌, ℕ, ℤ, Bool, true, false, Result, Ok, Err}
 use Rattle.std.specs.declared.alloc.AllocError.{AllocError}
-use Rattle.bit_words.specs.declared.run.Happening.TheVariants.{Branch}
-use Rattle.bit_words.specs.declared.run.Side.TheVariants as side
-use Rattle.c_type_terms.specs.declared.class.Class.{Class}
-use Rattle.c_type_terms.specs.Integers.{is_zero}
+use Rattle.plain_data.specs.declared.run.Happening.TheVariants.{Branch}
+use Rattle.plain_data.specs.declared.run.Side.TheVariants as side
+use Rattle.c_language.specs.declared.class.Class.{Class}
+use Rattle.c_language.specs.Integers.{is_zero}
 use Rattle.c_means.specs.Values as values
 use Rattle.core_tree.specs.declared.types.ValueType.{ValueType}
 use Rattle.core_tree.specs.Numbers.{size_of, converted_to, bytes_of_value}

@@ -3,7 +3,7 @@ use Rattle.std.specs.Prelude.{ℕ, ℤ, Bool, false, List}
 use Rattle.std.specs.Str.{bytes_eq}
 use Rattle.c_means.specs.declared.kind.Kind.{Kind}
 use Rattle.c_means.specs.declared.kind.Kind.TheVariants as k
-use Rattle.c_runs.specs.Items.{same}
+use Rattle.c_means.specs.Items.{same}
 
 abbrev pub goes_to : List ℕ → Kind → Bool
 goes_to name (k.Going label) = bytes_eq label name

@@ -7,10 +7,10 @@ ghost use Rattle.core_tree.specs.States.{plain};
 ghost use Rattle.core_running.specs.Running.{done};
 
 use crate::stores::wrapped_in;
-use bit_words::{Happening, Side};
 use c_machine::{Machine, Value};
 use c_means::Kind;
 use core_tree::WordType;
+use plain_data::{Happening, Side};
 use std::alloc::AllocError;
 
 /// Whether a `switch` has a case of this value.

@@ -1,16 +1,16 @@
 //! Where a run on its way goes on (C99 6.8.1, 6.8.6).
 ghost use Rattle.std.specs.Prelude.{◌≡◌, Some, OnOk};
-ghost use Rattle.bit_words.specs.declared.run.Finish.TheVariants.{Left};
+ghost use Rattle.plain_data.specs.declared.run.Finish.TheVariants.{Left};
 ghost use Rattle.c_means.specs.declared.kind.Kind.TheVariants as k;
-ghost use Rattle.c_runs.specs.Items as arriving;
+ghost use Rattle.c_means.specs.Items as arriving;
 ghost use Rattle.core_tree.specs.States.{arrive, become, finished, running};
 ghost use Rattle.core_running.specs.Running.{done};
 ghost use Rattle.code_steps.specs.Ways as ways;
 
-use bit_words::Finish;
+use c_language::Name;
 use c_machine::Machine;
 use c_means::Kind;
-use c_tokens::Name;
+use plain_data::Finish;
 use std::alloc::AllocError;
 
 /// The run leaves the bounds at a loop's keyword.

@@ -1,7 +1,7 @@
 //! Parameters (C99 6.9.1p9, p10): their objects, the arguments that are stored in them, and the way back.
 ghost use Rattle.std.specs.Prelude.{◌≡◌, ◌++◌, map, IfOk, OnOk};
-ghost use Rattle.c_runs.specs.Items.{known};
-ghost use Rattle.c_runs.specs.Statements.{no_env};
+ghost use Rattle.c_means.specs.Items.{known};
+ghost use Rattle.c_means.specs.Statements.{no_env};
 ghost use Rattle.c_machine.specs.Worth.{worth};
 ghost use Rattle.core_tree.specs.Programs as program;
 ghost use Rattle.core_running.specs.Frames.{env_of};

@@ -1,9 +1,9 @@
 //! Values stored in objects that are there, objects set to 0, made and ended, and branches that are noted.
 ghost use Rattle.std.specs.Prelude.{◌≡◌, ◌≤◌, ◌+◌, false, length, OnOk, IfOk};
-ghost use Rattle.c_type_terms.specs.Integers.{is_bool};
+ghost use Rattle.c_language.specs.Integers.{is_bool};
 ghost use Rattle.c_store.specs.Store.{end, lay, make, start, zero_range};
 ghost use Rattle.c_store.specs.declared.object.ObjectKind.TheVariants.{Automatic};
-ghost use Rattle.c_runs.specs.Initials.{text_byte};
+ghost use Rattle.c_means.specs.Initials.{text_byte};
 ghost use Rattle.c_means.specs.Values as values;
 ghost use Rattle.c_machine.specs.Worth.{worth};
 ghost use Rattle.core_tree.specs.Memory.{stored};
@@ -13,11 +13,11 @@ ghost use Rattle.elaborate.specs.Types.{word_type};
 ghost use Rattle.core_running.specs.Running.{done};
 ghost use Rattle.code_steps.specs.Stores.{StoresAs, Branched};
 
-use bit_words::Width;
+use c_language::{Class, IntegerKind};
 use c_machine::{Machine, Value, bytes_as};
 use c_store::{Object, ObjectKind};
-use c_type_terms::{Class, IntegerKind};
 use core_tree::{ValueType, WordType};
+use plain_data::Width;
 use std::alloc::AllocError;
 
 /// A type of C whose values are those of a type of the core: its class and size.

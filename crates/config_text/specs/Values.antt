@@ -3,14 +3,14 @@ use Rattle.std.specs.Prelude.{ℕ, ◌≤◌, ◌&&◌, nat_le, if◌then◌else
 use Rattle.std.specs.Str.{bytes_eq}
 use Rattle.serde_json.specs.Data.{Data, number, unsigned, boolean, string, array, Items, no_items, item, Members, no_members, member}
 use Rattle.serde_json.specs.Find.{get}
-use Rattle.c_runs.specs.declared.profile.FillAnswer.{FillAnswer}
-use Rattle.c_runs.specs.declared.profile.FillAnswer.TheVariants as answer
-use Rattle.c_runs.specs.declared.profile.FillFunction.{FillFunction}
-use Rattle.c_runs.specs.declared.profile.IdentityFunction.{IdentityFunction}
-use Rattle.c_runs.specs.declared.profile.LogFunction.{LogFunction}
-use Rattle.c_runs.specs.declared.profile.LogText.{LogText}
-use Rattle.c_runs.specs.declared.profile.LogText.TheVariants.{Format, Text as OwnText}
-use Rattle.c_runs.specs.declared.profile.Profile.{Profile}
+use Rattle.c_means.specs.declared.profile.FillAnswer.{FillAnswer}
+use Rattle.c_means.specs.declared.profile.FillAnswer.TheVariants as answer
+use Rattle.c_means.specs.declared.profile.FillFunction.{FillFunction}
+use Rattle.c_means.specs.declared.profile.IdentityFunction.{IdentityFunction}
+use Rattle.c_means.specs.declared.profile.LogFunction.{LogFunction}
+use Rattle.c_means.specs.declared.profile.LogText.{LogText}
+use Rattle.c_means.specs.declared.profile.LogText.TheVariants.{Format, Text as OwnText}
+use Rattle.c_means.specs.declared.profile.Profile.{Profile}
 use Rattle.config_text.specs.Keys.{Text, members_in}
 use Rattle.config_text.specs.declared.config.Config.{Config}
 

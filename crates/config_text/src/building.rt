@@ -5,10 +5,9 @@ ghost use Rattle.serde_json.specs.View.{view, members_view, items_view};
 ghost use Rattle.config_text.specs.Values as spec;
 
 use crate::config::Config;
-use bit_words::Bytes;
-use c_runs::{FillAnswer, FillFunction, IdentityFunction, LogFunction, LogText, Profile};
-use c_tokens::Name;
-use plain_data::{Items, Shared};
+use c_language::Name;
+use c_means::{FillAnswer, FillFunction, IdentityFunction, LogFunction, LogText, Profile};
+use plain_data::{Bytes, Items, Shared};
 use serde_json::{Map, Value};
 use sl_config::Name as Text;
 use std::alloc::{AllocError, Global};

@@ -6,7 +6,7 @@ ghost use Rattle.config_text.specs.Keys as spec;
 
 use crate::config::{ConfigFault, EntryKind, KeyFault};
 use crate::keys::{flag_fault, key_fault, kind_of, names_fault, number_fault, own_fault, range_of};
-use bit_words::Bytes;
+use plain_data::Bytes;
 use serde_json::{Map, Value};
 use std::alloc::{AllocError, Global};
 

@@ -1,11 +1,11 @@
 //! What a configuration is, and why a text is none.
 
-use bit_words::Bytes;
-use c_runs::Profile;
+use c_means::Profile;
+use plain_data::Bytes;
 use sl_config::Name;
 use thiserror::Error;
 
-/// What a configuration settles. The numbers are bounds of `bit_words::Bounds`.
+/// What a configuration settles. The numbers are bounds of `plain_data::Bounds`.
 #[derive(Drop)]
 pub struct Config {
     /// What is known of functions besides their source: the defaults, and behind them what the text adds.

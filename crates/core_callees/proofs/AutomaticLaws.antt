@@ -3,9 +3,9 @@ use Rattle.std.proofs.Common.{◌≡◌, ℕ, suc, Bool, true, false, cond, nat_
 use Rattle.std.specs.Prelude.{option_map}
 use Rattle.std.specs.List.{insert}
 use Rattle.std.proofs.lemmas.List.{drop_all, reverse-append}
-use Rattle.c_says.specs.declared.scope.Entry.{Entry}
-use Rattle.c_says.specs.Scopes.{Block}
-use Rattle.c_runs.specs.Calls.{inserted, automatic_of, automatic_in}
+use Rattle.c_language.specs.declared.scope.Entry.{Entry}
+use Rattle.c_language.specs.Scopes.{Block}
+use Rattle.c_means.specs.Calls.{inserted, automatic_of, automatic_in}
 use Rattle.core_callees.specs.Watching.{automatic_over, gap_from}
 
 -- ---- blocks

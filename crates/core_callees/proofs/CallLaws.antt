@@ -1,18 +1,18 @@
 -- What is chosen for a call does what the rule of the call says.
 use Rattle.std.proofs.Common.{◌≡◌, ℕ, ◌*◌, ℤ, Bool, true, false, List, Option, Some, None, refl, ap, sym, ◌∙◌, subst}
 use Rattle.std.specs.Prelude.{option_map}
-use Rattle.c_type_terms.specs.declared.class.Class.{Class}
-use Rattle.c_type_terms.specs.declared.class.Class.TheVariants as class
+use Rattle.c_language.specs.declared.class.Class.{Class}
+use Rattle.c_language.specs.declared.class.Class.TheVariants as class
 use Rattle.c_store.specs.Store.{Store}
 use Rattle.c_means.specs.Parts.{State, Env}
 use Rattle.c_means.specs.Parts as c
 use Rattle.c_means.specs.Values as values
-use Rattle.c_runs.specs.declared.profile.LogFunction.{LogFunction}
-use Rattle.c_runs.specs.declared.profile.LogText.{LogText}
-use Rattle.c_runs.specs.declared.profile.LogText.TheVariants as text_
-use Rattle.c_runs.specs.Calls as calls
-use Rattle.c_runs.specs.Rules.{Rules, LogCall, IdentityCall, BodyCall, LibraryCall, PreludeCall, OutsideCall, Library, Exit, Abort, Malloc, Calloc, Free}
-use Rattle.c_runs.specs.Rules as rules
+use Rattle.c_means.specs.declared.profile.LogFunction.{LogFunction}
+use Rattle.c_means.specs.declared.profile.LogText.{LogText}
+use Rattle.c_means.specs.declared.profile.LogText.TheVariants as text_
+use Rattle.c_means.specs.Calls as calls
+use Rattle.c_means.specs.Rules.{Rules, LogCall, IdentityCall, BodyCall, LibraryCall, PreludeCall, OutsideCall, Library, Exit, Abort, Malloc, Calloc, Free}
+use Rattle.c_means.specs.Rules as rules
 use Rattle.core_tree.specs.declared.expr.Callee.{Callee}
 use Rattle.core_tree.specs.declared.expr.Callee.TheVariants as callee
 use Rattle.core_tree.specs.declared.expr.Watched.{Watched}

@@ -5,16 +5,16 @@ use Rattle.std.proofs.lemmas.List.{reverse-append}
 use Rattle.std.specs.Prelude.{option_map}
 use Rattle.std.specs.Cmp.Lexicographic.{bytes_decides}
 use Rattle.std.specs.Str.{bytes_eq}
-use Rattle.c_says.specs.declared.scope.Entry.{Entry}
-use Rattle.c_says.specs.Scopes.{Name, last_where}
+use Rattle.c_language.specs.declared.scope.Entry.{Entry}
+use Rattle.c_language.specs.Scopes.{Name, last_where}
 use Rattle.c_means.specs.Parts.{Site}
-use Rattle.c_runs.specs.declared.profile.LogFunction.{LogFunction}
-use Rattle.c_runs.specs.declared.profile.Profile.{Profile}
-use Rattle.c_runs.specs.Prelude.{prelude_functions}
-use Rattle.c_runs.specs.Programs.{Function, functions_of, function_named, watched_lasting}
-use Rattle.c_runs.specs.Rules.{Library, Taking, rule_by, log_of, identity_index, library_of, callee_taking}
-use Rattle.c_runs.specs.Rules.{declared_taking, same_taking}
-use Rattle.c_runs.specs.Runs as whole
+use Rattle.c_means.specs.declared.profile.LogFunction.{LogFunction}
+use Rattle.c_means.specs.declared.profile.Profile.{Profile}
+use Rattle.c_means.specs.Prelude.{prelude_functions}
+use Rattle.c_means.specs.Programs.{Function, functions_of, function_named, watched_lasting}
+use Rattle.c_means.specs.Rules.{Library, Taking, rule_by, log_of, identity_index, library_of, callee_taking}
+use Rattle.c_means.specs.Rules.{declared_taking, same_taking}
+use Rattle.c_means.specs.Runs as whole
 use Rattle.c_prelude.specs.Heads.{Head, head_of, head_named}
 use Rattle.c_prelude.specs.Heads as heads
 use Rattle.c_prelude.proofs.Heads.{prelude_head}

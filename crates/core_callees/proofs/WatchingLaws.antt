@@ -1,20 +1,20 @@
 -- The variables that a print shows, in the core and in C.
 use Rattle.std.proofs.Common.{◌≡◌, ℕ, ℤ, pos, List, [], ◌∷◌, ◌++◌, map, Option, Some, None, refl, sym, ap, ap₂, ◌∙◌}
-use Rattle.c_type_terms.specs.declared.class.Class.{Class}
-use Rattle.c_type_terms.specs.declared.class.Class.TheVariants as class
-use Rattle.c_type_terms.specs.declared.ctype.IntegerKind.{IntegerKind}
-use Rattle.c_type_terms.specs.Integers as integers
-use Rattle.c_type_terms.specs.Types.{class_of, kind_in}
+use Rattle.c_language.specs.declared.class.Class.{Class}
+use Rattle.c_language.specs.declared.class.Class.TheVariants as class
+use Rattle.c_language.specs.declared.ctype.IntegerKind.{IntegerKind}
+use Rattle.c_language.specs.Integers as integers
+use Rattle.c_language.specs.Types.{class_of, kind_in}
 use Rattle.c_store.specs.Store.{Store, read, start}
-use Rattle.c_says.specs.declared.scope.Duration.{Duration}
-use Rattle.c_says.specs.declared.scope.Duration.TheVariants as duration
-use Rattle.c_says.specs.declared.scope.Entry.{Entry}
-use Rattle.c_says.specs.declared.scope.Means.{Means}
-use Rattle.c_says.specs.declared.scope.Means.TheVariants as means
+use Rattle.c_language.specs.declared.scope.Duration.{Duration}
+use Rattle.c_language.specs.declared.scope.Duration.TheVariants as duration
+use Rattle.c_language.specs.declared.scope.Entry.{Entry}
+use Rattle.c_language.specs.declared.scope.Means.{Means}
+use Rattle.c_language.specs.declared.scope.Means.TheVariants as means
 use Rattle.c_means.specs.Expressions.{object_number}
 use Rattle.c_means.specs.Objects.{value_at}
 use Rattle.c_means.specs.Parts.{Env, Level}
-use Rattle.c_runs.specs.Calls as calls
+use Rattle.c_means.specs.Calls as calls
 use Rattle.core_tree.specs.declared.expr.Holder.{Holder}
 use Rattle.core_tree.specs.declared.expr.Watched.{Watched}
 use Rattle.core_tree.specs.Callees as core

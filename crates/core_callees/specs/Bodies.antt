@@ -1,8 +1,8 @@
 -- The functions of the C library that have a body here, by name and type.
 use Rattle.std.specs.Prelude.{ℕ, ◌+◌, cond, Option, Some, None}
 use Rattle.std.specs.Str.{bytes_eq}
-use Rattle.c_says.specs.Scopes.{Name}
-use Rattle.c_runs.specs.Rules.{Taking, same_taking}
+use Rattle.c_language.specs.Scopes.{Name}
+use Rattle.c_means.specs.Rules.{Taking, same_taking}
 use Rattle.c_prelude.specs.Heads.{Head}
 use Rattle.c_prelude.specs.Heads as heads
 use Rattle.core_callees.specs.declared.bodies.PreludeFunction.{PreludeFunction}

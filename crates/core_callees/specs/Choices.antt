@@ -1,10 +1,10 @@
 -- Which callee of the core a call is, by the rule that it follows (C99 6.5.2.2, and the profile).
 use Rattle.std.specs.Prelude.{ℕ, Option, Some, None, List, option_map}
 use Rattle.c_means.specs.Parts.{Site}
-use Rattle.c_runs.specs.declared.profile.LogFunction.{LogFunction}
-use Rattle.c_runs.specs.declared.profile.LogText.{LogText}
-use Rattle.c_runs.specs.Calls.{before_format, watched}
-use Rattle.c_runs.specs.Rules.{log_of, identity_index, fill_of, library_of, callee_taking}
+use Rattle.c_means.specs.declared.profile.LogFunction.{LogFunction}
+use Rattle.c_means.specs.declared.profile.LogText.{LogText}
+use Rattle.c_means.specs.Calls.{before_format, watched}
+use Rattle.c_means.specs.Rules.{log_of, identity_index, fill_of, library_of, callee_taking}
 use Rattle.core_tree.specs.declared.expr.Callee.{Callee}
 use Rattle.core_tree.specs.declared.expr.Callee.TheVariants as callee
 use Rattle.core_tree.specs.declared.expr.Watched.{Watched}

@@ -1,12 +1,12 @@
 -- What the calls of a function depend on, and what they are by that.
 use Rattle.std.specs.Prelude.{ℕ, ◌+◌, Bool, Option, Some, None, List}
-use Rattle.c_says.specs.declared.scope.Entry.{Entry}
-use Rattle.c_says.specs.Scopes.{Name}
+use Rattle.c_language.specs.declared.scope.Entry.{Entry}
+use Rattle.c_language.specs.Scopes.{Name}
 use Rattle.c_means.specs.Parts.{Level, Limits, Site, World, entered}
-use Rattle.c_runs.specs.declared.profile.Profile.{Profile}
-use Rattle.c_runs.specs.Calls.{log_call, log_pieces, pointers_in, identity_call, library_call, outside_call}
-use Rattle.c_runs.specs.Rules.{Taking, Rules, LogCall, IdentityCall, BodyCall, LibraryCall, PreludeCall, OutsideCall}
-use Rattle.c_runs.specs.Rules.{rule_by, log_of, identity_index, fill_of, library_of, callee_taking, is_among}
+use Rattle.c_means.specs.declared.profile.Profile.{Profile}
+use Rattle.c_means.specs.Calls.{log_call, log_pieces, pointers_in, identity_call, library_call, outside_call}
+use Rattle.c_means.specs.Rules.{Taking, Rules, LogCall, IdentityCall, BodyCall, LibraryCall, PreludeCall, OutsideCall}
+use Rattle.c_means.specs.Rules.{rule_by, log_of, identity_index, fill_of, library_of, callee_taking, is_among}
 use Rattle.elaborate.specs.Means.{Numbering, Ruling}
 
 -- What is known of functions besides their source; the places of what lives throughout the run, by offset; whether a

@@ -1,11 +1,11 @@
 -- What is known of the calls of a function, as code has it, and what it is to know a program's.
 use Rattle.std.specs.Prelude.{◌≡◌, ℕ, List, map, reverse, option_map}
-use Rattle.c_says.specs.declared.scope.Entry.{Entry}
-use Rattle.c_says.specs.Scopes.{Name}
-use Rattle.c_runs.specs.declared.profile.Profile.{Profile}
-use Rattle.c_runs.specs.Prelude.{prelude_functions}
-use Rattle.c_runs.specs.Programs.{Function, functions_of, function_named, watched_lasting}
-use Rattle.c_runs.specs.Runs as whole
+use Rattle.c_language.specs.declared.scope.Entry.{Entry}
+use Rattle.c_language.specs.Scopes.{Name}
+use Rattle.c_means.specs.declared.profile.Profile.{Profile}
+use Rattle.c_means.specs.Prelude.{prelude_functions}
+use Rattle.c_means.specs.Programs.{Function, functions_of, function_named, watched_lasting}
+use Rattle.c_means.specs.Runs as whole
 use Rattle.core_programs.specs.Numberings.{Numbers}
 use Rattle.core_callees.specs.declared.calling.Calling.{Calling}
 use Rattle.core_callees.specs.declared.numbered.FunctionNumber.{FunctionNumber}

@@ -1,7 +1,7 @@
 -- The functions with a body in the source, by name.
 use Rattle.std.specs.Prelude.{ℕ, List, Option, Some, None}
 use Rattle.std.specs.Str.{bytes_eq}
-use Rattle.c_says.specs.Scopes.{Name, last_where}
+use Rattle.c_language.specs.Scopes.{Name, last_where}
 use Rattle.core_callees.specs.declared.numbered.FunctionNumber.{FunctionNumber}
 
 abbrev pub number_of : Option FunctionNumber → Option (Option ℕ)

@@ -1,14 +1,14 @@
 -- The variables that a print shows.
 use Rattle.std.specs.Prelude.{ℕ, suc, cond, nat_eq, nat_lt, List, [], ◌∷◌, Option, Some, None, map}
-use Rattle.c_type_terms.specs.declared.ctype.IntegerKind.{IntegerKind}
-use Rattle.c_type_terms.specs.Types.{kind_of}
-use Rattle.c_says.specs.declared.scope.Duration.{Duration}
-use Rattle.c_says.specs.declared.scope.Duration.TheVariants as duration
-use Rattle.c_says.specs.declared.scope.Entry.{Entry}
-use Rattle.c_says.specs.declared.scope.Means.{Means}
-use Rattle.c_says.specs.declared.scope.Means.TheVariants as means
-use Rattle.c_says.specs.Scopes.{Block}
-use Rattle.c_runs.specs.Calls.{automatic_of}
+use Rattle.c_language.specs.declared.ctype.IntegerKind.{IntegerKind}
+use Rattle.c_language.specs.Types.{kind_of}
+use Rattle.c_language.specs.declared.scope.Duration.{Duration}
+use Rattle.c_language.specs.declared.scope.Duration.TheVariants as duration
+use Rattle.c_language.specs.declared.scope.Entry.{Entry}
+use Rattle.c_language.specs.declared.scope.Means.{Means}
+use Rattle.c_language.specs.declared.scope.Means.TheVariants as means
+use Rattle.c_language.specs.Scopes.{Block}
+use Rattle.c_means.specs.Calls.{automatic_of}
 use Rattle.core_tree.specs.declared.expr.Holder.{Holder}
 use Rattle.core_tree.specs.declared.expr.Holder.TheVariants as holder
 use Rattle.core_tree.specs.declared.expr.Watched.{Watched}

@@ -1,9 +1,9 @@
 //! Parameters and locals of integer type that are in scope, hidden ones too.
 ghost use Rattle.std.specs.Prelude.{◌≡◌, ◌≤◌, length, reverse, IfOk, IfSome, OnOk};
-ghost use Rattle.c_runs.specs.Calls as calls;
+ghost use Rattle.c_means.specs.Calls as calls;
 ghost use Rattle.core_callees.specs.Watching as spec;
 
-use c_says::{Duration, Entry, Means};
+use c_language::{Duration, Entry, Means};
 use c_type_scope::Block;
 use plain_data::{Items, Shared};
 use std::alloc::{AllocError, Global};

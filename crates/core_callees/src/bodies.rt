@@ -1,11 +1,10 @@
 //! The functions of the C library that have a body here (C99 7.20.1.2, 7.21), where they have their type.
 ghost use Rattle.std.specs.Prelude.{◌≡◌, IfOk};
-ghost use Rattle.c_runs.specs.Rules.{declared_taking, same_taking};
+ghost use Rattle.c_means.specs.Rules.{declared_taking, same_taking};
 ghost use Rattle.core_callees.specs.Bodies as spec;
 
 use c_checks::{PlainType, means_function_of};
-use c_says::{Entry, Means};
-use c_type_terms::Tables;
+use c_language::{Entry, Means, Tables};
 use std::alloc::{AllocError, Global};
 
 /// A function of the C library that has a body here.

@@ -1,7 +1,7 @@
 //! The callee of a call: by the first rule that applies.
 ghost use Rattle.std.specs.Prelude.{◌≡◌, ◌+◌, ◌++◌, Some, IfOk, IsTrue};
-ghost use Rattle.c_runs.specs.Calls as calls;
-ghost use Rattle.c_runs.specs.Rules as rules;
+ghost use Rattle.c_means.specs.Calls as calls;
+ghost use Rattle.c_means.specs.Rules as rules;
 ghost use Rattle.core_tree.specs.declared.expr.Callee.TheVariants as callee;
 ghost use Rattle.core_exprs.specs.Sites.{site_of};
 ghost use Rattle.core_calls.specs.Calling.{IsCounted};
@@ -16,8 +16,8 @@ use crate::calling::Calling;
 use crate::numbered::number_named;
 use crate::watching::watch;
 use c_checks::{filling_function, identity_index, log_function};
-use c_runs::LogText;
-use c_tokens::Name;
+use c_language::Name;
+use c_means::LogText;
 use c_type_scope::Scope;
 use core_calls::{arguments_before, fill, library_callee, log_pieces, outside_answer, word_types};
 use core_exprs::Site;

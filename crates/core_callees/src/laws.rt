@@ -1,10 +1,10 @@
 //! The laws, each as the contract of a function.
 ghost use Rattle.std.specs.Prelude.{◌≡◌, ℕ, List, option_map};
-ghost use Rattle.c_says.specs.declared.scope.Entry.{Entry};
-ghost use Rattle.c_says.specs.Scopes.{Name};
-ghost use Rattle.c_runs.specs.declared.profile.Profile.{Profile};
-ghost use Rattle.c_runs.specs.Programs.{Function, function_named};
-ghost use Rattle.c_runs.specs.Runs.{Machine};
+ghost use Rattle.c_language.specs.declared.scope.Entry.{Entry};
+ghost use Rattle.c_language.specs.Scopes.{Name};
+ghost use Rattle.c_means.specs.declared.profile.Profile.{Profile};
+ghost use Rattle.c_means.specs.Programs.{Function, function_named};
+ghost use Rattle.c_means.specs.Runs.{Machine};
 ghost use Rattle.core_programs.specs.Numberings.{Numbers, numbering_of};
 ghost use Rattle.core_callees.specs.declared.numbered.FunctionNumber.{FunctionNumber};
 ghost use Rattle.core_callees.specs.Known.{numbering_in};

@@ -2,7 +2,7 @@
 ghost use Rattle.std.specs.Prelude.{◌≡◌, IfOk, reverse};
 ghost use Rattle.core_callees.specs.Numbered as spec;
 
-use c_tokens::Name;
+use c_language::Name;
 use c_type_scope::{HasName, Named};
 use plain_data::Shared;
 use std::alloc::{AllocError, Global};

@@ -1,11 +1,10 @@
 //! Variables that a print shows, in the core.
 ghost use Rattle.std.specs.Prelude.{◌≡◌, ◌++◌, Some, map, IfOk, OnOk};
-ghost use Rattle.c_runs.specs.Runs.{place_in};
+ghost use Rattle.c_means.specs.Runs.{place_in};
 ghost use Rattle.core_callees.specs.Watching as spec;
 ghost use Rattle.elaborate.specs.Types.{integer_type};
 
-use c_says::{Duration, Entry, Means};
-use c_type_terms::{Class, IntegerKind};
+use c_language::{Class, Duration, Entry, IntegerKind, Means};
 use core_forms::NoCore;
 use core_programs::PlaceTable;
 use core_tree::{Holder, ValueType, Watched};

@@ -1,11 +1,10 @@
 //! Functions of the C library that have a meaning of their own (C99 7.20.3, 7.20.4).
 ghost use Rattle.std.specs.Prelude.{◌≡◌, IfOk};
 ghost use Rattle.core_calls.specs.Calling as spec;
-ghost use Rattle.c_runs.specs.Rules as rules;
+ghost use Rattle.c_means.specs.Rules as rules;
 
 use c_checks::is_library_function;
-use c_says::Entry;
-use c_type_terms::Tables;
+use c_language::{Entry, Tables};
 use core_tree::Callee;
 use std::alloc::{AllocError, Global};
 

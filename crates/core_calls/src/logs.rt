@@ -1,17 +1,16 @@
 //! Log calls: the pieces of their formats, and the integer types of their arguments.
 ghost use Rattle.std.specs.Prelude.{◌≡◌, IfOk};
 ghost use Rattle.c_means.specs.Values.{class_in};
-ghost use Rattle.c_runs.specs.Calls as calls;
+ghost use Rattle.c_means.specs.Calls as calls;
 ghost use Rattle.elaborate.specs.Callees as callees;
 ghost use Rattle.elaborate.specs.Types as types;
 ghost use Rattle.core_calls.specs.Calling as spec;
 
-use bit_words::Bytes;
-use c_runs::LogText;
-use c_type_terms::{CType, Class, IntegerKind};
+use c_language::{CType, Class, IntegerKind};
+use c_means::LogText;
 use core_tree::WordType;
 use elaborate::word_type;
-use plain_data::Items;
+use plain_data::{Bytes, Items};
 use printf_text::{FormatFault, Piece, Pieces, parse_format};
 use std::alloc::{AllocError, Global};
 

@@ -2,12 +2,12 @@
 ghost use Rattle.std.specs.Prelude.{◌≡◌, IfOk, option_map};
 ghost use Rattle.std.specs.Option.{option_copied};
 ghost use Rattle.c_means.specs.Values as values;
-ghost use Rattle.c_runs.specs.Calls as calls;
+ghost use Rattle.c_means.specs.Calls as calls;
 ghost use Rattle.elaborate.specs.Callees as callees;
 ghost use Rattle.core_calls.specs.Calling as spec;
 
-use c_runs::{FillAnswer, FillFunction};
-use c_type_terms::{CType, Class, IntegerKind, Tables};
+use c_language::{CType, Class, IntegerKind, Tables};
+use c_means::{FillAnswer, FillFunction};
 use code_forms::bytes_of;
 use core_tree::{Fill, OutsideAnswer, Pointee};
 use std::alloc::{AllocError, Global};

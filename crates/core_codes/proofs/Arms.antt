@@ -3,22 +3,22 @@
 use Rattle.std.proofs.Common.{◌≡◌, ℕ, ℤ, true, false, List, [], ◌++◌, map, Option, Some, None, refl, sym}
 use Rattle.std.proofs.Common.{ap, ap₂, ◌∙◌, subst}
 use Rattle.std.specs.Prelude.{option_map, IfSome}
-use Rattle.c_tree.specs.declared.expr.Expr.{Expr as CExpr}
-use Rattle.c_tree.specs.declared.unit.Declaration.{Declaration}
-use Rattle.c_tree.specs.declared.unit.ForStart.{ForStart}
-use Rattle.c_tree.specs.declared.unit.Stmt.{Stmt}
-use Rattle.c_tree.specs.declared.unit.Stmt.TheVariants as tree
-use Rattle.c_type_terms.specs.declared.ctype.IntegerKind.{IntegerKind}
-use Rattle.c_type_terms.specs.declared.tables.Tables.{Tables}
-use Rattle.c_says.specs.Scopes.{Name, Scope, enter, leave}
-use Rattle.c_says.specs.Typing.{type_in, value_in, used_told}
+use Rattle.c_language.specs.declared.expr.Expr.{Expr as CExpr}
+use Rattle.c_language.specs.declared.unit.Declaration.{Declaration}
+use Rattle.c_language.specs.declared.unit.ForStart.{ForStart}
+use Rattle.c_language.specs.declared.unit.Stmt.{Stmt}
+use Rattle.c_language.specs.declared.unit.Stmt.TheVariants as tree
+use Rattle.c_language.specs.declared.ctype.IntegerKind.{IntegerKind}
+use Rattle.c_language.specs.declared.tables.Tables.{Tables}
+use Rattle.c_language.specs.Scopes.{Name, Scope, enter, leave}
+use Rattle.c_language.specs.Typing.{type_in, value_in, used_told}
 use Rattle.c_means.specs.Operators.{kind_in}
 use Rattle.c_grammar.proofs.UnitEquations.{StmtSteps, of_stmt}
-use Rattle.c_runs.specs.Notes.{ExprNoted, noted}
-use Rattle.c_runs.specs.Items as runs
-use Rattle.c_runs.specs.Statements.{stmt}
-use Rattle.c_runs.specs.Statements as statements
-use Rattle.c_runs.proofs.Equations as eq
+use Rattle.c_means.specs.Notes.{ExprNoted, noted}
+use Rattle.c_means.specs.Items as runs
+use Rattle.c_means.specs.Statements.{stmt}
+use Rattle.c_means.specs.Statements as statements
+use Rattle.c_means.proofs.RunEquations as eq
 use Rattle.core_tree.specs.declared.code.Code.TheVariants as code
 use Rattle.core_tree.specs.declared.expr.Expr.{Expr}
 use Rattle.elaborate.specs.Means.{Numbering}

@@ -1,15 +1,15 @@
 -- What is made of each form of statement is its core, where what is made of its parts is theirs.
 use Rattle.std.proofs.Common.{◌≡◌, ℕ, ◌+◌, ℤ, Bool, true, false, List, [], ◌∷◌, ◌++◌, Option, Some, None, refl, sym}
 use Rattle.std.proofs.Common.{ap, ap₂, ◌∙◌, subst}
-use Rattle.c_type_terms.specs.declared.ctype.IntegerKind.{IntegerKind}
-use Rattle.c_says.specs.declared.shown.Told.{Told}
-use Rattle.c_says.specs.Scopes.{Name, Scope, enter, leave}
-use Rattle.c_says.specs.Typing.{type_in, value_in, used_told}
+use Rattle.c_language.specs.declared.ctype.IntegerKind.{IntegerKind}
+use Rattle.c_language.specs.declared.shown.Told.{Told}
+use Rattle.c_language.specs.Scopes.{Name, Scope, enter, leave}
+use Rattle.c_language.specs.Typing.{type_in, value_in, used_told}
 use Rattle.c_means.specs.Operators.{kind_in}
-use Rattle.c_runs.specs.Notes.{Noted, ExprNoted}
-use Rattle.c_runs.specs.Items.{Item, Case, Label, at_case}
-use Rattle.c_runs.specs.Items as runs
-use Rattle.c_runs.specs.Statements as statements
+use Rattle.c_means.specs.Notes.{Noted, ExprNoted}
+use Rattle.c_means.specs.Items.{Item, Case, Label, at_case}
+use Rattle.c_means.specs.Items as runs
+use Rattle.c_means.specs.Statements as statements
 use Rattle.core_tree.specs.declared.code.Code.{Code}
 use Rattle.core_tree.specs.declared.code.Code.TheVariants as code
 use Rattle.core_tree.specs.declared.expr.Expr.{Expr}

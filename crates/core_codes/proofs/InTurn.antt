@@ -2,10 +2,10 @@
 use Rattle.std.proofs.Common.{◌≡◌, ℕ, suc, add-one, ◌+◌, ◌<◌, ◌≤◌, ℤ, List, [], ◌∷◌, map, length, drop, get_or}
 use Rattle.std.proofs.Common.{drop-cons, refl, sym, ap, ap₂, ◌∙◌, subst}
 use Rattle.std.proofs.lemmas.List.{drop_all}
-use Rattle.c_tree.specs.declared.unit.Stmt.{Stmt}
-use Rattle.c_runs.specs.Statements.{stmt}
-use Rattle.c_says.specs.Scopes.{Scope}
-use Rattle.c_runs.specs.Items as runs
+use Rattle.c_language.specs.declared.unit.Stmt.{Stmt}
+use Rattle.c_means.specs.Statements.{stmt}
+use Rattle.c_language.specs.Scopes.{Scope}
+use Rattle.c_means.specs.Items as runs
 use Rattle.core_tree.specs.declared.code.Code.{Code}
 use Rattle.core_tree.specs.declared.program.LastingSetting.{LastingSetting}
 use Rattle.elaborate.specs.Means.{Numbering}

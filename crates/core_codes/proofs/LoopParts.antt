@@ -3,24 +3,24 @@
 use Rattle.std.proofs.Common.{◌≡◌, ℕ, Bool, false, List, [], ◌∷◌, ◌++◌, map, Option, Some, None, refl, sym}
 use Rattle.std.proofs.Common.{ap₂, subst}
 use Rattle.std.specs.Prelude.{option_map}
-use Rattle.c_tree.specs.declared.expr.Expr.{Expr as CExpr}
-use Rattle.c_tree.specs.declared.unit.Declaration.{Declaration}
-use Rattle.c_tree.specs.declared.unit.ForStart.{ForStart}
-use Rattle.c_tree.specs.declared.unit.ForStart.TheVariants as start_
-use Rattle.c_says.specs.declared.scope.Duration.TheVariants as duration
-use Rattle.c_says.specs.declared.scope.Entry.{Entry}
-use Rattle.c_says.specs.declared.scope.Means.{Means}
-use Rattle.c_says.specs.declared.scope.Means.TheVariants as means
-use Rattle.c_says.specs.Scopes.{Scope}
-use Rattle.c_says.specs.Declares.{Said, said_by}
-use Rattle.c_says.specs.Declarations.{declares}
-use Rattle.c_runs.specs.Notes.{ExprNoted, noted, specifier_noted}
-use Rattle.c_runs.specs.Initials.{Initial, initialising_if, said_if}
-use Rattle.c_runs.specs.Items.{Item, Case, Lasting}
-use Rattle.c_runs.specs.Items as runs
-use Rattle.c_runs.specs.Statements.{Declaring, declared_means, declared_entry, declares_formed, declares_all}
-use Rattle.c_runs.specs.Statements.{declaration, type_in_entry, name_offset, defines, maybe_value, begun_by}
-use Rattle.c_runs.specs.Statements as statements
+use Rattle.c_language.specs.declared.expr.Expr.{Expr as CExpr}
+use Rattle.c_language.specs.declared.unit.Declaration.{Declaration}
+use Rattle.c_language.specs.declared.unit.ForStart.{ForStart}
+use Rattle.c_language.specs.declared.unit.ForStart.TheVariants as start_
+use Rattle.c_language.specs.declared.scope.Duration.TheVariants as duration
+use Rattle.c_language.specs.declared.scope.Entry.{Entry}
+use Rattle.c_language.specs.declared.scope.Means.{Means}
+use Rattle.c_language.specs.declared.scope.Means.TheVariants as means
+use Rattle.c_language.specs.Scopes.{Scope}
+use Rattle.c_language.specs.Declares.{Said, said_by}
+use Rattle.c_language.specs.Declarations.{declares}
+use Rattle.c_means.specs.Notes.{ExprNoted, noted, specifier_noted}
+use Rattle.c_means.specs.Initials.{Initial, initialising_if, said_if}
+use Rattle.c_means.specs.Items.{Item, Case, Lasting}
+use Rattle.c_means.specs.Items as runs
+use Rattle.c_means.specs.Statements.{Declaring, declared_means, declared_entry, declares_formed, declares_all}
+use Rattle.c_means.specs.Statements.{declaration, type_in_entry, name_offset, defines, maybe_value, begun_by}
+use Rattle.c_means.specs.Statements as statements
 use Rattle.core_tree.specs.declared.code.Code.TheVariants as code
 use Rattle.core_tree.specs.declared.expr.Expr.{Expr}
 use Rattle.elaborate.specs.Means.{Numbering, IsCodeOf}

@@ -1,6 +1,6 @@
 -- What initializers set: none, and one object behind the other.
 use Rattle.std.proofs.Common.{◌≡◌, List, [], ◌∷◌, ◌++◌, refl, sym, ap, ap₂, ◌∙◌, subst}
-use Rattle.c_runs.specs.Items.{Lasting}
+use Rattle.c_means.specs.Items.{Lasting}
 use Rattle.core_tree.specs.declared.program.LastingSetting.{LastingSetting}
 use Rattle.elaborate.specs.Means.{Numbering}
 use Rattle.core_programs.specs.Programs.{AllSettings, no_calls, joined}

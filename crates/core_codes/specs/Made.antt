@@ -1,12 +1,12 @@
 -- What it is to be the core of a statement in what it stands in: whatever labels are in force, since no core depends on
 -- them, and whatever else the definition has for rules alone.
 use Rattle.std.specs.Prelude.{◌≡◌, ℤ, Bool, List, ◌++◌, Option, Some, None}
-use Rattle.c_type_terms.specs.declared.ctype.CType.{CType}
-use Rattle.c_says.specs.Scopes.{Scope, enter}
+use Rattle.c_language.specs.declared.ctype.CType.{CType}
+use Rattle.c_language.specs.Scopes.{Scope, enter}
 use Rattle.c_means.specs.Values as values
-use Rattle.c_runs.specs.Notes.{ExprNoted}
-use Rattle.c_runs.specs.Items.{Item, Label}
-use Rattle.c_runs.specs.Items as runs
+use Rattle.c_means.specs.Notes.{ExprNoted}
+use Rattle.c_means.specs.Items.{Item, Label}
+use Rattle.c_means.specs.Items as runs
 use Rattle.core_tree.specs.Numbers as numbers
 use Rattle.elaborate.specs.Means.{Numbering, IsCodeOf}
 use Rattle.code_forms.specs.Contents.{AreCodesOf, IsContentOf, case_values}

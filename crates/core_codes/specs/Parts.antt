@@ -1,10 +1,10 @@
 -- What it is to be the core of an expression, of a declaration, and of the parts of statements, with the names in force
 -- behind it.
 use Rattle.std.specs.Prelude.{◌≡◌, ℤ, true, false, List, [], ◌∷◌, Option, Some, None}
-use Rattle.c_says.specs.Scopes.{Scope}
-use Rattle.c_says.specs.Typing.{told_of}
-use Rattle.c_runs.specs.Notes.{Noted, ExprNoted}
-use Rattle.c_runs.specs.Items.{Item}
+use Rattle.c_language.specs.Scopes.{Scope}
+use Rattle.c_language.specs.Typing.{told_of}
+use Rattle.c_means.specs.Notes.{Noted, ExprNoted}
+use Rattle.c_means.specs.Items.{Item}
 use Rattle.core_tree.specs.declared.code.Code.{Code}
 use Rattle.core_tree.specs.declared.code.Code.TheVariants as code
 use Rattle.core_tree.specs.declared.expr.Expr.{Expr}

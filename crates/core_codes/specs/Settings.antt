@@ -1,6 +1,6 @@
 -- What initializers of objects that live throughout the run set.
 use Rattle.std.specs.Prelude.{◌≡◌, List}
-use Rattle.c_runs.specs.Items.{Lasting}
+use Rattle.c_means.specs.Items.{Lasting}
 use Rattle.core_tree.specs.declared.program.LastingSetting.{LastingSetting}
 use Rattle.elaborate.specs.Means.{Numbering}
 use Rattle.core_programs.specs.Programs.{AllSettings, no_calls, joined}

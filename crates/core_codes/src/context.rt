@@ -1,6 +1,6 @@
 //! What a statement stands in.
 
-use c_type_terms::IntegerKind;
+use c_language::IntegerKind;
 use core_tree::ValueType;
 
 /// What a statement stands in, as far as its core depends on it: the type in which the `switch` compares whose block

@@ -1,11 +1,11 @@
 //! The parts of statements, whose cores are made by what is handed in.
 ghost use Rattle.std.specs.Prelude.{IfOk};
-ghost use Rattle.c_runs.specs.Notes as notes;
-ghost use Rattle.c_runs.specs.Statements as form;
+ghost use Rattle.c_means.specs.Notes as notes;
+ghost use Rattle.c_means.specs.Statements as form;
 ghost use Rattle.core_codes.specs.Parts as spec;
 
-use c_says::Told;
-use c_tree as tree;
+use c_language as tree;
+use c_language::Told;
 use c_type_scope::Scope;
 use core_forms::NoCore;
 use core_tree::{Code, Expr, LastingSetting};

@@ -1,8 +1,8 @@
 //! Statements without substatements, and the parts of those with some.
 ghost use Rattle.std.specs.Prelude.{◌≡◌, true, false, [], ◌∷◌, ◌++◌, Some, None, IfOk, IfSome, option_map};
-ghost use Rattle.c_runs.specs.Notes.{noted};
-ghost use Rattle.c_runs.specs.Statements as form;
-ghost use Rattle.c_says.specs.Typing.{type_in, value_in, used_told};
+ghost use Rattle.c_means.specs.Notes.{noted};
+ghost use Rattle.c_means.specs.Statements as form;
+ghost use Rattle.c_language.specs.Typing.{type_in, value_in, used_told};
 ghost use Rattle.c_means.specs.Operators.{kind_in};
 ghost use Rattle.core_tree.specs.declared.code.Code.TheVariants as code;
 ghost use Rattle.elaborate.specs.Types.{word_type};
@@ -13,13 +13,10 @@ ghost use Rattle.core_codes.specs.Parts.{alone, bare};
 use crate::context::Context;
 use crate::made::{Body, Made, SubBlock, in_front};
 use crate::parts::{Begun, Parts, Valued};
-use c_says::Told;
-use c_tokens::Name;
-use c_tree as tree;
-use c_tree::ForStart;
+use c_language as tree;
+use c_language::{ForStart, IntegerKind, Name, Tables, Told};
 use c_type_forms as forms;
 use c_type_scope::Scope;
-use c_type_terms::{IntegerKind, Tables};
 use core_forms::NoCore;
 use core_tree::{Code, Expr, LastingSetting};
 use plain_data::{Items, Shared};

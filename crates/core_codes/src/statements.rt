@@ -1,9 +1,9 @@
 //! The recursion over statements (C99 6.8).
 ghost use Rattle.std.specs.Prelude.{ℕ, map, option_map, IfOk};
-ghost use Rattle.c_runs.specs.Items.{in_turn, sub};
-ghost use Rattle.c_runs.specs.Notes.{noted};
-ghost use Rattle.c_runs.specs.Statements as form;
-ghost use Rattle.c_runs.specs.Statements.{stmt};
+ghost use Rattle.c_means.specs.Items.{in_turn, sub};
+ghost use Rattle.c_means.specs.Notes.{noted};
+ghost use Rattle.c_means.specs.Statements as form;
+ghost use Rattle.c_means.specs.Statements.{stmt};
 ghost use Rattle.core_codes.specs.Made as spec;
 
 use crate::context::Context;
@@ -14,8 +14,8 @@ use crate::pieces::{
     declared_made, default_made, do_made, effect_made, for_begun, for_made, goto_made, if_made,
     label_made, maybe_effect, maybe_value, return_made, switch_made, while_made,
 };
-use c_tree as tree;
-use c_tree::Stmt;
+use c_language as tree;
+use c_language::Stmt;
 use c_type_scope::Scope;
 use core_forms::NoCore;
 use plain_data::Shared;

@@ -1,14 +1,14 @@
 -- Designators (C99 6.7.8p6) initialise nothing themselves.
 use Rattle.std.proofs.Common.{◌≡◌, ℕ, ℤ, List, [], ◌∷◌, ◌++◌, Option, Some, None, map, refl, ◌∙◌}
-use Rattle.c_tree.specs.declared.expr.Expr.{Expr}
-use Rattle.c_type_terms.specs.declared.ctype.CType.{CType}
-use Rattle.c_says.specs.Scopes.{Name}
-use Rattle.c_says.specs.Typing.{type_of, constant_of, not_constant}
-use Rattle.c_says.specs.Trees.{typed}
-use Rattle.c_says.specs.Units as units
-use Rattle.c_says.specs.Initials.{Designates, ToMember, ToElement, Filling, Frame, designates, designated_further}
-use Rattle.c_says.specs.Initials.{designated_by, goes_into, at_number, to_member, to_constant, outermost}
-use Rattle.c_tree.specs.declared.unit.Designator.{Designator}
+use Rattle.c_language.specs.declared.expr.Expr.{Expr}
+use Rattle.c_language.specs.declared.ctype.CType.{CType}
+use Rattle.c_language.specs.Scopes.{Name}
+use Rattle.c_language.specs.Typing.{type_of, constant_of, not_constant}
+use Rattle.c_language.specs.Trees.{typed}
+use Rattle.c_language.specs.Units as units
+use Rattle.c_language.specs.Initials.{Designates, ToMember, ToElement, Filling, Frame, designates, designated_further}
+use Rattle.c_language.specs.Initials.{designated_by, goes_into, at_number, to_member, to_constant, outermost}
+use Rattle.c_language.specs.declared.unit.Designator.{Designator}
 use Rattle.c_item_notes.proofs.Designating.{by_tree}
 
 number_parts : (at : ℕ) (n : Option ℕ) (fs : List Frame) (y : Filling) → (at_number at n fs y).parts ≡ y.parts

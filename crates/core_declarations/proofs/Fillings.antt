@@ -2,27 +2,27 @@
 use Rattle.std.proofs.Common.{◌≡◌, ℕ, suc, add-one, ◌+◌, ◌<◌, ◌≤◌, Bool, true, false, List, [], ◌∷◌, ◌++◌, map, length, drop, get_or}
 use Rattle.std.proofs.Common.{Option, Some, None, Result, Ok, Err, IfOk, drop-cons, refl, sym, ap, ap₂, ◌∙◌, subst}
 use Rattle.std.proofs.lemmas.List.{drop_all}
-use Rattle.c_tree.specs.declared.expr.Expr.{Expr as Tree}
-use Rattle.c_tree.specs.declared.unit.Initializer.{Initializer}
-use Rattle.c_tree.specs.declared.unit.Initializer.TheVariants as initial
-use Rattle.c_tree.specs.declared.unit.InitializerItem.{InitializerItem}
-use Rattle.c_type_terms.specs.declared.ctype.CType.{CType}
-use Rattle.c_type_terms.specs.declared.tables.Tables.{Tables}
-use Rattle.c_says.specs.Scopes.{Scope, empty}
-use Rattle.c_says.specs.Typing.{Typed, typed_in}
-use Rattle.c_says.specs.declared.shown.Told.{Told}
-use Rattle.c_says.specs.Initials.{Fills, Filling, Frame, Part, fills_all, fills_value, filling_of, list_says, value_alone}
-use Rattle.c_says.specs.Initials.{with_part_left}
+use Rattle.c_language.specs.declared.expr.Expr.{Expr as Tree}
+use Rattle.c_language.specs.declared.unit.Initializer.{Initializer}
+use Rattle.c_language.specs.declared.unit.Initializer.TheVariants as initial
+use Rattle.c_language.specs.declared.unit.InitializerItem.{InitializerItem}
+use Rattle.c_language.specs.declared.ctype.CType.{CType}
+use Rattle.c_language.specs.declared.tables.Tables.{Tables}
+use Rattle.c_language.specs.Scopes.{Scope, empty}
+use Rattle.c_language.specs.Typing.{Typed, typed_in}
+use Rattle.c_language.specs.declared.shown.Told.{Told}
+use Rattle.c_language.specs.Initials.{Fills, Filling, Frame, Part, fills_all, fills_value, filling_of, list_says, value_alone}
+use Rattle.c_language.specs.Initials.{with_part_left}
 use Rattle.c_initials.specs.Filled.{Filled, filling_in, no_filling}
 use Rattle.c_initials.specs.Said.{Goes as GoesOn, closed, goes_on, opened}
 use Rattle.c_initials.proofs.Listed.{scope_free}
 use Rattle.c_means.specs.Parts.{State, Env}
 use Rattle.c_means.specs.Parts as c
-use Rattle.c_runs.specs.Notes.{Noted, noted}
-use Rattle.c_runs.specs.Initials.{Initially, Listed, Element, initially, initialising, initial_of, evaluated, listed_item}
-use Rattle.c_runs.specs.Initials.{all_elements, designated, indices}
-use Rattle.c_runs.specs.Initials as runs
-use Rattle.c_runs.proofs.Equations.{initially-Value, initially-List, listed-Item}
+use Rattle.c_means.specs.Notes.{Noted, noted}
+use Rattle.c_means.specs.Initials.{Initially, Listed, Element, initially, initialising, initial_of, evaluated, listed_item}
+use Rattle.c_means.specs.Initials.{all_elements, designated, indices}
+use Rattle.c_means.specs.Initials as runs
+use Rattle.c_means.proofs.RunEquations.{initially-Value, initially-List, listed-Item}
 use Rattle.c_item_notes.proofs.Designating.{by_notes, by_tree, same_by}
 use Rattle.c_item_notes.proofs.Filling.{list_within}
 use Rattle.core_tree.specs.declared.code.Setting.{Setting}

@@ -2,13 +2,13 @@
 use Rattle.std.proofs.Common.{◌≡◌, ℕ, suc, add-one, ◌+◌, ◌<◌, ◌≤◌, List, [], ◌∷◌, map, length, drop, get_or, Option}
 use Rattle.std.proofs.Common.{drop-cons, refl, sym, ap, ◌∙◌, subst}
 use Rattle.std.proofs.lemmas.List.{drop_all}
-use Rattle.c_tree.specs.declared.expr.StorageClass.{StorageClass}
-use Rattle.c_tree.specs.declared.unit.InitDeclarator.{InitDeclarator}
-use Rattle.c_type_terms.specs.declared.ctype.CType.{CType}
-use Rattle.c_says.specs.Scopes.{Scope}
-use Rattle.c_says.specs.Declares.{Said, specified}
-use Rattle.c_runs.specs.Items.{followed, typing, with_breaches}
-use Rattle.c_runs.specs.Statements.{Declaring, declaring, declares_all}
+use Rattle.c_language.specs.declared.expr.StorageClass.{StorageClass}
+use Rattle.c_language.specs.declared.unit.InitDeclarator.{InitDeclarator}
+use Rattle.c_language.specs.declared.ctype.CType.{CType}
+use Rattle.c_language.specs.Scopes.{Scope}
+use Rattle.c_language.specs.Declares.{Said, specified}
+use Rattle.c_means.specs.Items.{followed, typing, with_breaches}
+use Rattle.c_means.specs.Statements.{Declaring, declaring, declares_all}
 use Rattle.elaborate.specs.Means.{Numbering}
 use Rattle.c_item_notes.specs.ItemTellings.{item_as}
 use Rattle.core_objects.specs.declared.begun.Begun.{Begun}

@@ -4,16 +4,16 @@ use Rattle.std.proofs.Common.{Result, Ok, Err, refl, sym, ap, ap₂, ◌∙◌, 
 use Rattle.std.specs.Prelude.{◌&&◌, slice_get, unwrap_or}
 use Rattle.std.proofs.Math.Seq.{get_or-append_seam}
 use Rattle.std.proofs.lemmas.Option.{get_or_from_slice_get}
-use Rattle.c_type_terms.specs.declared.tables.Tables.{Tables}
-use Rattle.c_type_terms.specs.Types.{element_of}
-use Rattle.c_says.specs.Scopes.{Scope, empty}
-use Rattle.c_says.specs.Typing.{Typed, typed_in}
-use Rattle.c_says.specs.declared.shown.Told.{Told}
-use Rattle.c_says.specs.Initials.{Part, Filling, Frame, Found, is_byte_type, is_literal_in, is_text_of, fills_value, value_alone}
-use Rattle.c_says.specs.Initials.{braced_text, fills_found, is_braced_text, descends, most_levels, with_part_left}
-use Rattle.c_runs.specs.Notes.{Noted}
-use Rattle.c_runs.specs.Initials as initials
-use Rattle.c_runs.specs.Items as runs
+use Rattle.c_language.specs.declared.tables.Tables.{Tables}
+use Rattle.c_language.specs.Types.{element_of}
+use Rattle.c_language.specs.Scopes.{Scope, empty}
+use Rattle.c_language.specs.Typing.{Typed, typed_in}
+use Rattle.c_language.specs.declared.shown.Told.{Told}
+use Rattle.c_language.specs.Initials.{Part, Filling, Frame, Found, is_byte_type, is_literal_in, is_text_of, fills_value, value_alone}
+use Rattle.c_language.specs.Initials.{braced_text, fills_found, is_braced_text, descends, most_levels, with_part_left}
+use Rattle.c_means.specs.Notes.{Noted}
+use Rattle.c_means.specs.Initials as initials
+use Rattle.c_means.specs.Items as runs
 use Rattle.c_initials.specs.Filled.{Filled, filling_in, no_filling}
 use Rattle.core_tree.specs.declared.code.Setting.{Setting}
 use Rattle.core_tree.specs.declared.code.Setting.TheVariants as setting

@@ -1,13 +1,13 @@
 -- Expressions of an initializer, gone through one behind the other.
 use Rattle.std.proofs.Common.{◌≡◌, List, [], ◌∷◌, ◌++◌, map, refl, sym, ap, ap₂, ◌∙◌, subst}
 use Rattle.std.proofs.lemmas.List.{append-nil, append_assoc}
-use Rattle.c_tree.specs.declared.unit.Designator.{Designator}
-use Rattle.c_tree.specs.declared.unit.Designator.TheVariants as designator
-use Rattle.c_says.specs.Scopes.{Scope}
-use Rattle.c_says.specs.Initials.{Part, Filling}
+use Rattle.c_language.specs.declared.unit.Designator.{Designator}
+use Rattle.c_language.specs.declared.unit.Designator.TheVariants as designator
+use Rattle.c_language.specs.Scopes.{Scope}
+use Rattle.c_language.specs.Initials.{Part, Filling}
 use Rattle.c_initials.specs.Filled.{Filled}
-use Rattle.c_runs.specs.Notes.{Noted, ExprNoted, noted}
-use Rattle.c_runs.specs.Initials.{Element, Evaluates, Indexes, evaluated, designated, indices}
+use Rattle.c_means.specs.Notes.{Noted, ExprNoted, noted}
+use Rattle.c_means.specs.Initials.{Element, Evaluates, Indexes, evaluated, designated, indices}
 use Rattle.c_item_notes.specs.Levels.{Judged}
 use Rattle.c_item_notes.specs.InitialTellings.{Seen, see, seen_in, no_notes, and_heard}
 use Rattle.c_item_notes.specs.Levels.{heard}

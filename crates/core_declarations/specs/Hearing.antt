@@ -1,9 +1,9 @@
 -- What it is that the core of an expression was found, with what the types say of it as it stands.
 use Rattle.std.specs.Prelude.{◌≡◌}
-use Rattle.c_says.specs.Scopes.{Scope}
-use Rattle.c_says.specs.Typing.{told_of}
+use Rattle.c_language.specs.Scopes.{Scope}
+use Rattle.c_language.specs.Typing.{told_of}
 use Rattle.c_means.specs.Parts.{Level, Part}
-use Rattle.c_runs.specs.Notes.{Noted}
+use Rattle.c_means.specs.Notes.{Noted}
 use Rattle.elaborate.specs.Means.{Numbering, IsValueOf}
 use Rattle.core_declarations.specs.declared.hearing.Heard.{Heard}
 

@@ -1,12 +1,12 @@
 -- Declarators as items: one behind the other.
 use Rattle.std.specs.Prelude.{◌≡◌, ℕ, Bool, List, [], ◌∷◌, Option}
-use Rattle.c_tree.specs.declared.expr.StorageClass.{StorageClass}
-use Rattle.c_type_terms.specs.declared.ctype.CType.{CType}
-use Rattle.c_says.specs.Scopes.{Scope}
-use Rattle.c_says.specs.Declarations.{Declared}
-use Rattle.c_runs.specs.Items.{Item, typing, with_breaches, nothing, followed}
-use Rattle.c_runs.specs.Initials.{Initial}
-use Rattle.c_runs.specs.Statements.{Declaring, declared_entry}
+use Rattle.c_language.specs.declared.expr.StorageClass.{StorageClass}
+use Rattle.c_language.specs.declared.ctype.CType.{CType}
+use Rattle.c_language.specs.Scopes.{Scope}
+use Rattle.c_language.specs.Declarations.{Declared}
+use Rattle.c_means.specs.Items.{Item, typing, with_breaches, nothing, followed}
+use Rattle.c_means.specs.Initials.{Initial}
+use Rattle.c_means.specs.Statements.{Declaring, declared_entry}
 use Rattle.c_item_notes.specs.ItemTellings.{item_as}
 use Rattle.elaborate.specs.Means.{Numbering}
 use Rattle.core_objects.specs.declared.begun.Begun.{Begun}

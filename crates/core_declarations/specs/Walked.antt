@@ -1,12 +1,12 @@
 -- What it is that expressions of an initializer were gone through.
 use Rattle.std.specs.Prelude.{◌≡◌, ℕ, ◌+◌, Bool, List, [], ◌∷◌, ◌++◌, length, slice_get, Option, Some}
-use Rattle.c_type_terms.specs.declared.tables.Tables.{Tables}
+use Rattle.c_language.specs.declared.tables.Tables.{Tables}
 use Rattle.c_initials.specs.Filled.{Filled}
-use Rattle.c_says.specs.Initials.{Part, is_literal_in}
-use Rattle.c_says.specs.Scopes.{Scope}
+use Rattle.c_language.specs.Initials.{Part, is_literal_in}
+use Rattle.c_language.specs.Scopes.{Scope}
 use Rattle.c_means.specs.Parts.{Level}
-use Rattle.c_runs.specs.Notes.{Noted}
-use Rattle.c_runs.specs.Initials.{Element, Evaluates, Indexes, evaluated}
+use Rattle.c_means.specs.Notes.{Noted}
+use Rattle.c_means.specs.Initials.{Element, Evaluates, Indexes, evaluated}
 use Rattle.core_tree.specs.declared.code.Setting.{Setting}
 use Rattle.core_tree.specs.declared.expr.Expr.{Expr}
 use Rattle.core_tree.specs.declared.expr.Expr.TheVariants as expr

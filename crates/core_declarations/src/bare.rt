@@ -1,7 +1,7 @@
 //! Where no function runs: what lives throughout the run is initialised before the program starts (C99 6.2.4p3).
 ghost use Rattle.core_objects.specs.Begun.{bare};
 
-use c_tokens::Name;
+use c_language::Name;
 use c_type_scope::Scope;
 use core_exprs::{Callees, Site};
 use core_forms::{NoCore, Places};

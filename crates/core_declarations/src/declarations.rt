@@ -1,15 +1,15 @@
 //! Declarations (C99 6.7), in a block or in the file: declarators from left to right, each in the scope that those before
 //! it leave.
 ghost use Rattle.std.specs.Prelude.{◌≡◌, ℕ, not, map, option_map, Some, IfOk};
-ghost use Rattle.c_says.specs.Scopes as scopes;
-ghost use Rattle.c_says.specs.Declares as forms;
-ghost use Rattle.c_says.specs.Declarations as says;
+ghost use Rattle.c_language.specs.Scopes as scopes;
+ghost use Rattle.c_language.specs.Declares as forms;
+ghost use Rattle.c_language.specs.Declarations as says;
 ghost use Rattle.c_declares.specs.Views.{formed_in, said_in};
 ghost use Rattle.c_declarations.specs.Beginnings as beginnings;
 ghost use Rattle.c_declarations.specs.Views.{declared_in};
 ghost use Rattle.c_item_notes.specs.ItemTellings.{item_as, begun_item};
-ghost use Rattle.c_runs.specs.Initials as runs;
-ghost use Rattle.c_runs.specs.Statements as statements;
+ghost use Rattle.c_means.specs.Initials as runs;
+ghost use Rattle.c_means.specs.Statements as statements;
 ghost use Rattle.core_objects.specs.Begun.{IsBegun};
 ghost use Rattle.core_objects.specs.Given as gives;
 ghost use Rattle.core_declarations.specs.Items as spec;
@@ -20,10 +20,8 @@ use c_declarations::{
 };
 use c_declares::{Formed, Said};
 use c_initials::Filling;
-use c_says::{Duration, Means};
-use c_tree::{Declaration, InitDeclarator, Initializer, StorageClass};
+use c_language::{CType, Declaration, Duration, InitDeclarator, Initializer, Means, StorageClass};
 use c_type_scope::Scope;
-use c_type_terms::CType;
 use c_typing::{declarator, specifiers};
 use core_exprs::Callees;
 use core_forms::NoCore;

@@ -1,19 +1,17 @@
 //! An expression in the core, with what the types say of it as it stands.
 ghost use Rattle.std.specs.Prelude.{◌≡◌, IfOk};
 ghost use Rattle.c_means.specs.Parts.{Part};
-ghost use Rattle.c_runs.specs.Notes as notes;
+ghost use Rattle.c_means.specs.Notes as notes;
 ghost use Rattle.elaborate.specs.Means.{Numbering};
 ghost use Rattle.core_exprs.specs.Found.{IsFoundOf};
 ghost use Rattle.core_declarations.specs.Hearing.{IsHeard, IsHeardOf};
 
-use bit_words::Bytes;
-use c_says::{Entry, Shown, Told};
-use c_tree::Expr;
+use c_language::{Entry, Expr, Shown, Told};
 use c_type_scope::Scope;
 use core_exprs::{Callees, Found, core_of};
 use core_forms::{NoCore, Used, operand};
 use core_tree::Expr as CoreExpr;
-use plain_data::{Items, Shared};
+use plain_data::{Bytes, Items, Shared};
 use std::alloc::{AllocError, Global};
 
 /// An expression: what the types say of it as it stands, the core of its value, and its bytes where it is a string

@@ -1,12 +1,12 @@
 //! Initializers (C99 6.7.8): what they say of the object that is declared, with what their expressions set.
 ghost use Rattle.std.specs.Prelude.{◌≡◌, ◌+◌, ◌∷◌, [], ◌&&◌, true, length, slice_get, map, Some, IfOk};
-ghost use Rattle.c_type_terms.specs.Types.{element_of};
-ghost use Rattle.c_says.specs.Scopes as scopes;
-ghost use Rattle.c_says.specs.Typing.{typed_in};
-ghost use Rattle.c_says.specs.Initials as braces;
+ghost use Rattle.c_language.specs.Types.{element_of};
+ghost use Rattle.c_language.specs.Scopes as scopes;
+ghost use Rattle.c_language.specs.Typing.{typed_in};
+ghost use Rattle.c_language.specs.Initials as braces;
 ghost use Rattle.c_initials.specs.Filled.{filling_in, no_filling};
-ghost use Rattle.c_runs.specs.Initials as runs;
-ghost use Rattle.c_runs.specs.Notes.{Noted};
+ghost use Rattle.c_means.specs.Initials as runs;
+ghost use Rattle.c_means.specs.Notes.{Noted};
 ghost use Rattle.elaborate.specs.Means.{Numbering};
 ghost use Rattle.code_forms.specs.Nodes.{value_setting_node};
 ghost use Rattle.core_objects.specs.Given as gives;
@@ -15,21 +15,18 @@ ghost use Rattle.core_declarations.specs.Walked as spec;
 
 use crate::bare::Bare;
 use crate::hearing::{Heard, hear};
-use bit_words::Bytes;
 use c_initials::{
     Filling, Opened, Part, designated_by, fills_value, list_alone, list_begun, list_closed,
     value_alone, with_part_left,
 };
-use c_says::Told;
-use c_tree::{Initializer, InitializerItem};
+use c_language::{CType, Initializer, InitializerItem, Tables, Told};
 use c_type_scope::Scope;
-use c_type_terms::{CType, Tables};
 use code_forms::{text_setting, value_setting};
 use core_exprs::Callees;
 use core_forms::NoCore;
 use core_objects::{Given, Initial, and_given, none_given};
 use core_tree::{Expr, Setting};
-use plain_data::Shared;
+use plain_data::{Bytes, Shared};
 use std::alloc::{AllocError, Global};
 
 /// Where the closest braces have come to, and what the expressions set so far.

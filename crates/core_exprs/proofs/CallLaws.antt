@@ -1,13 +1,13 @@
 -- A call by a name, by what was found of its arguments.
 use Rattle.std.proofs.Common.{◌≡◌, ℕ, ℤ, List, [], ◌∷◌, Option, Some, true, false, refl, sym, ap, ap₂, ◌∙◌, subst}
-use Rattle.c_type_terms.specs.declared.ctype.CType.{CType}
-use Rattle.c_type_terms.specs.declared.tables.Tables.{Tables}
-use Rattle.c_says.specs.declared.scope.Entry.{Entry}
-use Rattle.c_says.specs.declared.shown.Shown.{Shown}
-use Rattle.c_says.specs.declared.shown.Told.{Told}
-use Rattle.c_says.specs.Scopes.{Scope}
-use Rattle.c_says.specs.Typing as says
-use Rattle.c_says.specs.Typing.{Typed, type_in, type_of, no_arguments, told_of, typed_in}
+use Rattle.c_language.specs.declared.ctype.CType.{CType}
+use Rattle.c_language.specs.declared.tables.Tables.{Tables}
+use Rattle.c_language.specs.declared.scope.Entry.{Entry}
+use Rattle.c_language.specs.declared.shown.Shown.{Shown}
+use Rattle.c_language.specs.declared.shown.Told.{Told}
+use Rattle.c_language.specs.Scopes.{Scope}
+use Rattle.c_language.specs.Typing as says
+use Rattle.c_language.specs.Typing.{Typed, type_in, type_of, no_arguments, told_of, typed_in}
 use Rattle.c_means.specs.Expressions as form
 use Rattle.c_means.specs.Expressions.{arguments_said, direct_call, passed, passed_texts, passed_types, parameters_from}
 use Rattle.c_means.specs.Expressions.{parameters_of, site}

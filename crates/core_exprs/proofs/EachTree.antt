@@ -1,15 +1,15 @@
 -- What is found of a tree, by the form that it is.
 use Rattle.std.proofs.Common.{◌≡◌, ◌<◌, ◌≤◌, ℕ, suc, ◌+◌, ℤ, List, [], ◌∷◌, ◌++◌, length, Option, map, drop, get_or, Result, IfOk, refl, sym, ap, ◌∙◌, subst}
-use Rattle.c_tokens.specs.declared.token.IntegerConstant.{IntegerConstant}
-use Rattle.c_tree.specs.declared.expr.BinaryOperator.{BinaryOperator}
-use Rattle.c_tree.specs.declared.expr.PostfixOperator.{PostfixOperator}
-use Rattle.c_tree.specs.declared.expr.UnaryOperator.{UnaryOperator}
-use Rattle.c_tree.specs.declared.expr.Expr.{Expr}
-use Rattle.c_tree.specs.declared.expr.Expr.TheVariants as expr
-use Rattle.c_tree.specs.declared.expr.TypeName.{TypeName}
-use Rattle.c_says.specs.Declares.{TypeSaid as SpecTypeSaid}
-use Rattle.c_says.specs.Scopes.{Scope, Name, look_up}
-use Rattle.c_says.specs.Typing.{Typed}
+use Rattle.c_language.specs.declared.token.IntegerConstant.{IntegerConstant}
+use Rattle.c_language.specs.declared.expr.BinaryOperator.{BinaryOperator}
+use Rattle.c_language.specs.declared.expr.PostfixOperator.{PostfixOperator}
+use Rattle.c_language.specs.declared.expr.UnaryOperator.{UnaryOperator}
+use Rattle.c_language.specs.declared.expr.Expr.{Expr}
+use Rattle.c_language.specs.declared.expr.Expr.TheVariants as expr
+use Rattle.c_language.specs.declared.expr.TypeName.{TypeName}
+use Rattle.c_language.specs.Declares.{TypeSaid as SpecTypeSaid}
+use Rattle.c_language.specs.Scopes.{Scope, Name, look_up}
+use Rattle.c_language.specs.Typing.{Typed}
 use Rattle.c_declares.specs.declared.type_names.TypeSaid.{TypeSaid}
 use Rattle.c_declares.specs.Views.{type_said_in}
 use Rattle.c_means.specs.Parts.{Part}
@@ -20,8 +20,8 @@ use Rattle.elaborate.specs.Means.{Numbering}
 use Rattle.core_forms.specs.declared.built.Used.{Used}
 use Rattle.core_forms.specs.declared.failure.NoCore.{NoCore}
 use Rattle.core_forms.specs.Built.{IsBuilt, IsUsed, IsDiscarded}
-use Rattle.c_says.specs.declared.shown.Told.{Told}
-use Rattle.c_says.specs.Typing.{typed_in}
+use Rattle.c_language.specs.declared.shown.Told.{Told}
+use Rattle.c_language.specs.Typing.{typed_in}
 use Rattle.core_exprs.specs.declared.arguments.Passing.{Passing}
 use Rattle.core_exprs.specs.Passing.{ArePassed}
 use Rattle.core_exprs.specs.declared.found.Found.{Found}

@@ -3,13 +3,13 @@ use Rattle.std.proofs.Common.{◌≡◌, ◌<◌, ◌≤◌, arith, ℕ, suc, �
 use Rattle.std.proofs.lemmas.List.{append-nil, append_assoc, drop_all}
 use Rattle.std.proofs.Math.Seq.{drop-cons}
 use Rattle.std.specs.Prelude.{get_or}
-use Rattle.c_tree.specs.declared.expr.Expr as c_tree
-use Rattle.c_type_terms.specs.declared.ctype.CType.{CType}
-use Rattle.c_type_terms.specs.declared.tables.Tables.{Tables}
-use Rattle.c_says.specs.declared.scope.Fault.{Fault}
-use Rattle.c_says.specs.declared.shown.Told.{Told}
-use Rattle.c_says.specs.Scopes.{Scope}
-use Rattle.c_says.specs.Typing.{Arguments, and_argument, no_arguments, told_of, type_in, used, used_told}
+use Rattle.c_language.specs.declared.expr.Expr as c_language
+use Rattle.c_language.specs.declared.ctype.CType.{CType}
+use Rattle.c_language.specs.declared.tables.Tables.{Tables}
+use Rattle.c_language.specs.declared.scope.Fault.{Fault}
+use Rattle.c_language.specs.declared.shown.Told.{Told}
+use Rattle.c_language.specs.Scopes.{Scope}
+use Rattle.c_language.specs.Typing.{Arguments, and_argument, no_arguments, told_of, type_in, used, used_told}
 use Rattle.c_means.specs.Expressions.{arguments_said}
 use Rattle.c_means.specs.Operators.{value_type}
 use Rattle.c_means.specs.Parts.{Level, Part}
@@ -68,7 +68,7 @@ module _ (n : Numbering) where
 
   -- ---- the loop
 
-  pub begins : (faults : List Fault) (es : List c_tree.Expr) (s : Scope) (x : Passing) → x ≡ none_passed faults
+  pub begins : (faults : List Fault) (es : List c_language.Expr) (s : Scope) (x : Passing) → x ≡ none_passed faults
       → LeadsTo n faults es s es x s
   begins faults es s x is = subst (λ x. LeadsTo n faults es s es x s) (sym is) (record {
     done = [];
@@ -77,7 +77,7 @@ module _ (n : Numbering) where
     after = refl;
   })
 
-  goes : (faults : List Fault) (es : List c_tree.Expr) (s : Scope) (e : c_tree.Expr) (rest : List c_tree.Expr)
+  goes : (faults : List Fault) (es : List c_language.Expr) (s : Scope) (e : c_language.Expr) (rest : List c_language.Expr)
       (x y : Passing) (here s1 : Scope) (f : Found) → LeadsTo n faults es s (e ∷ rest) x here
       → IsFoundOf n f (part e here) s1
       → ((ps : List Part) → ArePassed n faults ps x → ArePassed n faults (ps ++ part e here ∷ []) y)
@@ -93,7 +93,7 @@ module _ (n : Numbering) where
   add_one : (i : ℕ) → i + 1 ≡ suc i
   add_one i = omega arith
 
-  pub goes_on : (faults : List Fault) (es : List c_tree.Expr) (s : Scope) (i : ℕ) (e e' : c_tree.Expr) (x y : Passing)
+  pub goes_on : (faults : List Fault) (es : List c_language.Expr) (s : Scope) (i : ℕ) (e e' : c_language.Expr) (x y : Passing)
       (here s1 : Scope) (f : Found) → i < length es → e ≡ get_or es i e → e' ≡ e
       → LeadsTo n faults es s (drop i es) x here → IsFoundOf n f (part e' here) s1
       → ((ps : List Part) (p : Part) → ArePassed n faults ps x → IsFoundOf n f p s1 → ArePassed n faults (ps ++ p ∷ []) y)
@@ -105,14 +105,14 @@ module _ (n : Numbering) where
       goes faults es s e (drop (i + 1) es) x y here s1 f (subst (λ z. LeadsTo n faults es s z x here) cut h) found
       (λ ps g. step ps (part e here) g found)
 
-  over : (faults : List Fault) (es : List c_tree.Expr) (s : Scope) (x : Passing) (here : Scope)
+  over : (faults : List Fault) (es : List c_language.Expr) (s : Scope) (x : Passing) (here : Scope)
       → LeadsTo n faults es s [] x here → AreFound n faults es s x here
   over faults es s x here h = record {
     passed = subst (λ ps. ArePassed n faults ps x) (sym (append-nil h.done) ∙ h.all) h.passed;
     after = h.after;
   }
 
-  pub ends : (faults : List Fault) (es : List c_tree.Expr) (s : Scope) (i : ℕ) (x : Passing) (here : Scope)
+  pub ends : (faults : List Fault) (es : List c_language.Expr) (s : Scope) (i : ℕ) (x : Passing) (here : Scope)
       → length es ≤ i → LeadsTo n faults es s (drop i es) x here → AreFound n faults es s x here
   ends faults es s i x here past h =
       over faults es s x here (subst (λ z. LeadsTo n faults es s z x here) (drop_all i es past) h)

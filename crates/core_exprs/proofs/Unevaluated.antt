@@ -1,9 +1,9 @@
 -- What the types say of a tree is what its meaning says to them.
 use Rattle.std.proofs.Common.{◌≡◌, ap, sym}
-use Rattle.c_tree.specs.declared.expr.Expr.{Expr}
-use Rattle.c_tree.specs.declared.expr.TypeName.{TypeName}
-use Rattle.c_says.specs.Scopes.{Scope}
-use Rattle.c_says.specs.Trees.{typed, type_name_says}
+use Rattle.c_language.specs.declared.expr.Expr.{Expr}
+use Rattle.c_language.specs.declared.expr.TypeName.{TypeName}
+use Rattle.c_language.specs.Scopes.{Scope}
+use Rattle.c_language.specs.Trees.{typed, type_name_says}
 use Rattle.c_means.specs.Trees.{part, type_name_said}
 use Rattle.c_means.proofs.Fusion.{part_typed, type_name_same}
 

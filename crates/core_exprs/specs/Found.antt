@@ -1,10 +1,10 @@
 -- What it is that code has found the core of an expression.
 use Rattle.std.specs.Prelude.{◌≡◌, ◌++◌, false, List, map, Option, None}
-use Rattle.c_tree.specs.declared.expr.Expr as c_tree
-use Rattle.c_type_terms.specs.declared.ctype.CType.{CType}
-use Rattle.c_says.specs.declared.scope.Fault.{Fault}
-use Rattle.c_says.specs.declared.shown.Told.{Told}
-use Rattle.c_says.specs.Scopes.{Scope}
+use Rattle.c_language.specs.declared.expr.Expr as c_language
+use Rattle.c_language.specs.declared.ctype.CType.{CType}
+use Rattle.c_language.specs.declared.scope.Fault.{Fault}
+use Rattle.c_language.specs.declared.shown.Told.{Told}
+use Rattle.c_language.specs.Scopes.{Scope}
 use Rattle.c_means.specs.Expressions.{text_at}
 use Rattle.c_means.specs.Parts.{Level, Part}
 use Rattle.c_means.specs.Trees.{part, through}
@@ -30,7 +30,7 @@ pub record IsFoundOf (numbering : Numbering) (x : Found) (p : Part) (behind : Sc
   pub after : behind ≡ p.typed.after
 
 -- the core of an expression in a scope
-abbrev pub IsFound : Numbering → c_tree.Expr → Scope → Found → Scope → Type 0
+abbrev pub IsFound : Numbering → c_language.Expr → Scope → Found → Scope → Type 0
 IsFound numbering e s x behind = IsFoundOf numbering x (part e s) behind
 
 -- a part that is no string literal
@@ -38,14 +38,14 @@ abbrev pub plain : Built → Found
 plain x = record { built = x; text = None }
 
 -- arguments from left to right, each in the scope that those before it leave
-pub record AreFound (numbering : Numbering) (faults : List Fault) (es : List c_tree.Expr) (s : Scope) (x : Passing)
+pub record AreFound (numbering : Numbering) (faults : List Fault) (es : List c_language.Expr) (s : Scope) (x : Passing)
     (behind : Scope) : Type 0 where
   pub passed : ArePassed numbering faults (through (map part es) s).all x
   pub after : behind ≡ (through (map part es) s).after
 
 -- some of them, where these are left
-pub record LeadsTo (numbering : Numbering) (faults : List Fault) (es : List c_tree.Expr) (s : Scope)
-    (rest : List c_tree.Expr) (x : Passing) (here : Scope) : Type 0 where
+pub record LeadsTo (numbering : Numbering) (faults : List Fault) (es : List c_language.Expr) (s : Scope)
+    (rest : List c_language.Expr) (x : Passing) (here : Scope) : Type 0 where
   pub done : List Part
   pub passed : ArePassed numbering faults done x
   pub all : done ++ (through (map part rest) here).all ≡ (through (map part es) s).all

@@ -1,10 +1,10 @@
 -- The arguments of a call in the core (C99 6.5.2.2), one behind the other.
 use Rattle.std.specs.Prelude.{◌≡◌, ℕ, List, [], ◌∷◌, ◌++◌, Option, Some}
-use Rattle.c_type_terms.specs.declared.ctype.CType.{CType}
-use Rattle.c_type_terms.specs.declared.tables.Tables.{Tables}
-use Rattle.c_says.specs.declared.scope.Fault.{Fault}
-use Rattle.c_says.specs.declared.shown.Told.{Told}
-use Rattle.c_says.specs.Typing.{Arguments, and_argument, no_arguments, type_in}
+use Rattle.c_language.specs.declared.ctype.CType.{CType}
+use Rattle.c_language.specs.declared.tables.Tables.{Tables}
+use Rattle.c_language.specs.declared.scope.Fault.{Fault}
+use Rattle.c_language.specs.declared.shown.Told.{Told}
+use Rattle.c_language.specs.Typing.{Arguments, and_argument, no_arguments, type_in}
 use Rattle.c_means.specs.Expressions.{arguments_said, promoted_type}
 use Rattle.c_means.specs.Operators.{value_type}
 use Rattle.c_means.specs.Parts.{Level, Part}

@@ -1,5 +1,5 @@
 -- Calls, as the definition has them.
-use Rattle.c_says.specs.Scopes.{Scope}
+use Rattle.c_language.specs.Scopes.{Scope}
 use Rattle.c_means.specs.Parts as parts
 use Rattle.core_exprs.specs.declared.site.Site.{Site}
 

@@ -1,7 +1,7 @@
 //! The arguments of a call in the core, one behind the other (C99 6.5.2.2).
 ghost use Rattle.std.specs.Prelude.{◌≡◌, ◌++◌, ◌∷◌, [], List, IfOk, OnOk};
-ghost use Rattle.c_says.specs.declared.scope.Fault as fault;
-ghost use Rattle.c_says.specs.Typing.{type_in};
+ghost use Rattle.c_language.specs.declared.scope.Fault as fault;
+ghost use Rattle.c_language.specs.Typing.{type_in};
 ghost use Rattle.c_means.specs.Expressions as form;
 ghost use Rattle.c_means.specs.Parts.{Part};
 ghost use Rattle.elaborate.specs.Means.{Numbering};
@@ -10,14 +10,12 @@ ghost use Rattle.core_exprs.specs.Passing.{ArePassed, and_used, none_passed, typ
 ghost use Rattle.core_exprs.specs.Passing as spec;
 
 use crate::found::Found;
-use bit_words::Bytes;
-use c_says::{Fault, Told};
+use c_language::{Base, CType, Derivation, Fault, Tables, Told};
 use c_type_scope::Scope;
-use c_type_terms::{Base, CType, Derivation, Tables};
 use c_typing::{Arguments, and_argument, no_arguments};
 use core_forms::{NoCore, Used, converted, operand};
 use core_tree::Expr;
-use plain_data::{Items, Shared};
+use plain_data::{Bytes, Items, Shared};
 use std::alloc::{AllocError, Global};
 
 /// What was found of arguments so far, from left to right: what they say together behind the faults of the callee, the

@@ -5,7 +5,7 @@ ghost use Rattle.core_forms.specs.Nodes.{type_as};
 ghost use Rattle.core_exprs.specs.Sites.{site_of};
 
 use crate::site::Site;
-use c_tokens::Name;
+use c_language::Name;
 use c_type_scope::Scope;
 use core_forms::{NoCore, Places};
 use core_tree::Callee;

@@ -9,14 +9,12 @@ use crate::arguments::{Passing, parameters_of, put_converted, put_types, type_ag
 use crate::callees::Callees;
 use crate::found::Found;
 use crate::site::Site;
-use bit_words::Bytes;
-use c_says::{Entry, Shown, Told};
+use c_language::{CType, Entry, Shown, Told};
 use c_type_scope::Scope;
-use c_type_terms::CType;
 use c_typing::{Arguments, call as call_told};
 use core_forms::{Built, Call, NoCore, Node, type_as};
 use core_tree::Expr;
-use plain_data::{Items, Shared};
+use plain_data::{Bytes, Items, Shared};
 use std::alloc::{AllocError, Global};
 
 /// The declaration of the name that is called: a call of what is no name breaks a rule (C99 6.5.2.2p1).

@@ -9,13 +9,11 @@ use crate::callees::Callees;
 use crate::forms::{unused, used};
 use crate::found::Found;
 use crate::trees::core_of;
-use bit_words::Bytes;
-use c_tree::Expr;
+use c_language::{CType, Expr};
 use c_type_scope::Scope;
-use c_type_terms::CType;
 use core_forms::{NoCore, Used, converted, operand};
 use core_tree::Expr as CoreExpr;
-use plain_data::Shared;
+use plain_data::{Bytes, Shared};
 use std::alloc::Global;
 
 /// An expression whose value is used, as a condition's is: its core, and what the types say of its value.

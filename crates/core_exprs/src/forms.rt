@@ -1,9 +1,9 @@
 //! Forms of expressions over what was found of their parts, of which the last is taken as it stands in the names in
 //! force behind it.
 ghost use Rattle.std.specs.Prelude.{◌≡◌, ◌++◌, None, Some, IfOk, OnOk};
-ghost use Rattle.c_says.specs.Scopes as scopes;
-ghost use Rattle.c_says.specs.Typing as says;
-ghost use Rattle.c_says.specs.Typing.{typed_in};
+ghost use Rattle.c_language.specs.Scopes as scopes;
+ghost use Rattle.c_language.specs.Typing as says;
+ghost use Rattle.c_language.specs.Typing.{typed_in};
 ghost use Rattle.std.specs.Option.{option_copied};
 ghost use Rattle.core_tree.specs.declared.expr.Expr.TheVariants as expr;
 ghost use Rattle.core_forms.specs.Nodes.{a_value};
@@ -15,14 +15,11 @@ ghost use Rattle.core_exprs.specs.Found.{IsFoundOf};
 
 use crate::callees::Callees;
 use crate::found::{Found, plain};
-use bit_words::Bytes;
 use c_declares::TypeSaid;
-use c_says::{Entry, Told};
-use c_tokens::{IntegerConstant, Name};
-use c_tree::{BinaryOperator, PostfixOperator};
+use c_language::{BinaryOperator, Entry, IntegerConstant, Name, PostfixOperator, Told};
 use c_type_scope::Scope;
 use core_forms::{Built, NoCore, Used};
-use plain_data::Shared;
+use plain_data::{Bytes, Shared};
 use std::alloc::{AllocError, Global};
 
 /// An integer constant (C99 6.4.4.1). It fails for want of memory alone.

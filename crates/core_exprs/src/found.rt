@@ -2,8 +2,8 @@
 ghost use Rattle.std.specs.Prelude.{◌≡◌};
 ghost use Rattle.core_exprs.specs.Found as spec;
 
-use bit_words::Bytes;
 use core_forms::Built;
+use plain_data::Bytes;
 
 /// An expression in the core: what it is as a part, and its bytes where it is a string literal, parentheses and identity
 /// functions apart.

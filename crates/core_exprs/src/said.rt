@@ -1,12 +1,11 @@
 //! What the types say of trees that aren't evaluated, by the definition.
 ghost use Rattle.std.specs.Prelude.{◌≡◌, IfOk};
-ghost use Rattle.c_says.specs.Typing.{typed_in};
+ghost use Rattle.c_language.specs.Typing.{typed_in};
 ghost use Rattle.c_declares.specs.Views.{type_said_in};
 ghost use Rattle.c_means.specs.Trees.{part, type_name_said};
 
 use c_declares::TypeSaid;
-use c_says::Told;
-use c_tree::{Expr, TypeName};
+use c_language::{Expr, Told, TypeName};
 use c_type_scope::Scope;
 use c_typing::{type_name, typed};
 use std::alloc::{AllocError, Global};

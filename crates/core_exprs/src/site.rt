@@ -1,9 +1,7 @@
 //! Calls as they stand in the source (C99 6.5.2.2).
 
-use bit_words::Bytes;
-use c_says::Entry;
-use c_type_terms::CType;
-use plain_data::{Items, Shared};
+use c_language::{CType, Entry};
+use plain_data::{Bytes, Items, Shared};
 
 /// A call as it stands in the source, apart from the names in force behind it: the offset of the callee's name, the
 /// declaration that the name has, the type of the call, the types of its arguments as they are converted, and the bytes

@@ -1,13 +1,13 @@
 //! Unary operators (C99 6.5.3).
 ghost use Rattle.std.specs.Prelude.{IfOk};
-ghost use Rattle.c_tree.specs.declared.expr.UnaryOperator.TheVariants as u;
+ghost use Rattle.c_language.specs.declared.expr.UnaryOperator.TheVariants as u;
 ghost use Rattle.c_means.specs.Expressions as form;
 ghost use Rattle.c_means.specs.Parts.{Part};
 ghost use Rattle.elaborate.specs.Means.{Numbering};
 ghost use Rattle.core_exprs.specs.Found.{IsFoundOf};
 
 use crate::found::{Found, plain};
-use c_tree::UnaryOperator;
+use c_language::UnaryOperator;
 use c_type_scope::Scope;
 use core_forms::NoCore;
 use std::alloc::Global;

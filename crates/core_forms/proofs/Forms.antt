@@ -2,19 +2,19 @@
 use Rattle.std.proofs.Common.{◌≡◌, ℕ, ℤ, pos, Bool, false, true, List, Option, Some, None, Ok, refl, sym, ap, ap₂, ◌∙◌, subst}
 use Rattle.std.specs.Prelude.{◌++◌, unwrap_or}
 use Rattle.std.proofs.lemmas.Bool.{false≢true}
-use Rattle.c_tokens.specs.declared.token.IntegerConstant.{IntegerConstant}
-use Rattle.c_tree.specs.declared.expr.BinaryOperator.{BinaryOperator}
-use Rattle.c_tree.specs.declared.expr.BinaryOperator.TheVariants as o
-use Rattle.c_tree.specs.declared.expr.UnaryOperator.TheVariants as u
-use Rattle.c_type_terms.specs.declared.ctype.CType.{CType}
-use Rattle.c_type_terms.specs.declared.ctype.IntegerKind.{IntegerKind}
-use Rattle.c_type_terms.specs.declared.tables.Tables.{Tables}
-use Rattle.c_type_terms.specs.Integers.{promoted}
-use Rattle.c_says.specs.declared.shown.Told.{Told}
-use Rattle.c_says.specs.declared.scope.Fault.{Fault}
-use Rattle.c_says.specs.Scopes.{Scope, Name}
-use Rattle.c_says.specs.Typing.{Typed, type_of, type_in, value_in, told_of, NamedType}
-use Rattle.c_says.specs.Typing as says
+use Rattle.c_language.specs.declared.token.IntegerConstant.{IntegerConstant}
+use Rattle.c_language.specs.declared.expr.BinaryOperator.{BinaryOperator}
+use Rattle.c_language.specs.declared.expr.BinaryOperator.TheVariants as o
+use Rattle.c_language.specs.declared.expr.UnaryOperator.TheVariants as u
+use Rattle.c_language.specs.declared.ctype.CType.{CType}
+use Rattle.c_language.specs.declared.ctype.IntegerKind.{IntegerKind}
+use Rattle.c_language.specs.declared.tables.Tables.{Tables}
+use Rattle.c_language.specs.Integers.{promoted}
+use Rattle.c_language.specs.declared.shown.Told.{Told}
+use Rattle.c_language.specs.declared.scope.Fault.{Fault}
+use Rattle.c_language.specs.Scopes.{Scope, Name}
+use Rattle.c_language.specs.Typing.{Typed, type_of, type_in, value_in, told_of, NamedType}
+use Rattle.c_language.specs.Typing as says
 use Rattle.c_means.specs.Parts.{State, Part}
 use Rattle.c_means.specs.Parts as c
 use Rattle.c_means.specs.Expressions as forms
@@ -40,7 +40,7 @@ use Rattle.core_forms.specs.declared.built.Built.{Built}
 use Rattle.core_forms.specs.declared.built.Node.{Node}
 use Rattle.core_forms.specs.declared.built.Node.TheVariants as node
 use Rattle.core_forms.specs.Nodes.{Makes, a_value, a_place, operand_by, cast_type, stored_by, stored_in, type_as}
-use Rattle.c_says.specs.declared.scope.Duration.TheVariants as duration
+use Rattle.c_language.specs.declared.scope.Duration.TheVariants as duration
 use Rattle.c_means.specs.Values as worths
 use Rattle.core_forms.specs.declared.built.Used.{Used}
 use Rattle.core_forms.specs.Built.{IsPlaceOf, IsWorthOf, IsBuilt, IsUsed, IsDiscarded, IsCastOperand, IsConverted}

@@ -1,24 +1,24 @@
 -- Types of the core for those that parts have.
 use Rattle.std.proofs.Common.{◌≡◌, ℕ, ℤ, Bool, List, [], ◌∷◌, Option, Some, None, refl, sym, ap, ap₂, ◌∙◌, subst}
 use Rattle.std.specs.Prelude.{unsigned_abs}
-use Rattle.c_tree.specs.declared.expr.BinaryOperator.{BinaryOperator}
-use Rattle.c_type_terms.specs.declared.class.Class.{Class}
-use Rattle.c_type_terms.specs.declared.class.Class.TheVariants as class
-use Rattle.c_type_terms.specs.declared.ctype.Base.{Base}
-use Rattle.c_type_terms.specs.declared.ctype.Base.TheVariants as b
-use Rattle.c_type_terms.specs.declared.ctype.CType.{CType}
-use Rattle.c_type_terms.specs.declared.ctype.Derivation.{Derivation}
-use Rattle.c_type_terms.specs.declared.ctype.Derivation.TheVariants as d
-use Rattle.c_type_terms.specs.declared.ctype.IntegerKind.{IntegerKind}
-use Rattle.c_type_terms.specs.declared.ctype.IntegerKind.TheVariants as k
-use Rattle.c_type_terms.specs.declared.ctype.Qualifiers.{Qualifiers}
-use Rattle.c_type_terms.specs.declared.tables.Tables.{Tables}
-use Rattle.c_type_terms.specs.Integers.{bytes_of as kind_bytes}
-use Rattle.c_type_terms.specs.Layouts.{size_of}
-use Rattle.c_type_terms.specs.Types.{class_of}
-use Rattle.c_says.specs.declared.shown.Shown.{Shown}
-use Rattle.c_says.specs.declared.shown.Told.{Told}
-use Rattle.c_says.specs.Typing.{Typed, type_of, type_in, told_of, used_told}
+use Rattle.c_language.specs.declared.expr.BinaryOperator.{BinaryOperator}
+use Rattle.c_language.specs.declared.class.Class.{Class}
+use Rattle.c_language.specs.declared.class.Class.TheVariants as class
+use Rattle.c_language.specs.declared.ctype.Base.{Base}
+use Rattle.c_language.specs.declared.ctype.Base.TheVariants as b
+use Rattle.c_language.specs.declared.ctype.CType.{CType}
+use Rattle.c_language.specs.declared.ctype.Derivation.{Derivation}
+use Rattle.c_language.specs.declared.ctype.Derivation.TheVariants as d
+use Rattle.c_language.specs.declared.ctype.IntegerKind.{IntegerKind}
+use Rattle.c_language.specs.declared.ctype.IntegerKind.TheVariants as k
+use Rattle.c_language.specs.declared.ctype.Qualifiers.{Qualifiers}
+use Rattle.c_language.specs.declared.tables.Tables.{Tables}
+use Rattle.c_language.specs.Integers.{bytes_of as kind_bytes}
+use Rattle.c_language.specs.Layouts.{size_of}
+use Rattle.c_language.specs.Types.{class_of}
+use Rattle.c_language.specs.declared.shown.Shown.{Shown}
+use Rattle.c_language.specs.declared.shown.Told.{Told}
+use Rattle.c_language.specs.Typing.{Typed, type_of, type_in, told_of, used_told}
 use Rattle.c_means.specs.Expressions.{part_of_value}
 use Rattle.c_means.specs.Parts.{State}
 use Rattle.c_means.specs.Values as values
@@ -39,8 +39,8 @@ use Rattle.elaborate.proofs.Numbers.{converted_same}
 use Rattle.elaborate.proofs.Objects.{same_integer, same_pointer, same_block}
 use Rattle.core_forms.specs.Nodes.{stored_in, scalar_in, operand_by}
 use Rattle.core_forms.proofs.Saying.{value_told}
-use Rattle.c_says.specs.declared.scope.Entry.{Entry}
-use Rattle.c_says.specs.declared.scope.Fault.{Fault}
+use Rattle.c_language.specs.declared.scope.Entry.{Entry}
+use Rattle.c_language.specs.declared.scope.Fault.{Fault}
 
 pub some_same : {A : Type 0} (x y : A) → Some x ≡ Some y → x ≡ y
 some_same x y e = cc

@@ -1,11 +1,11 @@
 -- The core of a part's value.
 use Rattle.std.proofs.Common.{◌≡◌, ℕ, ℤ, Bool, true, false, Option, Some, None, refl, sym, ap, ap₂, ◌∙◌, subst}
 use Rattle.std.specs.Prelude.{not}
-use Rattle.c_type_terms.specs.declared.class.Class.{Class}
-use Rattle.c_type_terms.specs.declared.class.Class.TheVariants as class
-use Rattle.c_says.specs.declared.shown.Told.{Told}
-use Rattle.c_says.specs.Typing.{Typed, type_of, type_in, told_of, used_told}
-use Rattle.c_type_terms.specs.declared.tables.Tables.{Tables}
+use Rattle.c_language.specs.declared.class.Class.{Class}
+use Rattle.c_language.specs.declared.class.Class.TheVariants as class
+use Rattle.c_language.specs.declared.shown.Told.{Told}
+use Rattle.c_language.specs.Typing.{Typed, type_of, type_in, told_of, used_told}
+use Rattle.c_language.specs.declared.tables.Tables.{Tables}
 use Rattle.c_means.specs.Parts.{Part}
 use Rattle.c_means.specs.Parts as c
 use Rattle.c_means.specs.Expressions as forms

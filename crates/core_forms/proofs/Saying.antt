@@ -1,16 +1,16 @@
 -- What the code says of a form, over what it holds of the parts, is what the definition says over the parts.
 use Rattle.std.proofs.Common.{◌≡◌, ℕ, List, Option, Bool, refl, sym, ap, ap₂, ◌∙◌}
 use Rattle.std.specs.Prelude.{◌++◌}
-use Rattle.c_tokens.specs.declared.token.IntegerConstant.{IntegerConstant}
-use Rattle.c_tree.specs.declared.expr.BinaryOperator.{BinaryOperator}
-use Rattle.c_tree.specs.declared.expr.UnaryOperator.{UnaryOperator}
-use Rattle.c_type_terms.specs.declared.tables.Tables.{Tables}
-use Rattle.c_says.specs.declared.shown.Shown.{Shown}
-use Rattle.c_says.specs.declared.shown.Told.{Told}
-use Rattle.c_says.specs.declared.scope.Fault.{Fault}
-use Rattle.c_says.specs.Scopes.{Name}
-use Rattle.c_says.specs.Typing.{Typed, told_of, used_told}
-use Rattle.c_says.specs.Typing as says
+use Rattle.c_language.specs.declared.token.IntegerConstant.{IntegerConstant}
+use Rattle.c_language.specs.declared.expr.BinaryOperator.{BinaryOperator}
+use Rattle.c_language.specs.declared.expr.UnaryOperator.{UnaryOperator}
+use Rattle.c_language.specs.declared.tables.Tables.{Tables}
+use Rattle.c_language.specs.declared.shown.Shown.{Shown}
+use Rattle.c_language.specs.declared.shown.Told.{Told}
+use Rattle.c_language.specs.declared.scope.Fault.{Fault}
+use Rattle.c_language.specs.Scopes.{Name}
+use Rattle.c_language.specs.Typing.{Typed, told_of, used_told}
+use Rattle.c_language.specs.Typing as says
 
 -- a part as a value
 abbrev pub value_told : Typed → Told

@@ -1,12 +1,12 @@
 -- What it is to be the core of a part of an expression, with what the types say of the part.
 use Rattle.std.specs.Prelude.{◌≡◌, ℕ, true, false, Option, Ok}
-use Rattle.c_type_terms.specs.declared.class.Class.{Class}
-use Rattle.c_type_terms.specs.declared.ctype.CType.{CType}
-use Rattle.c_says.specs.Typing.{told_of, used_told}
+use Rattle.c_language.specs.declared.class.Class.{Class}
+use Rattle.c_language.specs.declared.ctype.CType.{CType}
+use Rattle.c_language.specs.Typing.{told_of, used_told}
 use Rattle.c_means.specs.Parts.{State, Env, Part}
 use Rattle.c_means.specs.Parts as c
-use Rattle.c_tree.specs.declared.expr.BinaryOperator.{BinaryOperator}
-use Rattle.c_tree.specs.declared.expr.UnaryOperator.{UnaryOperator}
+use Rattle.c_language.specs.declared.expr.BinaryOperator.{BinaryOperator}
+use Rattle.c_language.specs.declared.expr.UnaryOperator.{UnaryOperator}
 use Rattle.c_means.specs.Expressions.{cast_operand, loading, postfix_by, prefix}
 use Rattle.c_means.specs.Values.{class_in, converted_to}
 use Rattle.core_tree.specs.declared.types.Answered.{Answered}

@@ -1,9 +1,9 @@
 //! Addresses of lvalues that operators give, and the address operator (C99 6.5.2.1, 6.5.2.3, 6.5.3.2).
 ghost use Rattle.std.specs.Prelude.{◌≡◌, ◌++◌, false, Some, IfOk};
-ghost use Rattle.c_tree.specs.declared.expr.UnaryOperator.TheVariants as u;
-ghost use Rattle.c_tree.specs.declared.expr.BinaryOperator.TheVariants as o;
-ghost use Rattle.c_says.specs.Typing as says;
-ghost use Rattle.c_says.specs.Typing.{type_in};
+ghost use Rattle.c_language.specs.declared.expr.UnaryOperator.TheVariants as u;
+ghost use Rattle.c_language.specs.declared.expr.BinaryOperator.TheVariants as o;
+ghost use Rattle.c_language.specs.Typing as says;
+ghost use Rattle.c_language.specs.Typing.{type_in};
 ghost use Rattle.c_means.specs.Expressions as form;
 ghost use Rattle.c_means.specs.Operators.{target_in};
 ghost use Rattle.core_tree.specs.declared.expr.Expr.TheVariants as expr;
@@ -14,11 +14,8 @@ ghost use Rattle.core_forms.specs.Nodes.{Makes, a_place, extracted_node, member_
 use crate::built::{Built, Node, Used, called, placed, valued};
 use crate::failure::NoCore;
 use crate::types::{operand_type, stored_type};
-use c_says::Told;
-use c_tokens::Name;
-use c_tree::{BinaryOperator, UnaryOperator};
+use c_language::{BinaryOperator, CType, Name, Tables, Told, UnaryOperator};
 use c_type_forms as forms;
-use c_type_terms::{CType, Tables};
 use core_tree::{Expr, ValueType};
 use elaborate::operator_of;
 use plain_data::Shared;

@@ -1,8 +1,8 @@
 //! Assignment (C99 6.5.16), `++` and `--` (C99 6.5.2.4, 6.5.3.1).
 ghost use Rattle.std.specs.Prelude.{◌≡◌, ◌++◌, false, IfOk, Some, None};
-ghost use Rattle.c_tree.specs.declared.expr.BinaryOperator.TheVariants as o;
-ghost use Rattle.c_tree.specs.declared.expr.UnaryOperator.TheVariants as u;
-ghost use Rattle.c_says.specs.Typing as says;
+ghost use Rattle.c_language.specs.declared.expr.BinaryOperator.TheVariants as o;
+ghost use Rattle.c_language.specs.declared.expr.UnaryOperator.TheVariants as u;
+ghost use Rattle.c_language.specs.Typing as says;
 ghost use Rattle.core_tree.specs.declared.types.Answered.TheVariants as answered;
 ghost use Rattle.elaborate.specs.Operators as operators;
 ghost use Rattle.core_forms.specs.Nodes.{Makes, access_by, one_more, operand_by, scalar_by, step_behind, step_node, stepped_node, stored_by, stored_node, updated_node};
@@ -10,10 +10,8 @@ ghost use Rattle.core_forms.specs.Nodes.{Makes, access_by, one_more, operand_by,
 use crate::built::{Built, Node, Used, valued};
 use crate::failure::NoCore;
 use crate::types::{operand_type, scalar_type, stored_type};
-use c_says::Told;
-use c_tree::{BinaryOperator, PostfixOperator, UnaryOperator};
+use c_language::{BinaryOperator, IntegerKind, PostfixOperator, Tables, Told, UnaryOperator};
 use c_type_forms as forms;
-use c_type_terms::{IntegerKind, Tables};
 use core_tree::{Access, Answered, Expr, ValueType};
 use elaborate::{OperandType, operator_of};
 use plain_data::Shared;

@@ -1,13 +1,12 @@
 //! What parts of expressions are in the core, and their values (C99 6.3.2.1).
 ghost use Rattle.std.specs.Prelude.{◌≡◌, true, false, Some, IfOk};
-ghost use Rattle.c_says.specs.Typing.{used_told};
+ghost use Rattle.c_language.specs.Typing.{used_told};
 ghost use Rattle.core_forms.specs.Nodes.{a_value, a_place, call_node, loaded, read_node, worth_node, HasWorth};
 
 use crate::failure::NoCore;
 use crate::types::{bytes_in, class_of};
-use c_says::Told;
+use c_language::{Class, Tables, Told};
 use c_type_forms as forms;
-use c_type_terms::{Class, Tables};
 use core_tree::{Access, Callee, Expr, ValueType};
 use elaborate::value_type;
 use plain_data::{Items, Shared};

@@ -1,6 +1,6 @@
 //! The conditional operator (C99 6.5.15), and casts (C99 6.5.4).
 ghost use Rattle.std.specs.Prelude.{◌≡◌, ◌++◌, IfOk};
-ghost use Rattle.c_says.specs.Typing as says;
+ghost use Rattle.c_language.specs.Typing as says;
 ghost use Rattle.c_means.specs.Expressions as form;
 ghost use Rattle.core_tree.specs.declared.expr.Expr.TheVariants as expr;
 ghost use Rattle.core_forms.specs.Nodes as nodes;
@@ -9,9 +9,8 @@ ghost use Rattle.core_forms.specs.Nodes.{a_value, cast_type, type_by, HasWorth};
 use crate::built::{Built, Used, value_of, valued};
 use crate::failure::NoCore;
 use crate::types::{type_as, type_of};
-use c_says::{Fault, Rule};
+use c_language::{CType, Class, Fault, Rule, Tables};
 use c_type_forms as forms;
-use c_type_terms::{CType, Class, Tables};
 use core_tree::Expr;
 use elaborate::value_type;
 use plain_data::{Items, Shared};

@@ -1,14 +1,12 @@
 //! Constants, and what is worth one (C99 6.4.4, 6.5.3.4).
 ghost use Rattle.std.specs.Prelude.{◌≡◌, pos, unwrap_or, IfOk};
-ghost use Rattle.c_says.specs.Typing as says;
+ghost use Rattle.c_language.specs.Typing as says;
 ghost use Rattle.core_tree.specs.declared.expr.Expr.TheVariants as expr;
 ghost use Rattle.core_forms.specs.Nodes.{a_value};
 
 use crate::built::{Built, valued};
-use c_says::{Fault, Rule, Told};
-use c_tokens::IntegerConstant;
+use c_language::{CType, Fault, IntegerConstant, Rule, Tables, Told};
 use c_type_forms as forms;
-use c_type_terms::{CType, Tables};
 use core_tree::Expr;
 use plain_data::Items;
 use std::alloc::{AllocError, Global};

@@ -1,21 +1,18 @@
 //! Names, string literals and `__func__` (C99 6.5.1, 6.4.5, 6.4.2.2).
 ghost use Rattle.std.specs.Prelude.{◌≡◌, [], false, IfOk};
 ghost use Rattle.std.specs.Option.{option_copied};
-ghost use Rattle.c_says.specs.Scopes.{Scope};
-ghost use Rattle.c_says.specs.Typing as says;
+ghost use Rattle.c_language.specs.Scopes.{Scope};
+ghost use Rattle.c_language.specs.Typing as says;
 ghost use Rattle.core_tree.specs.declared.expr.Expr.TheVariants as expr;
 ghost use Rattle.elaborate.specs.Means.{Numbering};
 ghost use Rattle.core_forms.specs.Nodes.{Makes, a_place, is_object, named_node};
 
 use crate::built::{Built, placed, valued};
 use crate::failure::NoCore;
-use bit_words::Bytes;
-use c_says::{Duration, Entry, Means};
-use c_tokens::Name;
+use c_language::{Duration, Entry, Means, Name, Tables};
 use c_type_forms as forms;
-use c_type_terms::Tables;
 use core_tree::Expr;
-use plain_data::Shared;
+use plain_data::{Bytes, Shared};
 use std::alloc::Global;
 
 /// Where objects and functions are that live throughout the run.

@@ -1,7 +1,7 @@
 //! Binary operators (C99 6.5.5 to 6.5.14), and the comma (C99 6.5.17).
 ghost use Rattle.std.specs.Prelude.{◌≡◌, ◌++◌, false, IfOk};
-ghost use Rattle.c_tree.specs.declared.expr.BinaryOperator.TheVariants as o;
-ghost use Rattle.c_says.specs.Typing as says;
+ghost use Rattle.c_language.specs.declared.expr.BinaryOperator.TheVariants as o;
+ghost use Rattle.c_language.specs.Typing as says;
 ghost use Rattle.core_tree.specs.declared.expr.Expr.TheVariants as expr;
 ghost use Rattle.elaborate.specs.Operators as operators;
 ghost use Rattle.core_forms.specs.Nodes as nodes;
@@ -10,9 +10,8 @@ ghost use Rattle.core_forms.specs.Nodes.{Makes, a_value, binary_node, operand_by
 use crate::built::{Built, Used, valued};
 use crate::failure::NoCore;
 use crate::types::{is_constant, operand_type};
-use c_tree::BinaryOperator;
+use c_language::{BinaryOperator, Tables};
 use c_type_forms as forms;
-use c_type_terms::Tables;
 use core_tree::Expr;
 use elaborate::operator_of;
 use std::alloc::{AllocError, Global};

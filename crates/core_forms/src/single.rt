@@ -1,7 +1,7 @@
 //! Unary arithmetic operators (C99 6.5.3.3).
 ghost use Rattle.std.specs.Prelude.{◌≡◌, false, IfOk};
-ghost use Rattle.c_tree.specs.declared.expr.UnaryOperator.TheVariants as u;
-ghost use Rattle.c_says.specs.Typing as says;
+ghost use Rattle.c_language.specs.declared.expr.UnaryOperator.TheVariants as u;
+ghost use Rattle.c_language.specs.Typing as says;
 ghost use Rattle.c_means.specs.Operators.{kind_in};
 ghost use Rattle.core_tree.specs.declared.expr.Expr.TheVariants as expr;
 ghost use Rattle.core_tree.specs.declared.types.Turning.TheVariants as turn;
@@ -11,10 +11,8 @@ ghost use Rattle.core_forms.specs.Nodes.{Makes, a_value, turned_node};
 use crate::built::{Built, Used, valued};
 use crate::failure::NoCore;
 use crate::types::{is_constant, kind_of};
-use c_says::Told;
-use c_tree::UnaryOperator;
+use c_language::{IntegerKind, Tables, Told, UnaryOperator};
 use c_type_forms::unary;
-use c_type_terms::{IntegerKind, Tables};
 use core_tree::{Expr, Turning};
 use elaborate::word_type;
 use plain_data::Shared;

@@ -1,13 +1,12 @@
 //! Types of values of parts.
 ghost use Rattle.std.specs.Prelude.{◌≡◌, Some, IfOk};
-ghost use Rattle.c_says.specs.Typing.{type_in};
+ghost use Rattle.c_language.specs.Typing.{type_in};
 ghost use Rattle.c_means.specs.Operators.{kind_in, target_in};
 ghost use Rattle.c_means.specs.Values as values;
 ghost use Rattle.c_means.specs.Values.{class_in, bytes_of};
 ghost use Rattle.core_forms.specs.Nodes as nodes;
 
-use c_says::Told;
-use c_type_terms::{CType, Class, IntegerKind, Tables};
+use c_language::{CType, Class, IntegerKind, Tables, Told};
 use core_tree::ValueType;
 use elaborate::{OperandType, value_type};
 use std::alloc::{AllocError, Global};

@@ -2,27 +2,27 @@
 use Rattle.std.proofs.Common.{◌≡◌, Bool, false, List, [], ◌∷◌, map, Option, Some, None, refl, sym, ap, ◌∙◌}
 use Rattle.std.proofs.Common.{subst}
 use Rattle.std.specs.Prelude.{◌↔◌, IsTrue, not}
-use Rattle.c_tree.specs.declared.expr.Declarator.{Declarator}
-use Rattle.c_tree.specs.declared.expr.Specifier.{Specifier}
-use Rattle.c_tree.specs.declared.unit.Body.TheVariants as body_
-use Rattle.c_tree.specs.declared.unit.External.TheVariants as external
-use Rattle.c_tree.specs.declared.unit.Stmt.{Stmt}
-use Rattle.c_type_terms.specs.declared.tables.Tables.{Tables}
-use Rattle.c_says.specs.declared.scope.Entry.{Entry}
-use Rattle.c_says.specs.Scopes.{Name, Scope, leave}
-use Rattle.c_says.specs.Declares.{Saying, DeclaratorSays}
-use Rattle.c_says.specs.Declarations.{FunctionSaid, function_by}
-use Rattle.c_says.specs.Trees.{declarator_says, specifier_says}
-use Rattle.c_says.specs.Units.{function_says}
+use Rattle.c_language.specs.declared.expr.Declarator.{Declarator}
+use Rattle.c_language.specs.declared.expr.Specifier.{Specifier}
+use Rattle.c_language.specs.declared.unit.Body.TheVariants as body_
+use Rattle.c_language.specs.declared.unit.External.TheVariants as external
+use Rattle.c_language.specs.declared.unit.Stmt.{Stmt}
+use Rattle.c_language.specs.declared.tables.Tables.{Tables}
+use Rattle.c_language.specs.declared.scope.Entry.{Entry}
+use Rattle.c_language.specs.Scopes.{Name, Scope, leave}
+use Rattle.c_language.specs.Declares.{Saying, DeclaratorSays}
+use Rattle.c_language.specs.Declarations.{FunctionSaid, function_by}
+use Rattle.c_language.specs.Trees.{declarator_says, specifier_says}
+use Rattle.c_language.specs.Units.{function_says}
 use Rattle.c_declarations.specs.declared.functions.FunctionSaid.{FunctionSaid as Said}
 use Rattle.c_declarations.specs.Views.{function_in}
 use Rattle.c_means.specs.Values as values
 use Rattle.c_means.proofs.Fusion as means_fusion
-use Rattle.c_runs.specs.Names.{Names}
-use Rattle.c_runs.specs.Notes.{declarator_noted, specifier_noted}
-use Rattle.c_runs.specs.Programs.{body_item, function_from, outer, with_function}
-use Rattle.c_runs.specs.Statements.{stmt, returns_void}
-use Rattle.c_runs.proofs.Fusion as notes_fusion
+use Rattle.c_means.specs.Names.{Names}
+use Rattle.c_means.specs.Notes.{declarator_noted, specifier_noted}
+use Rattle.c_means.specs.Programs.{body_item, function_from, outer, with_function}
+use Rattle.c_means.specs.Statements.{stmt, returns_void}
+use Rattle.c_means.proofs.RunFusion as notes_fusion
 use Rattle.core_tree.specs.declared.code.Code.{Code}
 use Rattle.core_tree.specs.declared.program.Parameter.{Parameter}
 use Rattle.core_tree.specs.declared.types.ValueType.{ValueType}

@@ -2,18 +2,18 @@
 use Rattle.std.proofs.Common.{◌≡◌, ℕ, ◌+◌, ◌<◌, ◌≤◌, true, List, [], ◌∷◌, ◌++◌, length, drop, get_or, Option}
 use Rattle.std.proofs.Common.{sym, ap, ◌∙◌, subst}
 use Rattle.std.proofs.lemmas.List.{drop_all}
-use Rattle.c_tree.specs.declared.expr.Declarator.{Declarator}
-use Rattle.c_tree.specs.declared.expr.Specifier.{Specifier}
-use Rattle.c_tree.specs.declared.unit.Body.{Body as SourceBody}
-use Rattle.c_tree.specs.declared.unit.Body.TheVariants as body_
-use Rattle.c_tree.specs.declared.unit.External.{External}
-use Rattle.c_tree.specs.declared.unit.External.TheVariants as external
-use Rattle.c_tree.specs.declared.unit.Stmt.{Stmt}
-use Rattle.c_says.specs.Scopes.{Name, Scope, empty}
+use Rattle.c_language.specs.declared.expr.Declarator.{Declarator}
+use Rattle.c_language.specs.declared.expr.Specifier.{Specifier}
+use Rattle.c_language.specs.declared.unit.Body.{Body as SourceBody}
+use Rattle.c_language.specs.declared.unit.Body.TheVariants as body_
+use Rattle.c_language.specs.declared.unit.External.{External}
+use Rattle.c_language.specs.declared.unit.External.TheVariants as external
+use Rattle.c_language.specs.declared.unit.Stmt.{Stmt}
+use Rattle.c_language.specs.Scopes.{Name, Scope, empty}
 use Rattle.c_means.specs.Parts as c
-use Rattle.c_runs.specs.Items as runs
-use Rattle.c_runs.specs.Programs.{Function, Outer, function_if, functions_of, outer, program_of}
-use Rattle.c_runs.specs.Prelude as texts
+use Rattle.c_means.specs.Items as runs
+use Rattle.c_means.specs.Programs.{Function, Outer, function_if, functions_of, outer, program_of}
+use Rattle.c_means.specs.Prelude as texts
 use Rattle.core_tree.specs.declared.program.Function.{Function as CoreFunction}
 use Rattle.core_tree.specs.Codes.{Item}
 use Rattle.core_tree.specs.Programs.{Body, body_of}

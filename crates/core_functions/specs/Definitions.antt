@@ -1,10 +1,10 @@
 -- What it is to be the core of a function definition (C99 6.9.1), and of the functions of the library that have a body.
 use Rattle.std.specs.Prelude.{◌≡◌, ◌↔◌, IsTrue, true, Bool, List, [], ◌∷◌, ◌++◌, Option, Some, not}
-use Rattle.c_says.specs.declared.scope.Entry.{Entry}
-use Rattle.c_says.specs.Declarations.{FunctionSaid}
-use Rattle.c_runs.specs.Items.{Item}
-use Rattle.c_runs.specs.Programs.{Function, Outer}
-use Rattle.c_runs.specs.Statements.{returns_void}
+use Rattle.c_language.specs.declared.scope.Entry.{Entry}
+use Rattle.c_language.specs.Declarations.{FunctionSaid}
+use Rattle.c_means.specs.Items.{Item}
+use Rattle.c_means.specs.Programs.{Function, Outer}
+use Rattle.c_means.specs.Statements.{returns_void}
 use Rattle.core_tree.specs.declared.code.Code.{Code}
 use Rattle.core_tree.specs.declared.code.Code.TheVariants as code
 use Rattle.core_tree.specs.declared.expr.Expr.{Expr}

@@ -1,14 +1,13 @@
 //! Function definitions (C99 6.9.1).
 ghost use Rattle.std.specs.Prelude.{◌≡◌, ◌↔◌, IsTrue, IfOk};
-ghost use Rattle.c_tree.specs.declared.unit.Body.TheVariants as body_;
-ghost use Rattle.c_tree.specs.declared.unit.External.TheVariants as external;
-ghost use Rattle.c_runs.specs.Programs.{outer};
+ghost use Rattle.c_language.specs.declared.unit.Body.TheVariants as body_;
+ghost use Rattle.c_language.specs.declared.unit.External.TheVariants as external;
+ghost use Rattle.c_means.specs.Programs.{outer};
 ghost use Rattle.core_functions.specs.Definitions as spec;
 
 use crate::heads::{Head, entered};
 use c_declarations::function_says;
-use c_tokens::Name;
-use c_tree::{Declarator, Specifier, Stmt};
+use c_language::{Declarator, Name, Specifier, Stmt};
 use c_type_scope::Scope;
 use code_forms::Content;
 use core_codes::{Body, Context, Parts, content};

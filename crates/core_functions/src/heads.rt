@@ -1,16 +1,14 @@
 //! Heads of function definitions (C99 6.9.1): their names, what they return, and their parameters.
 ghost use Rattle.std.specs.Prelude.{◌≡◌, not, IfOk};
 ghost use Rattle.c_declarations.specs.Views.{function_in};
-ghost use Rattle.c_runs.specs.Statements.{returns_void};
+ghost use Rattle.c_means.specs.Statements.{returns_void};
 ghost use Rattle.elaborate.specs.Means.{IsParameter, AreParameters};
 ghost use Rattle.core_functions.specs.Definitions.{IsHeadOf};
 
 use c_declarations::FunctionSaid;
-use c_says::{Entry, Means};
-use c_tokens::Name;
+use c_language::{CType, Entry, Means, Name};
 use c_type_forms::is_void;
 use c_type_scope::Scope;
-use c_type_terms::CType;
 use core_codes::Context;
 use core_forms::{NoCore, stored_as, type_as};
 use core_tree::{Parameter, ValueType};

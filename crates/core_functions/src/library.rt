@@ -1,14 +1,14 @@
 //! The functions of the C library that have a body here (C99 7.20.1.2, 7.21).
 ghost use Rattle.std.specs.Prelude.{◌≡◌, ◌∷◌, [], IfOk};
-ghost use Rattle.c_runs.specs.Programs.{functions_of, program_of};
-ghost use Rattle.c_runs.specs.Prelude as texts;
+ghost use Rattle.c_means.specs.Programs.{functions_of, program_of};
+ghost use Rattle.c_means.specs.Prelude as texts;
 ghost use Rattle.elaborate.specs.Means.{Numbering};
 ghost use Rattle.core_programs.specs.Programs.{no_calls};
 ghost use Rattle.core_functions.specs.Definitions.{ArePrelude};
 
 use crate::definitions::{Definition, define};
+use c_language::{Body, External};
 use c_prelude::prelude;
-use c_tree::{Body, External};
 use c_type_scope::Scope;
 use core_codes::Parts;
 use core_forms::NoCore;

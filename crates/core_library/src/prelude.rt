@@ -1,6 +1,6 @@
 //! The functions of the C library that have a body here (C99 7.20.1.2, 7.21).
 ghost use Rattle.std.specs.Prelude.{IfOk};
-ghost use Rattle.c_runs.specs.Prelude as texts;
+ghost use Rattle.c_means.specs.Prelude as texts;
 ghost use Rattle.core_functions.specs.Definitions.{ArePrelude};
 
 use crate::uncalled::Uncalled;

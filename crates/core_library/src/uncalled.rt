@@ -1,7 +1,7 @@
 //! Where nothing is called.
 ghost use Rattle.core_programs.specs.Programs.{no_calls};
 
-use c_tokens::Name;
+use c_language::Name;
 use c_type_scope::Scope;
 use core_exprs::{Callees, Site};
 use core_forms::{NoCore, Places};

@@ -8,7 +8,7 @@ use Rattle.core_tree.specs.declared.code.Code.{Code, fold-roll-Code}
 use Rattle.core_tree.specs.declared.code.Code.TheOpen as code_open
 use Rattle.core_tree.specs.declared.code.Code.TheVariants as tree
 use Rattle.core_tree.specs.declared.code.Code.TheVariants.{rolls-Nothing, rolls-Value, rolls-Declare, rolls-Static, rolls-Block, rolls-Label, rolls-Case, rolls-Default, rolls-If, rolls-Switch, rolls-Loop, rolls-Repeat, rolls-Goto, rolls-Continue, rolls-Break, rolls-Return}
-use Rattle.c_says.specs.Scopes.{Name}
+use Rattle.c_language.specs.Scopes.{Name}
 use Rattle.core_marks.specs.Marks.{sides, switch_marks, value_marks, values_marks, option_marks, settings_marks, test_marks}
 use Rattle.core_marks.specs.Marks.{code_step, code_marks, items_marks}
 

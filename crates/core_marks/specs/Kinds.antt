@@ -1,7 +1,7 @@
 -- The kinds of undefined behaviour that operators can have, whatever their operands (C99 6.5).
 use Rattle.std.specs.Prelude.{Bool, true, false, cond, List, [], ◌∷◌, ◌++◌}
-use Rattle.bit_words.specs.declared.run.Undefined.{Undefined}
-use Rattle.bit_words.specs.declared.run.Undefined.TheVariants.{Overflow, ZeroDivisor, Shift, PointerRange, PointerOrder}
+use Rattle.plain_data.specs.declared.run.Undefined.{Undefined}
+use Rattle.plain_data.specs.declared.run.Undefined.TheVariants.{Overflow, ZeroDivisor, Shift, PointerRange, PointerOrder}
 use Rattle.core_tree.specs.declared.types.Arithmetic.{Arithmetic}
 use Rattle.core_tree.specs.declared.types.Arithmetic.TheVariants as o
 use Rattle.core_tree.specs.declared.types.Operator.{Operator}

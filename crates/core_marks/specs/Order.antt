@@ -3,8 +3,8 @@
 use Rattle.std.specs.Prelude.{ℕ, ◌+◌, Bool, List}
 use Rattle.std.specs.List.Sorted.{IsPermutation, IsSortedBy, IsStableBy}
 use Rattle.std.specs.Ordering.{is_lt, nat_cmp, ordering_then}
-use Rattle.bit_words.specs.declared.run.Undefined.{Undefined}
-use Rattle.bit_words.specs.declared.run.Undefined.TheVariants as undefined
+use Rattle.plain_data.specs.declared.run.Undefined.{Undefined}
+use Rattle.plain_data.specs.declared.run.Undefined.TheVariants as undefined
 use Rattle.core_marks.specs.declared.mark.Mark.{Mark}
 use Rattle.core_marks.specs.declared.mark.Mark.TheVariants.{Branch, Call, Body, Log, Exit, Abort, Stop}
 use Rattle.core_marks.specs.declared.ordering.Rank.{Rank}

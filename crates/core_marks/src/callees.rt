@@ -4,9 +4,8 @@ ghost use Rattle.core_marks.specs.Marks as marks;
 
 use crate::copying::copy_pieces;
 use crate::mark::{Mark, Site};
-use bit_words::Undefined;
 use core_tree::{Callee, Fill, Watched};
-use plain_data::Items;
+use plain_data::{Items, Undefined};
 use printf_text::{Form, Piece};
 use std::alloc::{AllocError, Global};
 

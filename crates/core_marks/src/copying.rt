@@ -1,8 +1,7 @@
 //! Copies of the pieces of a format. All fail for want of memory alone.
 ghost use Rattle.std.specs.Prelude.{◌≡◌, IfOk};
 
-use bit_words::Bytes;
-use plain_data::Items;
+use plain_data::{Bytes, Items};
 use printf_text::{Piece, Pieces};
 use std::alloc::{AllocError, Global};
 

@@ -1,8 +1,7 @@
 //! What stands at a token.
 
-use bit_words::{Side, Undefined};
 use core_tree::Watched;
-use plain_data::Items;
+use plain_data::{Items, Side, Undefined};
 use printf_text::Pieces;
 
 /// A log call: the byte offset of the callee's name, the pieces of the format with the newline that is added, and the

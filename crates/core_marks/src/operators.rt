@@ -1,13 +1,12 @@
 //! The kinds of undefined behaviour of operators and accesses (C99 6.5). All fail for want of memory alone.
 ghost use Rattle.std.specs.Prelude.{◌≡◌, ◌++◌, OnOk};
-ghost use Rattle.bit_words.specs.declared.run.Side.TheVariants as side;
+ghost use Rattle.plain_data.specs.declared.run.Side.TheVariants as side;
 ghost use Rattle.core_marks.specs.Kinds as kinds;
 ghost use Rattle.core_marks.specs.Marks as marks;
 
 use crate::mark::Mark;
-use bit_words::{Side, Undefined};
 use core_tree::{Access, Arithmetic, Operator, Turning, WordType};
-use plain_data::Items;
+use plain_data::{Items, Side, Undefined};
 use std::alloc::AllocError;
 
 /// Puts a kind of undefined behaviour at the end.

@@ -3,8 +3,7 @@ ghost use Rattle.std.specs.Prelude.{◌≡◌, IfOk};
 ghost use Rattle.core_marks.specs.Order as order;
 
 use crate::mark::Mark;
-use bit_words::Undefined;
-use plain_data::Items;
+use plain_data::{Items, Undefined};
 use std::alloc::AllocError;
 
 /// Where a mark stands among others: by its token, and at one token by what it says.

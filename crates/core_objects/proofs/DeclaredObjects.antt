@@ -5,14 +5,14 @@ use Rattle.std.proofs.lemmas.List.{append-nil}
 use Rattle.c_store.specs.Store.{start}
 use Rattle.c_means.specs.Parts.{State, Env}
 use Rattle.c_means.specs.Parts as c
-use Rattle.c_says.specs.declared.scope.Entry.{Entry}
-use Rattle.c_says.specs.declared.scope.Linkage.{Linkage}
-use Rattle.c_says.specs.declared.scope.Means.{Means}
-use Rattle.c_says.specs.Scopes.{Scope, Name}
-use Rattle.c_runs.specs.declared.breach.Breach.{Breach}
-use Rattle.c_runs.specs.Initials as initials
-use Rattle.c_runs.specs.Items as runs
-use Rattle.c_runs.specs.Statements as statements
+use Rattle.c_language.specs.declared.scope.Entry.{Entry}
+use Rattle.c_language.specs.declared.scope.Linkage.{Linkage}
+use Rattle.c_language.specs.declared.scope.Means.{Means}
+use Rattle.c_language.specs.Scopes.{Scope, Name}
+use Rattle.c_means.specs.declared.breach.Breach.{Breach}
+use Rattle.c_means.specs.Initials as initials
+use Rattle.c_means.specs.Items as runs
+use Rattle.c_means.specs.Statements as statements
 use Rattle.core_tree.specs.declared.code.Code.{Code}
 use Rattle.core_tree.specs.declared.code.Code.TheVariants as tree
 use Rattle.core_tree.specs.declared.program.LastingSetting.{LastingSetting}

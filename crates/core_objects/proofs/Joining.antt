@@ -1,8 +1,8 @@
 -- Declarations one behind the other.
 use Rattle.std.proofs.Common.{◌≡◌, List, [], ◌∷◌, ◌++◌, refl, sym, ap, ap₂, ◌∙◌}
 use Rattle.std.proofs.lemmas.List.{append-nil, append_assoc}
-use Rattle.c_says.specs.Scopes.{Scope}
-use Rattle.c_runs.specs.Items.{Item, Lasting, followed}
+use Rattle.c_language.specs.Scopes.{Scope}
+use Rattle.c_means.specs.Items.{Item, Lasting, followed}
 use Rattle.core_tree.specs.declared.code.Code.{Code}
 use Rattle.core_tree.specs.declared.program.LastingSetting.{LastingSetting}
 use Rattle.elaborate.specs.Means.{Numbering}

@@ -2,11 +2,11 @@
 use Rattle.std.proofs.Common.{◌≡◌, ℕ, ◌+◌, ℤ, Bool, true, false, cond, List, [], ◌∷◌, Option, Some, None, Ok, Err}
 use Rattle.std.proofs.Common.{refl, sym, ap, ap₂, ◌∙◌, subst}
 use Rattle.std.specs.Prelude.{pos, negsuc, ◌-ℤ◌, not, ◌||◌}
-use Rattle.bit_words.specs.declared.run.Happening.TheVariants as happening
-use Rattle.bit_words.specs.declared.run.Side.TheVariants as side
-use Rattle.bit_words.specs.declared.run.Undefined.TheVariants as undefined
-use Rattle.c_type_terms.specs.Integers.{is_zero, number_of}
-use Rattle.c_type_terms.specs.Operators.{Answer}
+use Rattle.plain_data.specs.declared.run.Happening.TheVariants as happening
+use Rattle.plain_data.specs.declared.run.Side.TheVariants as side
+use Rattle.plain_data.specs.declared.run.Undefined.TheVariants as undefined
+use Rattle.c_language.specs.Integers.{is_zero, number_of}
+use Rattle.c_language.specs.Operators.{Answer}
 use Rattle.c_store.specs.Access.{can_access, in_one_object}
 use Rattle.c_store.specs.Store.{read}
 use Rattle.c_means.specs.Parts.{Env}

@@ -7,10 +7,10 @@ use Rattle.c_means.specs.declared.kind.Kind.{Kind}
 use Rattle.c_means.specs.declared.kind.Kind.TheVariants as k
 use Rattle.c_means.specs.Parts.{State, Env}
 use Rattle.c_means.specs.Parts as c
-use Rattle.c_says.specs.declared.scope.Entry.{Entry}
-use Rattle.c_runs.specs.Initials as initials
-use Rattle.c_runs.specs.Items as runs
-use Rattle.c_runs.specs.Statements.{no_env, lasting_object}
+use Rattle.c_language.specs.declared.scope.Entry.{Entry}
+use Rattle.c_means.specs.Initials as initials
+use Rattle.c_means.specs.Items as runs
+use Rattle.c_means.specs.Statements.{no_env, lasting_object}
 use Rattle.core_tree.specs.declared.code.Setting.{Setting}
 use Rattle.core_tree.specs.declared.code.Setting.TheVariants as setting
 use Rattle.core_tree.specs.declared.expr.Expr.{Expr}

@@ -1,7 +1,7 @@
 -- What it is to be the core of a declaration: the codes of its items, and what is set before the program starts.
 use Rattle.std.specs.Prelude.{◌≡◌, List, [], ◌∷◌, ◌++◌}
-use Rattle.c_says.specs.Scopes.{Scope}
-use Rattle.c_runs.specs.Items.{Item, Lasting}
+use Rattle.c_language.specs.Scopes.{Scope}
+use Rattle.c_means.specs.Items.{Item, Lasting}
 use Rattle.core_tree.specs.declared.code.Code.{Code}
 use Rattle.core_tree.specs.declared.program.LastingSetting.{LastingSetting}
 use Rattle.elaborate.specs.Means.{Numbering}

@@ -1,10 +1,10 @@
 -- What an initializer gives to an object: what its expressions set, one behind the other.
 use Rattle.std.specs.Prelude.{◌≡◌, ℕ, Bool, true, false, List, [], ◌∷◌, ◌++◌, map, Some}
-use Rattle.c_says.specs.Initials.{Part}
+use Rattle.c_language.specs.Initials.{Part}
 use Rattle.c_means.specs.Parts.{State, Env}
 use Rattle.c_means.specs.Parts as c
-use Rattle.c_runs.specs.Notes.{Noted}
-use Rattle.c_runs.specs.Initials as initials
+use Rattle.c_means.specs.Notes.{Noted}
+use Rattle.c_means.specs.Initials as initials
 use Rattle.core_tree.specs.declared.code.Setting.{Setting}
 use Rattle.core_tree.specs.declared.expr.Expr.{Expr}
 use Rattle.core_tree.specs.declared.program.LastingSetting.{LastingSetting}

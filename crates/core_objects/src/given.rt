@@ -1,6 +1,6 @@
 //! What an initializer gives to an object.
 ghost use Rattle.std.specs.Prelude.{◌≡◌, IfOk};
-ghost use Rattle.c_runs.specs.Initials as initials;
+ghost use Rattle.c_means.specs.Initials as initials;
 ghost use Rattle.elaborate.specs.Means.{Numbering};
 ghost use Rattle.core_objects.specs.Given as spec;
 

@@ -1,10 +1,10 @@
 //! Declared objects (C99 6.2.4, 6.7.8).
 ghost use Rattle.std.specs.Prelude.{◌≡◌, ℕ, Bool, true, IfOk, IfSome};
 ghost use Rattle.core_tree.specs.declared.code.Code.TheVariants as code;
-ghost use Rattle.c_says.specs.declared.scope.Linkage.{Linkage as Linkages};
-ghost use Rattle.c_says.specs.Scopes as scopes;
-ghost use Rattle.c_runs.specs.Initials as runs;
-ghost use Rattle.c_runs.specs.Statements as statements;
+ghost use Rattle.c_language.specs.declared.scope.Linkage.{Linkage as Linkages};
+ghost use Rattle.c_language.specs.Scopes as scopes;
+ghost use Rattle.c_means.specs.Initials as runs;
+ghost use Rattle.c_means.specs.Statements as statements;
 ghost use Rattle.elaborate.specs.Means.{Numbering};
 ghost use Rattle.core_objects.specs.Begun.{IsBegun, bare};
 ghost use Rattle.core_objects.specs.Given as gives;
@@ -12,7 +12,7 @@ ghost use Rattle.core_objects.specs.Given as gives;
 use crate::begun::{Begun, nothing_begun, one_begun};
 use crate::given::{Given, Initial};
 use crate::quiet::lasting_settings;
-use c_says::{Duration, Entry, Means};
+use c_language::{Duration, Entry, Means};
 use c_type_scope::Scope;
 use code_forms::{automatic_object, bytes_of, lasting_object};
 use core_forms::{NoCore, Places};

@@ -1,10 +1,10 @@
 //! The parts of statements, over what a function's calls are.
 ghost use Rattle.std.specs.Prelude.{IfOk};
-ghost use Rattle.c_runs.specs.Notes as notes;
-ghost use Rattle.c_runs.specs.Statements as form;
+ghost use Rattle.c_means.specs.Notes as notes;
+ghost use Rattle.c_means.specs.Statements as form;
 ghost use Rattle.core_codes.specs.Parts as spec;
 
-use c_tree as tree;
+use c_language as tree;
 use c_type_scope::Scope;
 use core_codes::{Begun, Parts, Valued};
 use core_declarations::{Heard, hear};

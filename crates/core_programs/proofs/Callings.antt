@@ -5,12 +5,12 @@ use Rattle.c_store.specs.Store.{Store}
 use Rattle.c_means.specs.Parts.{State, Env}
 use Rattle.c_means.specs.Parts as c
 use Rattle.c_means.specs.Values as values
-use Rattle.c_runs.specs.declared.profile.LogText.{LogText}
-use Rattle.c_runs.specs.Calls as calls
-use Rattle.c_runs.specs.Programs.{Function, watched_lasting}
-use Rattle.c_runs.specs.Rules.{Rules, LogCall, IdentityCall, BodyCall, LibraryCall, PreludeCall, OutsideCall, Library, Exit, Abort, Malloc, Calloc, Free}
-use Rattle.c_runs.specs.Rules as rules
-use Rattle.c_runs.specs.Runs as whole
+use Rattle.c_means.specs.declared.profile.LogText.{LogText}
+use Rattle.c_means.specs.Calls as calls
+use Rattle.c_means.specs.Programs.{Function, watched_lasting}
+use Rattle.c_means.specs.Rules.{Rules, LogCall, IdentityCall, BodyCall, LibraryCall, PreludeCall, OutsideCall, Library, Exit, Abort, Malloc, Calloc, Free}
+use Rattle.c_means.specs.Rules as rules
+use Rattle.c_means.specs.Runs as whole
 use Rattle.core_tree.specs.declared.expr.Callee.{Callee}
 use Rattle.core_tree.specs.declared.expr.Callee.TheVariants as callee
 use Rattle.core_tree.specs.declared.expr.Watched.{Watched}

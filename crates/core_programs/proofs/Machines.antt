@@ -1,35 +1,35 @@
 -- Where each function that has a number has its core there, the core's machine is that of the program.
 use Rattle.std.proofs.Common.{◌≡◌, ℕ, ◌+◌, ℤ, pos, negsuc, Bool, true, false, cond, List, [], ◌∷◌, ◌++◌, length, drop}
 use Rattle.std.proofs.Common.{Option, Some, None, refl, sym, ap, ap₂, ◌∙◌, subst}
-use Rattle.bit_words.specs.declared.run.Happening.TheVariants as happening
+use Rattle.plain_data.specs.declared.run.Happening.TheVariants as happening
 use Rattle.printf_text.specs.declared.piece.Form.{Form}
 use Rattle.printf_text.specs.declared.piece.Form.TheVariants as form
 use Rattle.printf_text.specs.declared.piece.Piece.{Piece}
 use Rattle.printf_text.specs.declared.piece.Piece.TheVariants as piece
 use Rattle.printf_text.specs.Texts.{size_of as size_in}
-use Rattle.c_says.specs.declared.scope.Duration.TheVariants as duration
-use Rattle.c_says.specs.declared.scope.Entry.{Entry}
-use Rattle.c_says.specs.declared.scope.Means.{Means}
-use Rattle.c_says.specs.declared.scope.Means.TheVariants as means
-use Rattle.c_runs.specs.declared.profile.LogText.{LogText}
-use Rattle.c_runs.specs.Calls as calls
-use Rattle.c_runs.specs.declared.profile.FillAnswer.{FillAnswer}
-use Rattle.c_runs.specs.declared.profile.FillAnswer.TheVariants as answer
-use Rattle.c_runs.specs.declared.profile.FillFunction.{FillFunction}
-use Rattle.bit_words.specs.declared.run.Undefined.TheVariants as undefined
-use Rattle.c_type_terms.specs.declared.class.Class.{Class}
-use Rattle.c_type_terms.specs.declared.class.Class.TheVariants as class
+use Rattle.c_language.specs.declared.scope.Duration.TheVariants as duration
+use Rattle.c_language.specs.declared.scope.Entry.{Entry}
+use Rattle.c_language.specs.declared.scope.Means.{Means}
+use Rattle.c_language.specs.declared.scope.Means.TheVariants as means
+use Rattle.c_means.specs.declared.profile.LogText.{LogText}
+use Rattle.c_means.specs.Calls as calls
+use Rattle.c_means.specs.declared.profile.FillAnswer.{FillAnswer}
+use Rattle.c_means.specs.declared.profile.FillAnswer.TheVariants as answer
+use Rattle.c_means.specs.declared.profile.FillFunction.{FillFunction}
+use Rattle.plain_data.specs.declared.run.Undefined.TheVariants as undefined
+use Rattle.c_language.specs.declared.class.Class.{Class}
+use Rattle.c_language.specs.declared.class.Class.TheVariants as class
 use Rattle.c_store.specs.Access.{can_access, can_write}
 use Rattle.c_means.specs.Values.{class_in, address}
 use Rattle.c_store.specs.Store.{Store}
 use Rattle.c_means.specs.Parts.{State, Env}
 use Rattle.c_means.specs.Parts as c
-use Rattle.c_runs.specs.declared.profile.LogFunction.{LogFunction}
-use Rattle.c_runs.specs.Programs.{Function, functions_of, function_named, watched_lasting}
-use Rattle.c_runs.specs.Rules.{Rules, LogCall, IdentityCall, BodyCall, LibraryCall, PreludeCall, OutsideCall, Library}
-use Rattle.c_runs.specs.Rules.{Taking, rule_by, log_of, identity_index, library_of, callee_taking, same_taking, fill_of}
-use Rattle.c_runs.specs.Rules.{declared_taking}
-use Rattle.c_runs.specs.Runs as whole
+use Rattle.c_means.specs.declared.profile.LogFunction.{LogFunction}
+use Rattle.c_means.specs.Programs.{Function, functions_of, function_named, watched_lasting}
+use Rattle.c_means.specs.Rules.{Rules, LogCall, IdentityCall, BodyCall, LibraryCall, PreludeCall, OutsideCall, Library}
+use Rattle.c_means.specs.Rules.{Taking, rule_by, log_of, identity_index, library_of, callee_taking, same_taking, fill_of}
+use Rattle.c_means.specs.Rules.{declared_taking}
+use Rattle.c_means.specs.Runs as whole
 use Rattle.core_tree.specs.declared.program.Core.{Core}
 use Rattle.core_tree.specs.Programs.{maybe_body, body_of}
 use Rattle.elaborate.specs.Means.{Ruling, BodyRule, Numbered, IsMachineOf}

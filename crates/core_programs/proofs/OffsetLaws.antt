@@ -6,7 +6,7 @@ use Rattle.std.specs.BTreeSet.{insert_key}
 use Rattle.std.specs.List.Sorted.{IsStrictlySortedBy, IsPartitionedBy, IsPartitionPoint}
 use Rattle.std.proofs.lemmas.List.Sorted.{IsPartitionedBy-ltb}
 use Rattle.std.proofs.lemmas.Map.Keys.{non_decreasing_from_sorted}
-use Rattle.c_runs.specs.Runs.{with_offset, place_in}
+use Rattle.c_means.specs.Runs.{with_offset, place_in}
 use Rattle.core_programs.specs.Offsets.{offsets_from}
 
 by_order : (b c : Bool) (p q r s : List ℕ) → r ≡ s

@@ -3,12 +3,12 @@ use Rattle.std.proofs.Common.{◌≡◌, ◌-◌, ◌*◌, ℕ, zero, suc, ◌+�
 use Rattle.std.proofs.Common.{Some, refl, sym, ap, ap₂, ◌∙◌}
 use Rattle.c_store.specs.declared.object.ObjectKind.TheVariants as object
 use Rattle.c_store.specs.Store.{initial, start, zero_range, write}
-use Rattle.c_says.specs.declared.scope.Entry.{Entry}
+use Rattle.c_language.specs.declared.scope.Entry.{Entry}
 use Rattle.c_means.specs.Parts.{State}
 use Rattle.c_means.specs.Parts as c
-use Rattle.c_runs.specs.Calls.{meets}
-use Rattle.c_runs.specs.Programs.{Function}
-use Rattle.c_runs.specs.Runs as whole
+use Rattle.c_means.specs.Calls.{meets}
+use Rattle.c_means.specs.Programs.{Function}
+use Rattle.c_means.specs.Runs as whole
 use Rattle.core_tree.specs.declared.program.Core.{Core}
 use Rattle.core_tree.specs.States.{Output, plain, Done, Arrow, onward, running}
 use Rattle.core_tree.specs.States as states

@@ -3,17 +3,17 @@ use Rattle.std.proofs.Common.{◌≡◌, ℕ, Bool, true, false, cond, not, List
 use Rattle.std.proofs.Common.{Some, None, Result, Ok, Err, refl, sym, ap, ◌∙◌}
 use Rattle.c_store.specs.declared.object.ObjectKind.TheVariants as object
 use Rattle.c_store.specs.Store.{start}
-use Rattle.c_says.specs.declared.scope.Linked.{Linked}
-use Rattle.c_says.specs.Scopes.{Name, entry_in, linked_as}
+use Rattle.c_language.specs.declared.scope.Linked.{Linked}
+use Rattle.c_language.specs.Scopes.{Name, entry_in, linked_as}
 use Rattle.c_means.specs.declared.kind.Kind.{Kind}
 use Rattle.c_means.specs.declared.kind.Kind.TheVariants as k
 use Rattle.c_means.specs.Parts.{State}
 use Rattle.c_means.specs.Parts as c
-use Rattle.c_runs.specs.Items.{Lasting}
-use Rattle.c_runs.specs.Items as runs
-use Rattle.c_runs.specs.Programs.{Text, Needs, needs_of}
-use Rattle.c_runs.specs.Runs as whole
-use Rattle.c_runs.specs.Statements.{no_env}
+use Rattle.c_means.specs.Items.{Lasting}
+use Rattle.c_means.specs.Items as runs
+use Rattle.c_means.specs.Programs.{Text, Needs, needs_of}
+use Rattle.c_means.specs.Runs as whole
+use Rattle.c_means.specs.Statements.{no_env}
 use Rattle.core_tree.specs.declared.program.Core.{Core}
 use Rattle.core_tree.specs.declared.program.LastingObject.{LastingObject}
 use Rattle.core_tree.specs.declared.program.LastingSetting.{LastingSetting}

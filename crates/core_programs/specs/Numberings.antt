@@ -1,14 +1,14 @@
 -- How the functions of a program are numbered in its core, and what a call of one of them is then.
 use Rattle.std.specs.Prelude.{◌≡◌, ℕ, ◌+◌, Bool, true, false, Option, Some, None, slice_get}
-use Rattle.c_says.specs.Scopes.{Name}
+use Rattle.c_language.specs.Scopes.{Name}
 use Rattle.c_means.specs.Parts.{State, Env}
 use Rattle.c_means.specs.Parts as c
-use Rattle.c_runs.specs.Items as runs
-use Rattle.c_runs.specs.Calls.{log_call, log_pieces, pointers_in, identity_call, library_call, outside_call}
-use Rattle.c_runs.specs.Programs.{Function, functions_of, function_named, watched_lasting}
-use Rattle.c_runs.specs.Rules.{Rules, LogCall, IdentityCall, BodyCall, LibraryCall, PreludeCall, OutsideCall}
-use Rattle.c_runs.specs.Rules.{identity_index, fill_of}
-use Rattle.c_runs.specs.Runs as whole
+use Rattle.c_means.specs.Items as runs
+use Rattle.c_means.specs.Calls.{log_call, log_pieces, pointers_in, identity_call, library_call, outside_call}
+use Rattle.c_means.specs.Programs.{Function, functions_of, function_named, watched_lasting}
+use Rattle.c_means.specs.Rules.{Rules, LogCall, IdentityCall, BodyCall, LibraryCall, PreludeCall, OutsideCall}
+use Rattle.c_means.specs.Rules.{identity_index, fill_of}
+use Rattle.c_means.specs.Runs as whole
 use Rattle.core_tree.specs.declared.program.Core.{Core}
 use Rattle.core_tree.specs.declared.program.Function.{Function as CoreFunction}
 use Rattle.core_tree.specs.States.{Output}

@@ -1,6 +1,6 @@
 -- Offsets in order, each once.
 use Rattle.std.specs.Prelude.{ℕ, List, [], ◌∷◌}
-use Rattle.c_runs.specs.Runs.{with_offset}
+use Rattle.c_means.specs.Runs.{with_offset}
 
 -- one after the other put where it belongs
 abbrev pub offsets_from : List ℕ → List ℕ → List ℕ

@@ -1,16 +1,16 @@
 -- What it is to be the core of a whole program: its functions, what is made before `main` is called, and `main`.
 use Rattle.std.specs.Prelude.{◌≡◌, ℕ, suc, Bool, true, false, List, [], ◌∷◌, ◌++◌, length, map, not, Option, Some, None}
 use Rattle.c_store.specs.declared.object.ObjectKind.TheVariants as object
-use Rattle.c_says.specs.declared.scope.Entry.{Entry}
-use Rattle.c_says.specs.declared.scope.Linked.{Linked}
-use Rattle.c_says.specs.Scopes.{Name, Scope, entry_in, linked_as}
+use Rattle.c_language.specs.declared.scope.Entry.{Entry}
+use Rattle.c_language.specs.declared.scope.Linked.{Linked}
+use Rattle.c_language.specs.Scopes.{Name, Scope, entry_in, linked_as}
 use Rattle.c_means.specs.Parts.{State, Env}
 use Rattle.c_means.specs.Parts as c
-use Rattle.c_runs.specs.Items.{Lasting}
-use Rattle.c_runs.specs.Items as runs
-use Rattle.c_runs.specs.Programs.{Function, Text, Needs, needs_of}
-use Rattle.c_runs.specs.Rules.{identity_index}
-use Rattle.c_runs.specs.Runs as whole
+use Rattle.c_means.specs.Items.{Lasting}
+use Rattle.c_means.specs.Items as runs
+use Rattle.c_means.specs.Programs.{Function, Text, Needs, needs_of}
+use Rattle.c_means.specs.Rules.{identity_index}
+use Rattle.c_means.specs.Runs as whole
 use Rattle.core_tree.specs.declared.program.Contents.{Contents}
 use Rattle.core_tree.specs.declared.program.Contents.TheVariants as contents
 use Rattle.core_tree.specs.declared.program.Core.{Core}

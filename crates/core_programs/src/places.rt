@@ -1,6 +1,6 @@
 //! The places of what lives throughout the run, by offset.
 ghost use Rattle.std.specs.Prelude.{◌≡◌, IfOk, length};
-ghost use Rattle.c_runs.specs.Runs.{place_in};
+ghost use Rattle.c_means.specs.Runs.{place_in};
 ghost use Rattle.core_programs.specs.Offsets.{offsets_in};
 
 use std::alloc::{AllocError, Global};

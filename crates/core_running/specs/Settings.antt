@@ -1,8 +1,8 @@
 -- What a function runs in: a level of the definition that prints.
 use Rattle.std.specs.Prelude.{◌≡◌, Option}
-use Rattle.bit_words.specs.Worlds.{WorldTables}
+use Rattle.plain_data.specs.Worlds.{WorldTables}
 use Rattle.c_means.specs.Parts.{World, Limits}
-use Rattle.c_runs.specs.Units.{world_of}
+use Rattle.c_means.specs.Units.{world_of}
 use Rattle.c_machine.specs.declared.machine.Machine.{Machine}
 use Rattle.core_tree.specs.States.{Output, plain, Calls, Level, Measures}
 

@@ -5,7 +5,7 @@ use Rattle.std.specs.Prelude.{min, slice_get, unwrap_or, option_map}
 use Rattle.std.proofs.Math.Nat.{min-eq_left, min-eq_right}
 use Rattle.std.proofs.lemmas.Bool.{cases_lt}
 use Rattle.std.proofs.lemmas.Option.{slice_get-map}
-use Rattle.bit_words.specs.declared.bounds.Bounds.{Bounds}
+use Rattle.plain_data.specs.declared.bounds.Bounds.{Bounds}
 use Rattle.core_tree.specs.declared.program.Core.{Core}
 use Rattle.core_tree.specs.declared.program.Function.{Function}
 use Rattle.core_tree.specs.Programs.{Machine, measures_of, turns_in, size_by, maybe_body, body_of, body_size, main_needs, unrolled_size}

@@ -1,7 +1,7 @@
 -- How many nodes the functions of a program unroll to, by how many levels of calls are left.
 use Rattle.std.specs.Prelude.{◌≡◌, ℕ, zero, suc, List, unwrap_or, slice_get}
-use Rattle.bit_words.specs.declared.bounds.Bounds.{Bounds}
-use Rattle.c_runs.specs.Units.{limits_of, silent}
+use Rattle.plain_data.specs.declared.bounds.Bounds.{Bounds}
+use Rattle.c_means.specs.Units.{limits_of, silent}
 use Rattle.core_tree.specs.declared.program.Core.{Core}
 use Rattle.core_tree.specs.declared.program.Function.{Function}
 use Rattle.core_tree.specs.Programs.{Machine, machine, measures_of, size_by, body_of, body_size}

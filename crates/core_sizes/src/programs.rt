@@ -6,9 +6,8 @@ ghost use Rattle.core_sizes.specs.Programs.{silent_machine, size_in, size_over, 
 
 use crate::codes::items_size;
 use crate::sizes::Sizes;
-use bit_words::Bounds;
 use core_tree::{Core, Function};
-use plain_data::Items;
+use plain_data::{Bounds, Items};
 use std::alloc::{AllocError, Global};
 
 /// Where a function of a program runs: the program, the bounds, the sizes of the functions that it may call, how many

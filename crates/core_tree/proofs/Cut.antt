@@ -6,8 +6,8 @@ use Rattle.std.proofs.Math.Path.{fun_ext}
 use Rattle.std.specs.Prelude.{slice_get}
 use Rattle.c_store.specs.Store.{Store, initial, start, write}
 use Rattle.c_means.specs.Parts.{World, Limits}
-use Rattle.c_runs.specs.Items.{known}
-use Rattle.c_runs.specs.Statements.{no_env}
+use Rattle.c_means.specs.Items.{known}
+use Rattle.c_means.specs.Statements.{no_env}
 use Rattle.core_tree.specs.declared.code.Code.{Code}
 use Rattle.core_tree.specs.declared.program.Core.{Core}
 use Rattle.core_tree.specs.declared.program.Function.{Function}

@@ -33,7 +33,7 @@ use Rattle.c_means.specs.declared.kind.Kind.{Kind}
 use Rattle.c_means.specs.declared.kind.Kind.TheVariants as k
 use Rattle.c_means.specs.Parts.{Env, World, Limits}
 use Rattle.c_means.specs.Values.{address}
-use Rattle.c_runs.specs.Calls.{before_args, pointers_in, pointer_places}
+use Rattle.c_means.specs.Calls.{before_args, pointers_in, pointer_places}
 use Rattle.core_tree.specs.declared.expr.Callee.{Callee}
 use Rattle.core_tree.specs.declared.expr.Callee.TheVariants as callee
 use Rattle.core_tree.specs.declared.expr.Fill.{Fill}

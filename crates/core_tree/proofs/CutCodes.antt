@@ -3,16 +3,16 @@ use Rattle.std.proofs.Common.{◌≡◌, ℕ, zero, suc, ◌+◌, ℤ, List, [],
 use Rattle.std.proofs.Common.{Option, Some, None, refl, ap, ap₂, ◌∙◌, subst}
 use Rattle.std.proofs.Math.Path.{fun_ext}
 use Rattle.std.specs.Prelude.{option_map, unsigned_abs}
-use Rattle.bit_words.specs.declared.run.Happening.TheVariants as happening
-use Rattle.bit_words.specs.declared.run.Side.TheVariants as side
-use Rattle.c_type_terms.specs.Integers.{is_zero}
+use Rattle.plain_data.specs.declared.run.Happening.TheVariants as happening
+use Rattle.plain_data.specs.declared.run.Side.TheVariants as side
+use Rattle.c_language.specs.Integers.{is_zero}
 use Rattle.c_store.specs.declared.object.ObjectKind.TheVariants.{Automatic}
 use Rattle.c_store.specs.Store.{start, make, end, lay}
-use Rattle.c_runs.specs.Initials.{text_byte}
+use Rattle.c_means.specs.Initials.{text_byte}
 use Rattle.c_means.specs.declared.kind.Kind.{Kind}
 use Rattle.c_means.specs.declared.kind.Kind.TheVariants as k
 use Rattle.c_means.specs.Parts.{Env}
-use Rattle.c_runs.specs.Items.{Made, known, past_break, past_continue, past_switch, at_label, at_case, at_default}
+use Rattle.c_means.specs.Items.{Made, known, past_break, past_continue, past_switch, at_label, at_case, at_default}
 use Rattle.core_tree.specs.declared.code.Code.{Code}
 use Rattle.core_tree.specs.declared.code.Code.TheVariants as tree
 use Rattle.core_tree.specs.declared.code.Setting.{Setting}

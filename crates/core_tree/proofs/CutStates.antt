@@ -4,8 +4,8 @@ use Rattle.std.proofs.Common.{◌≡◌, ℕ, ◌+◌, ℤ, List, [], ◌∷◌,
 use Rattle.std.proofs.Common.{Some, None, Ok, Err, refl, sym, ap, ◌∙◌, subst, ◌&&◌, nat_eq}
 use Rattle.std.proofs.lemmas.List.{drop-drop}
 use Rattle.std.specs.List.{starts_with}
-use Rattle.bit_words.specs.declared.run.Undefined.{Undefined}
-use Rattle.c_type_terms.specs.Operators.{Answer}
+use Rattle.plain_data.specs.declared.run.Undefined.{Undefined}
+use Rattle.c_language.specs.Operators.{Answer}
 use Rattle.c_means.specs.declared.kind.Kind.{Kind}
 use Rattle.c_means.specs.declared.kind.Kind.TheVariants as k
 use Rattle.core_tree.specs.States.{Output, follows, Done, Outcome, ◌>>=◌, found, stop, or_stop, Arrow, onward}

@@ -3,15 +3,15 @@ use Rattle.std.proofs.Common.{◌≡◌, ℕ, suc, ◌+◌, ℤ, pos, negsuc, Li
 use Rattle.std.proofs.Common.{false, Option, Some, None, refl, ap, ap₂, ◌∙◌, subst}
 use Rattle.std.proofs.Math.Path.{fun_ext}
 use Rattle.std.specs.Prelude.{not, ◌||◌, neg_ℤ, ◌+ℤ◌, ◌-ℤ◌, ◌*ℤ◌, unsigned_abs}
-use Rattle.bit_words.specs.declared.run.Happening.TheVariants as happening
-use Rattle.bit_words.specs.declared.run.Side.TheVariants as side
-use Rattle.c_type_terms.specs.Integers.{is_zero, number_of}
+use Rattle.plain_data.specs.declared.run.Happening.TheVariants as happening
+use Rattle.plain_data.specs.declared.run.Side.TheVariants as side
+use Rattle.c_language.specs.Integers.{is_zero, number_of}
 use Rattle.c_store.specs.Access.{can_access, can_write, in_one_object}
 use Rattle.c_means.specs.Parts.{Env}
 use Rattle.c_means.specs.Values.{address}
 use Rattle.c_means.specs.Pointers.{elements_in}
 use Rattle.c_store.specs.Store.{read, write, start}
-use Rattle.bit_words.specs.declared.run.Undefined.TheVariants as undefined
+use Rattle.plain_data.specs.declared.run.Undefined.TheVariants as undefined
 use Rattle.core_tree.specs.declared.expr.Callee.{Callee}
 use Rattle.core_tree.specs.declared.types.Access.{Access}
 use Rattle.core_tree.specs.declared.types.Answered.{Answered}

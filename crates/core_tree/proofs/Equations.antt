@@ -1,7 +1,7 @@
 -- What each kind of expression and of code is worth, in terms of what stands in it.
 use Rattle.std.proofs.Common.{◌≡◌, ℕ, ℤ, List, Option, Bool, sym, ap, ◌∙◌}
 use Rattle.std.specs.Prelude.{map}
-use Rattle.c_says.specs.Scopes.{Name}
+use Rattle.c_language.specs.Scopes.{Name}
 use Rattle.core_tree.specs.declared.types.Access.{Access}
 use Rattle.core_tree.specs.declared.types.Answered.{Answered}
 use Rattle.core_tree.specs.declared.types.Operator.{Operator}

@@ -2,7 +2,7 @@
 use Rattle.std.proofs.Common.{ℕ, ℤ, List, [], ◌∷◌, Option, Bool, sym, subst}
 use Rattle.std.specs.Prelude.{map}
 use denote.Hole.Holds.{Such}
-use Rattle.c_says.specs.Scopes.{Name}
+use Rattle.c_language.specs.Scopes.{Name}
 use Rattle.core_tree.specs.declared.types.Access.{Access}
 use Rattle.core_tree.specs.declared.types.Answered.{Answered}
 use Rattle.core_tree.specs.declared.types.Operator.{Operator}

@@ -22,7 +22,7 @@ use Rattle.std.proofs.Common.{
 use Rattle.std.proofs.Math.Path.{fun_ext}
 use Rattle.std.specs.Prelude.{map, option_map, slice_get}
 use Rattle.c_means.specs.Parts.{World, Limits}
-use Rattle.c_says.specs.Scopes.{Name}
+use Rattle.c_language.specs.Scopes.{Name}
 use Rattle.core_tree.specs.declared.code.Code.{Code}
 use Rattle.core_tree.specs.declared.code.Code.TheOpen as code_open
 use Rattle.core_tree.specs.declared.code.Code.TheVariants as tree
@@ -40,7 +40,7 @@ use Rattle.core_tree.specs.declared.types.ValueType.{ValueType}
 use Rattle.core_tree.specs.declared.types.WordType.{WordType}
 use Rattle.core_tree.specs.States.{Taking}
 use Rattle.core_tree.specs.Values.{Value, value, value_step}
-use Rattle.c_runs.specs.Items.{at_case}
+use Rattle.c_means.specs.Items.{at_case}
 use Rattle.core_tree.specs.Codes.{Item, code, code_step, in_turn, evaluated, arrived, if_of, switch_of, looped}
 use Rattle.core_tree.specs.Codes.{repeated, return_of}
 use Rattle.core_tree.specs.Programs.{Body, body_of, maybe_body, Machine, machine}

@@ -5,10 +5,10 @@
 use Rattle.std.specs.Prelude.{ℕ, zero, suc, ◌+◌, ◌-◌, ◌*◌, ◌%◌, ◌^◌, ℤ, pos, negsuc, min, Bool, true, false, cond, not}
 use Rattle.std.specs.Prelude.{◌&&◌, nat_eq, nat_lt, List, [], ◌∷◌, ◌++◌, length, drop, Option, Some, None, slice_get}
 use Rattle.std.specs.Prelude.{unwrap_or}
-use Rattle.bit_words.specs.declared.run.Finish.TheVariants as finish
-use Rattle.bit_words.specs.declared.run.Happening.TheVariants as happening
-use Rattle.bit_words.specs.declared.run.Undefined.TheVariants as undefined
-use Rattle.bit_words.specs.Words.{word}
+use Rattle.plain_data.specs.declared.run.Finish.TheVariants as finish
+use Rattle.plain_data.specs.declared.run.Happening.TheVariants as happening
+use Rattle.plain_data.specs.declared.run.Undefined.TheVariants as undefined
+use Rattle.plain_data.specs.Words.{word}
 use Rattle.printf_text.specs.declared.piece.Arg.{Arg}
 use Rattle.printf_text.specs.declared.piece.Arg.TheVariants as arg
 use Rattle.printf_text.specs.declared.piece.Form.{Form}
@@ -19,13 +19,13 @@ use Rattle.printf_text.specs.declared.piece.Size.{Size}
 use Rattle.printf_text.specs.declared.piece.Size.TheVariants as size
 use Rattle.printf_text.specs.Texts.{piece_text, piece_kinds}
 use Rattle.printf_text.specs.Texts.{size_of as size_in}
-use Rattle.c_type_terms.specs.Integers.{is_zero}
+use Rattle.c_language.specs.Integers.{is_zero}
 use Rattle.c_store.specs.declared.object.ObjectKind.TheVariants as object
 use Rattle.c_store.specs.Store.{Store, start, object_of, make, end, zero_range, lay, read}
 use Rattle.c_store.specs.Access.{can_access, can_write, can_free}
 use Rattle.c_means.specs.Parts.{Env, World}
 use Rattle.c_means.specs.Values.{address}
-use Rattle.c_runs.specs.Calls.{text_at, most_of, text_arg, shown_number, before_args, pointers_in, pointer_places}
+use Rattle.c_means.specs.Calls.{text_at, most_of, text_arg, shown_number, before_args, pointers_in, pointer_places}
 use Rattle.core_tree.specs.declared.expr.Callee.{Callee}
 use Rattle.core_tree.specs.declared.expr.Callee.TheVariants as callee
 use Rattle.core_tree.specs.declared.expr.Fill.{Fill}

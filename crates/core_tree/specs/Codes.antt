@@ -3,16 +3,16 @@
 -- for them, and every other state passes. `code` is the fold.
 use Rattle.std.specs.Prelude.{ℕ, zero, suc, ◌+◌, ◌*◌, ℤ, Bool, true, false, cond, ◌||◌, List, [], ◌∷◌, ◌++◌, map}
 use Rattle.std.specs.Prelude.{option_map, Option, Some, None}
-use Rattle.bit_words.specs.declared.run.Finish.TheVariants as finish
-use Rattle.bit_words.specs.declared.run.Happening.TheVariants as happening
-use Rattle.bit_words.specs.declared.run.Side.{Side}
-use Rattle.bit_words.specs.declared.run.Side.TheVariants as side
+use Rattle.plain_data.specs.declared.run.Finish.TheVariants as finish
+use Rattle.plain_data.specs.declared.run.Happening.TheVariants as happening
+use Rattle.plain_data.specs.declared.run.Side.{Side}
+use Rattle.plain_data.specs.declared.run.Side.TheVariants as side
 use Rattle.c_store.specs.Store.{start, zero_range, lay}
 use Rattle.c_means.specs.declared.kind.Kind.{Kind}
 use Rattle.c_means.specs.declared.kind.Kind.TheVariants as k
 use Rattle.c_means.specs.Parts.{Env}
-use Rattle.c_runs.specs.Initials.{text_byte}
-use Rattle.c_runs.specs.Items.{Made, known, past_break, past_continue, past_switch, at_label, at_case, at_default, same}
+use Rattle.c_means.specs.Initials.{text_byte}
+use Rattle.c_means.specs.Items.{Made, known, past_break, past_continue, past_switch, at_label, at_case, at_default, same}
 use Rattle.core_tree.specs.declared.code.Code.{Code, fold-Code}
 use Rattle.core_tree.specs.declared.code.Code.TheOpen as open_
 use Rattle.core_tree.specs.declared.code.Setting.{Setting}

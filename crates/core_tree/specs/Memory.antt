@@ -1,8 +1,8 @@
 -- What leaf instructions do with the store, and the undefined kinds that they test (C99 6.3.2.1, 6.5.3.2, 6.5.6, 6.5.8,
 -- 6.5.16). An address is taken as a natural number; a pointer's value is one modulo 2^64.
 use Rattle.std.specs.Prelude.{ℕ, ℤ, pos, negsuc, ◌+ℤ◌, ◌-ℤ◌, ◌*ℤ◌, neg_ℤ, nat_eq, cond, not, ◌||◌}
-use Rattle.bit_words.specs.declared.run.Undefined.TheVariants as undefined
-use Rattle.c_type_terms.specs.Integers.{number_of}
+use Rattle.plain_data.specs.declared.run.Undefined.TheVariants as undefined
+use Rattle.c_language.specs.Integers.{number_of}
 use Rattle.c_store.specs.Store.{read, write}
 use Rattle.c_store.specs.Access.{can_access, can_write, in_one_object}
 use Rattle.c_means.specs.Pointers.{elements_in}

@@ -3,11 +3,11 @@ use Rattle.std.specs.Prelude.{ℕ, ◌-◌, ◌^◌, ℤ, pos, negsuc, ◌+ℤ�
 use Rattle.std.specs.Prelude.{nat_le, Bool, true, false, cond, not, ◌&&◌, ◌||◌, Ok, Err, unsigned_abs}
 use Rattle.std.specs.Int.{int_div_euclid}
 use Rattle.std.specs.Int.Bits.{bit_and, bit_or, bit_xor}
-use Rattle.bit_words.specs.declared.width.Width.TheVariants as width
-use Rattle.bit_words.specs.declared.run.Undefined.TheVariants.{Overflow, ZeroDivisor, Shift}
-use Rattle.bit_words.specs.Words.{bits, word, signed}
-use Rattle.c_type_terms.specs.Integers.{bytes_in, at_most, is_zero, number_of}
-use Rattle.c_type_terms.specs.Operators.{Answer, where_in, is_negative, as_shift}
+use Rattle.plain_data.specs.declared.width.Width.TheVariants as width
+use Rattle.plain_data.specs.declared.run.Undefined.TheVariants.{Overflow, ZeroDivisor, Shift}
+use Rattle.plain_data.specs.Words.{bits, word, signed}
+use Rattle.c_language.specs.Integers.{bytes_in, at_most, is_zero, number_of}
+use Rattle.c_language.specs.Operators.{Answer, where_in, is_negative, as_shift}
 use Rattle.c_means.specs.Values.{address}
 use Rattle.core_tree.specs.declared.types.Arithmetic.{Arithmetic}
 use Rattle.core_tree.specs.declared.types.Arithmetic.TheVariants as o

@@ -3,14 +3,14 @@
 use Rattle.std.specs.Prelude.{ℕ, zero, suc, ◌+◌, ◌-◌, ◌*◌, ◌%◌, ℤ, pos, Bool, true, false, cond, List, []}
 use Rattle.std.specs.Prelude.{◌∷◌, length, map, ◌^◌}
 use Rattle.std.specs.Prelude.{Option, Some, None, slice_get}
-use Rattle.bit_words.specs.declared.run.Run.{Run}
+use Rattle.plain_data.specs.declared.run.Run.{Run}
 use Rattle.c_store.specs.declared.object.ObjectKind.TheVariants as object
 use Rattle.c_store.specs.Store.{Store, initial, start, make, zero_range, lay, write}
 use Rattle.c_means.specs.Parts.{World, Limits}
-use Rattle.c_runs.specs.Initials.{text_byte}
-use Rattle.c_runs.specs.Items.{Made, known}
-use Rattle.c_runs.specs.Runs.{comes_back, finish_of}
-use Rattle.c_runs.specs.Statements.{no_env}
+use Rattle.c_means.specs.Initials.{text_byte}
+use Rattle.c_means.specs.Items.{Made, known}
+use Rattle.c_means.specs.Runs.{comes_back, finish_of}
+use Rattle.c_means.specs.Statements.{no_env}
 use Rattle.core_tree.specs.declared.program.Contents.{Contents}
 use Rattle.core_tree.specs.declared.program.Contents.TheVariants as contents
 use Rattle.core_tree.specs.declared.program.Core.{Core}

@@ -3,21 +3,21 @@
 use Rattle.std.specs.Prelude.{ℕ, zero, suc, ◌+◌, ℤ, Bool, true, false, cond, nat_eq, List, [], ◌∷◌, ◌++◌, length, drop}
 use Rattle.std.specs.Prelude.{Option, Some, None, Result, Ok, Err}
 use Rattle.std.specs.List.{starts_with}
-use Rattle.bit_words.specs.declared.run.Event.{Event}
-use Rattle.bit_words.specs.declared.run.Finish.{Finish}
-use Rattle.bit_words.specs.declared.run.Finish.TheVariants as finish
-use Rattle.bit_words.specs.declared.run.Happening.{Happening}
-use Rattle.bit_words.specs.declared.run.Happening.TheVariants as happening
-use Rattle.bit_words.specs.declared.run.Side.TheVariants as side
-use Rattle.bit_words.specs.declared.run.Undefined.{Undefined}
-use Rattle.c_type_terms.specs.Integers.{is_zero}
-use Rattle.c_type_terms.specs.Operators.{Answer}
+use Rattle.plain_data.specs.declared.run.Event.{Event}
+use Rattle.plain_data.specs.declared.run.Finish.{Finish}
+use Rattle.plain_data.specs.declared.run.Finish.TheVariants as finish
+use Rattle.plain_data.specs.declared.run.Happening.{Happening}
+use Rattle.plain_data.specs.declared.run.Happening.TheVariants as happening
+use Rattle.plain_data.specs.declared.run.Side.TheVariants as side
+use Rattle.plain_data.specs.declared.run.Undefined.{Undefined}
+use Rattle.c_language.specs.Integers.{is_zero}
+use Rattle.c_language.specs.Operators.{Answer}
 use Rattle.c_store.specs.declared.object.ObjectKind.TheVariants.{Automatic}
 use Rattle.c_store.specs.Store.{Store, make, end}
 use Rattle.c_means.specs.declared.kind.Kind.{Kind}
 use Rattle.c_means.specs.declared.kind.Kind.TheVariants as k
 use Rattle.c_means.specs.Parts.{Env, World, Limits}
-use Rattle.c_runs.specs.Items.{Made}
+use Rattle.c_means.specs.Items.{Made}
 
 -- ---- ways of taking what is printed
 

@@ -2,9 +2,9 @@
 -- the fold.
 use Rattle.std.specs.Prelude.{ℕ, suc, ◌+◌, ℤ, pos, Bool, true, false, not, List, [], ◌∷◌, Option, Some, None}
 use Rattle.std.specs.Prelude.{unsigned_abs}
-use Rattle.bit_words.specs.declared.run.Happening.TheVariants as happening
-use Rattle.bit_words.specs.declared.run.Undefined.TheVariants.{MissingValue}
-use Rattle.c_type_terms.specs.Integers.{is_zero, number_of}
+use Rattle.plain_data.specs.declared.run.Happening.TheVariants as happening
+use Rattle.plain_data.specs.declared.run.Undefined.TheVariants.{MissingValue}
+use Rattle.c_language.specs.Integers.{is_zero, number_of}
 use Rattle.c_store.specs.Store.{start}
 use Rattle.c_means.specs.Parts.{Env}
 use Rattle.c_means.specs.Values.{address, bytes_within}

@@ -2,9 +2,8 @@
 
 use crate::expr::Expr;
 use crate::types::{ValueType, WordType};
-use bit_words::Bytes;
-use c_tokens::Name;
-use plain_data::{Items, Shared};
+use c_language::Name;
+use plain_data::{Bytes, Items, Shared};
 
 /// A part of an object that is set where it is initialised, so many bytes behind its first (C99 6.7.8).
 #[derive(Drop)]

@@ -1,8 +1,7 @@
 //! Expressions of the core: each is worth a value. An address is one too.
 
 use crate::types::{Access, Answered, Operator, Turning, ValueType, WordType};
-use bit_words::Bytes;
-use plain_data::{Items, Shared};
+use plain_data::{Bytes, Items, Shared};
 use printf_text::Pieces;
 
 /// Where an object is that has a name: made anew at each entry of its block, or there throughout the run, with the

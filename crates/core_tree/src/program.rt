@@ -2,10 +2,9 @@
 
 use crate::code::{Code, Setting};
 use crate::types::ValueType;
-use bit_words::Bytes;
+use c_language::Name;
 use c_store::ObjectKind;
-use c_tokens::Name;
-use plain_data::{Items, Shared};
+use plain_data::{Bytes, Items, Shared};
 
 /// A parameter, by the offset of its name: an object, in which the argument is stored as a value of this type.
 #[derive(Clone, Copy, Debug, PartialEq, Eq)]

@@ -1,6 +1,6 @@
 //! Types of values, and operators, by widths and byte sizes.
 
-use bit_words::Width;
+use plain_data::Width;
 
 /// An integer type other than `_Bool`, by what it says of its values (C99 6.2.6.2).
 #[derive(Clone, Copy, Debug, PartialEq, Eq)]

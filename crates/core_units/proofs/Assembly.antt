@@ -1,14 +1,14 @@
 -- The parts together are the core of the source.
 use Rattle.std.proofs.Common.{◌≡◌, ℕ, Bool, true, false, List, [], ◌∷◌, ◌++◌, length, Option, Some, refl, sym, ap, ◌∙◌, subst}
 use Rattle.std.specs.Prelude.{slice_get, cond}
-use Rattle.c_tree.specs.declared.unit.External.{External}
-use Rattle.c_says.specs.Scopes.{Name}
+use Rattle.c_language.specs.declared.unit.External.{External}
+use Rattle.c_language.specs.Scopes.{Name}
 use Rattle.c_means.specs.Parts as c
-use Rattle.c_runs.specs.declared.profile.Profile.{Profile}
-use Rattle.c_runs.specs.Prelude.{prelude_functions}
-use Rattle.c_runs.specs.Programs.{Function, functions_of, function_named, main'}
-use Rattle.c_runs.specs.Runs as whole
-use Rattle.c_runs.specs.Units.{machine_of}
+use Rattle.c_means.specs.declared.profile.Profile.{Profile}
+use Rattle.c_means.specs.Prelude.{prelude_functions}
+use Rattle.c_means.specs.Programs.{Function, functions_of, function_named, main'}
+use Rattle.c_means.specs.Runs as whole
+use Rattle.c_means.specs.Units.{machine_of}
 use Rattle.core_tree.specs.declared.program.Core.{Core}
 use Rattle.core_tree.specs.declared.program.Function.{Function as CoreFunction}
 use Rattle.core_tree.specs.Programs.{maybe_body, body_of}

@@ -2,23 +2,23 @@
 use Rattle.std.proofs.Common.{◌≡◌, ◌<◌, ◌≤◌, ◌+◌, ℕ, suc, add-one, drop, drop-cons, get_or, true, false, List, [], ◌∷◌, ◌++◌, map, length, Option, Some, None, refl, sym, ap, ap₂, ◌∙◌, subst}
 use Rattle.std.specs.Prelude.{slice_get}
 use Rattle.std.proofs.lemmas.List.{drop_all}
-use Rattle.c_tree.specs.declared.expr.Declarator.{Declarator}
-use Rattle.c_tree.specs.declared.expr.Specifier.{Specifier}
-use Rattle.c_tree.specs.declared.unit.Body.{Body}
-use Rattle.c_tree.specs.declared.unit.Body.TheVariants as body_
-use Rattle.c_tree.specs.declared.unit.External.{External}
-use Rattle.c_tree.specs.declared.unit.External.TheVariants as external_
-use Rattle.c_tree.specs.declared.unit.Stmt.{Stmt}
-use Rattle.c_says.specs.declared.scope.Entry.{Entry}
-use Rattle.c_runs.specs.Items as runs
-use Rattle.c_says.specs.Scopes.{Scope, empty}
-use Rattle.c_runs.specs.Programs.{Function, Outer, watched_lasting, is_needed, outer, in_order}
+use Rattle.c_language.specs.declared.expr.Declarator.{Declarator}
+use Rattle.c_language.specs.declared.expr.Specifier.{Specifier}
+use Rattle.c_language.specs.declared.unit.Body.{Body}
+use Rattle.c_language.specs.declared.unit.Body.TheVariants as body_
+use Rattle.c_language.specs.declared.unit.External.{External}
+use Rattle.c_language.specs.declared.unit.External.TheVariants as external_
+use Rattle.c_language.specs.declared.unit.Stmt.{Stmt}
+use Rattle.c_language.specs.declared.scope.Entry.{Entry}
+use Rattle.c_means.specs.Items as runs
+use Rattle.c_language.specs.Scopes.{Scope, empty}
+use Rattle.c_means.specs.Programs.{Function, Outer, watched_lasting, is_needed, outer, in_order}
 use Rattle.c_item_notes.specs.Levels.{Judged}
 use Rattle.c_program_notes.specs.declared.outers.OuterNotes.{OuterNotes}
 use Rattle.c_program_notes.specs.Summaries.{outer_in, outer_told}
-use Rattle.c_runs.specs.Prelude.{prelude_functions}
-use Rattle.c_runs.specs.Rules.{identity_index}
-use Rattle.c_runs.specs.Runs as whole
+use Rattle.c_means.specs.Prelude.{prelude_functions}
+use Rattle.c_means.specs.Rules.{identity_index}
+use Rattle.c_means.specs.Runs as whole
 use Rattle.core_tree.specs.declared.program.Function.{Function as CoreFunction}
 use Rattle.core_tree.specs.declared.program.LastingSetting.{LastingSetting}
 use Rattle.core_tree.specs.Programs.{body_of}

@@ -3,8 +3,8 @@ use Rattle.std.proofs.Common.{◌≡◌, ℕ, zero, suc, ◌+◌, Bool, true, fa
 use Rattle.std.proofs.Common.{refl, sym, ap, ◌∙◌, subst, arith}
 use Rattle.std.specs.Prelude.{slice_get}
 use Rattle.std.specs.Str.{bytes_eq}
-use Rattle.c_says.specs.Scopes.{Name}
-use Rattle.c_runs.specs.Programs.{Function, function_named, has_function}
+use Rattle.c_language.specs.Scopes.{Name}
+use Rattle.c_means.specs.Programs.{Function, function_named, has_function}
 use Rattle.core_tree.specs.declared.program.Function.{Function as CoreFunction}
 use Rattle.core_units.specs.Numbers.{reached_among, number_if, next_number, number_from, position_from}
 use Rattle.core_units.specs.Walked.{AllAre}

@@ -1,12 +1,12 @@
 -- What is made of one external declaration.
 use Rattle.std.proofs.Common.{◌≡◌, Bool, true, false, cond, List, [], ◌∷◌, ◌++◌, Option, Some, None}
 use Rattle.std.proofs.Common.{refl, sym, ap, ◌∙◌, subst}
-use Rattle.c_says.specs.declared.scope.Entry.{Entry}
-use Rattle.c_runs.specs.Items as runs
-use Rattle.c_runs.specs.Names.{Word}
-use Rattle.c_runs.specs.Programs.{Function, Outer, Program, Needs, no_needs, has_function, is_needed, item_needs}
-use Rattle.c_runs.specs.Programs.{all_needs, declared_needs, function_needs, functions_in, watched_lasting}
-use Rattle.c_runs.specs.Runs as whole
+use Rattle.c_language.specs.declared.scope.Entry.{Entry}
+use Rattle.c_means.specs.Items as runs
+use Rattle.c_means.specs.Names.{Word}
+use Rattle.c_means.specs.Programs.{Function, Outer, Program, Needs, no_needs, has_function, is_needed, item_needs}
+use Rattle.c_means.specs.Programs.{all_needs, declared_needs, function_needs, functions_in, watched_lasting}
+use Rattle.c_means.specs.Runs as whole
 use Rattle.core_tree.specs.declared.program.Function.{Function as CoreFunction}
 use Rattle.core_tree.specs.declared.program.LastingSetting.{LastingSetting}
 use Rattle.core_programs.specs.Numberings.{Numbers}

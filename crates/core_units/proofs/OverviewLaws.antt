@@ -4,12 +4,12 @@ use Rattle.std.proofs.Common.{Option, Some, None, refl, sym, ap, ap₂, ◌∙�
 use Rattle.std.proofs.lemmas.Bool.Decides.{nat_tests}
 use Rattle.std.specs.Prelude.{option_map}
 use Rattle.std.specs.Str.{bytes_eq}
-use Rattle.c_says.specs.declared.scope.Entry.{Entry}
-use Rattle.c_says.specs.Scopes.{Name, Scope}
-use Rattle.c_runs.specs.Items.{Lasting}
+use Rattle.c_language.specs.declared.scope.Entry.{Entry}
+use Rattle.c_language.specs.Scopes.{Name, Scope}
+use Rattle.c_means.specs.Items.{Lasting}
 use Rattle.c_item_notes.specs.ItemTellings.{lasting_notes}
-use Rattle.c_runs.specs.Programs.{Function, Outer, Program, functions_in, function_if, function_named, has_function, is_needed}
-use Rattle.c_runs.specs.Programs.{watched_lasting, watches, in_blocks, in_file, is_bound, main', reached, needed_words}
+use Rattle.c_means.specs.Programs.{Function, Outer, Program, functions_in, function_if, function_named, has_function, is_needed}
+use Rattle.c_means.specs.Programs.{watched_lasting, watches, in_blocks, in_file, is_bound, main', reached, needed_words}
 use Rattle.c_item_notes.specs.Levels.{Judged}
 use Rattle.c_reach.specs.declared.summaries.FunctionNotes.{FunctionNotes}
 use Rattle.c_reach.specs.Reaching.{has_at}

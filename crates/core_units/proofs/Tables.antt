@@ -4,9 +4,9 @@ use Rattle.std.proofs.Common.{Option, Some, None, refl, sym, ap, ◌∙◌, arit
 use Rattle.std.specs.Prelude.{option_map}
 use Rattle.std.specs.Str.{bytes_eq}
 use Rattle.std.proofs.lemmas.List.{reverse-append}
-use Rattle.c_says.specs.Scopes.{Name, last_where}
-use Rattle.c_runs.specs.Prelude.{prelude_functions}
-use Rattle.c_runs.specs.Programs.{Function, function_named, has_function}
+use Rattle.c_language.specs.Scopes.{Name, last_where}
+use Rattle.c_means.specs.Prelude.{prelude_functions}
+use Rattle.c_means.specs.Programs.{Function, function_named, has_function}
 use Rattle.c_prelude.specs.Heads.{Head, head_of}
 use Rattle.c_prelude.specs.Heads as heads
 use Rattle.c_prelude.proofs.Heads.{heads_are}

@@ -1,11 +1,11 @@
 -- What is made of external declarations, one behind the other.
 use Rattle.std.proofs.Common.{◌≡◌, ℕ, Bool, true, false, cond, List, [], ◌∷◌, ◌++◌, Option, Some, None}
 use Rattle.std.proofs.Common.{refl, sym, ap, ◌∙◌, subst}
-use Rattle.c_runs.specs.Items as runs
-use Rattle.c_runs.specs.Names.{Word}
-use Rattle.c_runs.specs.Programs.{Function, Outer, Needs, functions_in, function_if, all_needs, and_needs}
-use Rattle.c_runs.specs.Programs.{declared_needs, function_needs, has_function}
-use Rattle.c_runs.specs.Runs as whole
+use Rattle.c_means.specs.Items as runs
+use Rattle.c_means.specs.Names.{Word}
+use Rattle.c_means.specs.Programs.{Function, Outer, Needs, functions_in, function_if, all_needs, and_needs}
+use Rattle.c_means.specs.Programs.{declared_needs, function_needs, has_function}
+use Rattle.c_means.specs.Runs as whole
 use Rattle.core_tree.specs.declared.program.Function.{Function as CoreFunction}
 use Rattle.core_tree.specs.declared.program.LastingSetting.{LastingSetting}
 use Rattle.core_programs.specs.Numberings.{Numbers}

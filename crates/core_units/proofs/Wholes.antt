@@ -2,10 +2,10 @@
 use Rattle.std.proofs.Common.{◌≡◌, ℕ, ◌+◌, Bool, List, [], ◌∷◌, ◌++◌, map, reverse, length, nat_eq, Option, Some, None}
 use Rattle.std.proofs.Common.{refl, sym, ap, ap₂, ◌∙◌, subst, arith}
 use Rattle.std.specs.Prelude.{option_map}
-use Rattle.c_tree.specs.declared.unit.External.{External}
-use Rattle.c_runs.specs.declared.profile.Profile.{Profile}
-use Rattle.c_runs.specs.Programs.{Function, functions_of, function_named, main', program_of}
-use Rattle.c_runs.specs.Runs as whole
+use Rattle.c_language.specs.declared.unit.External.{External}
+use Rattle.c_means.specs.declared.profile.Profile.{Profile}
+use Rattle.c_means.specs.Programs.{Function, functions_of, function_named, main', program_of}
+use Rattle.c_means.specs.Runs as whole
 use Rattle.c_item_notes.specs.Levels.{Judged}
 use Rattle.c_program_notes.specs.declared.whole.Overview.{Overview}
 use Rattle.c_program_notes.specs.Wholes.{machine, needs_in, overview}

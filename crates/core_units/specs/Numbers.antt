@@ -2,8 +2,8 @@
 -- of the prelude.
 use Rattle.std.specs.Prelude.{ℕ, suc, Bool, true, false, cond, List, [], ◌∷◌, length, Option, Some, None}
 use Rattle.std.specs.Str.{bytes_eq}
-use Rattle.c_says.specs.Scopes.{Name}
-use Rattle.c_runs.specs.Programs.{Function, Program, functions_of, has_function}
+use Rattle.c_language.specs.Scopes.{Name}
+use Rattle.c_means.specs.Programs.{Function, Program, functions_of, has_function}
 use Rattle.core_programs.specs.Numberings.{Numbers}
 
 -- those that are reached, in order

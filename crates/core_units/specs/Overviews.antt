@@ -1,8 +1,8 @@
 -- The plans and the numbers of functions, over what was noted of the source.
 use Rattle.std.specs.Prelude.{ℕ, Bool, false, cond, nat_eq, List, [], ◌∷◌, ◌++◌, Option, Some, None}
 use Rattle.std.specs.Str.{bytes_eq}
-use Rattle.c_says.specs.declared.scope.Entry.{Entry}
-use Rattle.c_runs.specs.Programs.{declares_some, main'}
+use Rattle.c_language.specs.declared.scope.Entry.{Entry}
+use Rattle.c_means.specs.Programs.{declares_some, main'}
 use Rattle.c_reach.specs.declared.summaries.FunctionNotes.{FunctionNotes}
 use Rattle.c_reach.specs.Reaching.{has_at}
 use Rattle.c_program_notes.specs.declared.outers.OuterNotes.{OuterNotes}

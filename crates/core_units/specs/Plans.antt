@@ -1,15 +1,15 @@
 -- A source with its profile: its program, which functions are reached and which words are needed, how its functions are
 -- numbered; and what is to be made of an external declaration.
 use Rattle.std.specs.Prelude.{Bool, cond, List, Option, Some, None}
-use Rattle.c_tree.specs.declared.unit.External.{External}
-use Rattle.c_says.specs.declared.scope.Entry.{Entry}
-use Rattle.c_runs.specs.declared.profile.Profile.{Profile}
-use Rattle.c_runs.specs.Names.{Word}
-use Rattle.c_runs.specs.Prelude.{prelude_functions}
-use Rattle.c_runs.specs.Programs.{Function, Outer, Program, program_of, has_function, reached, needed_words, is_needed}
-use Rattle.c_runs.specs.Programs.{watched_lasting}
-use Rattle.c_runs.specs.Runs as whole
-use Rattle.c_runs.specs.Units.{machine_of, silent, least}
+use Rattle.c_language.specs.declared.unit.External.{External}
+use Rattle.c_language.specs.declared.scope.Entry.{Entry}
+use Rattle.c_means.specs.declared.profile.Profile.{Profile}
+use Rattle.c_means.specs.Names.{Word}
+use Rattle.c_means.specs.Prelude.{prelude_functions}
+use Rattle.c_means.specs.Programs.{Function, Outer, Program, program_of, has_function, reached, needed_words, is_needed}
+use Rattle.c_means.specs.Programs.{watched_lasting}
+use Rattle.c_means.specs.Runs as whole
+use Rattle.c_means.specs.Units.{machine_of, silent, least}
 use Rattle.core_programs.specs.Numberings.{Numbers}
 use Rattle.core_units.specs.declared.plan.Plan.{Plan}
 use Rattle.core_units.specs.Numbers.{numbers_of}

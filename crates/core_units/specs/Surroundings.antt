@@ -1,14 +1,14 @@
 -- What is known of the whole source where its external declarations are made, as code has it.
 use Rattle.std.specs.Prelude.{◌≡◌, ℕ, Bool, List, [], ◌∷◌, length, option_map, Option}
-use Rattle.c_tree.specs.declared.unit.External.{External}
-use Rattle.c_says.specs.Scopes.{Name}
-use Rattle.c_runs.specs.declared.profile.Profile.{Profile}
-use Rattle.c_runs.specs.Programs.{Function, Outer, functions_of, function_named, has_function}
-use Rattle.c_runs.specs.Runs as whole
+use Rattle.c_language.specs.declared.unit.External.{External}
+use Rattle.c_language.specs.Scopes.{Name}
+use Rattle.c_means.specs.declared.profile.Profile.{Profile}
+use Rattle.c_means.specs.Programs.{Function, Outer, functions_of, function_named, has_function}
+use Rattle.c_means.specs.Runs as whole
 use Rattle.core_callees.specs.declared.numbered.FunctionNumber.{FunctionNumber}
 use Rattle.core_callees.specs.Numbered as table
-use Rattle.c_says.specs.declared.scope.Entry.{Entry}
-use Rattle.c_runs.specs.Items.{Lasting}
+use Rattle.c_language.specs.declared.scope.Entry.{Entry}
+use Rattle.c_means.specs.Items.{Lasting}
 use Rattle.core_tree.specs.declared.program.LastingSetting.{LastingSetting}
 use Rattle.core_units.specs.declared.plan.Plan.{Plan}
 use Rattle.core_units.specs.declared.walk.Around.{Around}

@@ -1,12 +1,12 @@
 -- What it is to be the core of a whole source: in every world and bounds it is the core of the program.
 use Rattle.std.specs.Prelude.{◌≡◌, ℕ, Bool, true, List, ◌++◌, length, Some}
-use Rattle.c_tree.specs.declared.unit.External.{External}
+use Rattle.c_language.specs.declared.unit.External.{External}
 use Rattle.c_means.specs.Parts as c
-use Rattle.c_runs.specs.declared.profile.Profile.{Profile}
-use Rattle.c_runs.specs.Prelude.{prelude_functions}
-use Rattle.c_runs.specs.Programs.{Function, needs_of, main'}
-use Rattle.c_runs.specs.Runs as whole
-use Rattle.c_runs.specs.Units.{machine_of}
+use Rattle.c_means.specs.declared.profile.Profile.{Profile}
+use Rattle.c_means.specs.Prelude.{prelude_functions}
+use Rattle.c_means.specs.Programs.{Function, needs_of, main'}
+use Rattle.c_means.specs.Runs as whole
+use Rattle.c_means.specs.Units.{machine_of}
 use Rattle.core_tree.specs.declared.program.Core.{Core}
 use Rattle.core_tree.specs.declared.program.Function.{Function as CoreFunction}
 use Rattle.core_tree.specs.declared.program.LastingSetting.{LastingSetting}

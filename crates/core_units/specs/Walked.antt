@@ -1,10 +1,10 @@
 -- What is made of external declarations, one after the other: the functions that are reached, in the core, and what
 -- initializers of what is needed set.
 use Rattle.std.specs.Prelude.{◌≡◌, Bool, false, List, [], ◌∷◌}
-use Rattle.c_runs.specs.Items as runs
-use Rattle.c_runs.specs.Names.{Word}
-use Rattle.c_runs.specs.Programs.{Function, Outer, functions_in, all_needs}
-use Rattle.c_runs.specs.Runs as whole
+use Rattle.c_means.specs.Items as runs
+use Rattle.c_means.specs.Names.{Word}
+use Rattle.c_means.specs.Programs.{Function, Outer, functions_in, all_needs}
+use Rattle.c_means.specs.Runs as whole
 use Rattle.core_tree.specs.declared.program.Function.{Function as CoreFunction}
 use Rattle.core_tree.specs.declared.program.LastingSetting.{LastingSetting}
 use Rattle.core_tree.specs.Programs.{body_of}

@@ -4,10 +4,10 @@ ghost use Rattle.c_reach.specs.Reaching.{has_at};
 ghost use Rattle.core_units.specs.Numbers as numbers;
 ghost use Rattle.core_units.specs.Overviews as spec;
 
+use c_language::Entry;
 use c_names::is_needed;
 use c_program_notes::{OuterNotes, Overview, watched_lasting};
 use c_reach::FunctionNotes;
-use c_says::Entry;
 use core_callees::FunctionNumber;
 use plain_data::{Items, Shared};
 use std::alloc::{AllocError, Global};

@@ -1,16 +1,15 @@
 //! The external declarations of a source (C99 6.9), one after the other: the functions that are reached, in the core, and
 //! what the initializers of what is needed set.
 ghost use Rattle.std.specs.Prelude.{◌≡◌, ◌∷◌, [], IfOk, map, drop, slice_get};
-ghost use Rattle.c_tree.specs.declared.unit.External.TheVariants as external_;
-ghost use Rattle.c_runs.specs.Programs as programs;
-ghost use Rattle.c_runs.specs.Statements as statements;
+ghost use Rattle.c_language.specs.declared.unit.External.TheVariants as external_;
+ghost use Rattle.c_means.specs.Programs as programs;
+ghost use Rattle.c_means.specs.Statements as statements;
 ghost use Rattle.core_units.specs.Surroundings as spec;
 
 use crate::plan::Plan;
 use c_item_notes::Source;
+use c_language::{Body, Declaration, Declarator, Entry, External, Specifier};
 use c_program_notes::outer_notes;
-use c_says::Entry;
-use c_tree::{Body, Declaration, Declarator, External, Specifier};
 use c_type_scope::{Named, Scope};
 use core_callees::{Calling, FunctionNumber};
 use core_codes::{Begun, Parts};

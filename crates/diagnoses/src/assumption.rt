@@ -1,6 +1,5 @@
 //! What a report rests on, of what the source doesn't define.
-use bit_words::Bytes;
-use plain_data::Shared;
+use plain_data::{Bytes, Shared};
 
 /// Which arguments of a function, by their indices from 0, are the buffer that it fills and the length of that.
 #[derive(Clone, Copy, Debug, PartialEq, Eq)]

@@ -1,8 +1,7 @@
 //! What is said of a program and a log.
 use crate::verdict::Verdict;
-use bit_words::World;
 use cnf_core::Formula;
-use plain_data::Items;
+use plain_data::{Items, World};
 use proof_check::{Refutation, Trail};
 use std::alloc::Global;
 

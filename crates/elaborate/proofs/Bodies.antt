@@ -1,15 +1,15 @@
 -- The core of a function's body does what the body does, where the calls in it do.
 use Rattle.std.proofs.Common.{◌≡◌, ℕ, suc, ◌+◌, ℤ, List, [], ◌∷◌, length, Some, refl, sym, ap, ap₂, ◌∙◌}
 use Rattle.c_store.specs.Store.{Store, start}
-use Rattle.c_says.specs.declared.scope.Entry.{Entry}
-use Rattle.c_says.specs.Scopes.{Scope}
+use Rattle.c_language.specs.declared.scope.Entry.{Entry}
+use Rattle.c_language.specs.Scopes.{Scope}
 use Rattle.c_means.specs.Parts.{State}
 use Rattle.c_means.specs.Parts as c
-use Rattle.c_runs.specs.Items.{Made, known}
-use Rattle.c_runs.specs.Items as runs
-use Rattle.c_runs.specs.Programs.{Function}
-use Rattle.c_runs.specs.Runs as whole
-use Rattle.c_runs.specs.Statements.{no_env}
+use Rattle.c_means.specs.Items.{Made, known}
+use Rattle.c_means.specs.Items as runs
+use Rattle.c_means.specs.Programs.{Function}
+use Rattle.c_means.specs.Runs as whole
+use Rattle.c_means.specs.Statements.{no_env}
 use Rattle.core_tree.specs.declared.program.Parameter.{Parameter}
 use Rattle.core_tree.specs.States.{Output, plain, Level, onward, born, dead, entered}
 use Rattle.core_tree.specs.Codes.{lived}

@@ -2,12 +2,12 @@
 use Rattle.std.proofs.Common.{◌≡◌, ℕ, suc, ◌+◌, ℤ, pos, Bool, true, false, List, [], ◌∷◌, map, Option}
 use Rattle.std.proofs.Common.{Some, None, Ok, Err, refl, sym, ap, ap₂, ◌∙◌}
 use Rattle.std.specs.Prelude.{unwrap_or}
-use Rattle.bit_words.specs.declared.run.Happening.TheVariants as happening
-use Rattle.c_type_terms.specs.declared.class.Class.{Class}
-use Rattle.c_type_terms.specs.declared.class.Class.TheVariants as class
-use Rattle.c_type_terms.specs.declared.ctype.IntegerKind.TheVariants as int_
+use Rattle.plain_data.specs.declared.run.Happening.TheVariants as happening
+use Rattle.c_language.specs.declared.class.Class.{Class}
+use Rattle.c_language.specs.declared.class.Class.TheVariants as class
+use Rattle.c_language.specs.declared.ctype.IntegerKind.TheVariants as int_
 use Rattle.elaborate.specs.Types.{value_type}
-use Rattle.c_says.specs.Typing.{Typed, type_of}
+use Rattle.c_language.specs.Typing.{Typed, type_of}
 use Rattle.c_means.specs.declared.kind.Kind.{Kind}
 use Rattle.c_means.specs.declared.kind.Kind.TheVariants as k
 use Rattle.c_means.specs.Parts.{State, Env, Part}

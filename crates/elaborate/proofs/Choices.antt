@@ -2,24 +2,24 @@
 use Rattle.std.proofs.Common.{◌≡◌, ℕ, ◌+◌, ℤ, Bool, true, false, cond, List, [], ◌∷◌, map, Option, Some}
 use Rattle.std.proofs.Common.{None, refl, sym, ap, ap₂, ◌∙◌}
 use Rattle.std.specs.Prelude.{◌||◌, unwrap_or}
-use Rattle.bit_words.specs.declared.run.Happening.TheVariants as happening
-use Rattle.bit_words.specs.declared.run.Side.TheVariants as side
-use Rattle.c_type_terms.specs.Types.{class_of}
-use Rattle.c_type_terms.specs.Integers.{converted, is_bool}
+use Rattle.plain_data.specs.declared.run.Happening.TheVariants as happening
+use Rattle.plain_data.specs.declared.run.Side.TheVariants as side
+use Rattle.c_language.specs.Types.{class_of}
+use Rattle.c_language.specs.Integers.{converted, is_bool}
 use Rattle.c_store.specs.Store.{start, write}
-use Rattle.c_says.specs.declared.scope.Entry.{Entry}
-use Rattle.c_says.specs.Initials.{is_text_of}
-use Rattle.c_says.specs.Initials as says
-use Rattle.c_says.specs.Scopes.{Scope}
+use Rattle.c_language.specs.declared.scope.Entry.{Entry}
+use Rattle.c_language.specs.Initials.{is_text_of}
+use Rattle.c_language.specs.Initials as says
+use Rattle.c_language.specs.Scopes.{Scope}
 use Rattle.c_means.specs.declared.kind.Kind.TheVariants as k
 use Rattle.c_means.specs.Parts.{State, Env, Part, note}
 use Rattle.c_means.specs.Parts as c
 use Rattle.c_means.specs.Values.{bytes_of, bytes_of_value}
-use Rattle.c_runs.specs.Notes.{Noted}
-use Rattle.c_runs.specs.Initials as initials
-use Rattle.c_runs.specs.Items.{Case, past_switch}
-use Rattle.c_runs.specs.Items as runs
-use Rattle.c_runs.specs.Statements as statements
+use Rattle.c_means.specs.Notes.{Noted}
+use Rattle.c_means.specs.Initials as initials
+use Rattle.c_means.specs.Items.{Case, past_switch}
+use Rattle.c_means.specs.Items as runs
+use Rattle.c_means.specs.Statements as statements
 use Rattle.core_tree.specs.declared.code.Code.{Code}
 use Rattle.core_tree.specs.declared.code.Code.TheVariants as tree
 use Rattle.core_tree.specs.declared.code.Setting.{Setting}

@@ -2,24 +2,24 @@
 use Rattle.std.proofs.Common.{◌≡◌, ℕ, zero, suc, ◌+◌, ◌*◌, ℤ, Bool, true, false, cond, List, [], ◌∷◌, ◌++◌, map, Option}
 use Rattle.std.proofs.Common.{Some, None, Ok, Err, refl, sym, ap, ap₂, ◌∙◌, subst, arith}
 use Rattle.std.specs.Prelude.{option_map}
-use Rattle.c_type_terms.specs.declared.class.Class.{Class}
-use Rattle.c_type_terms.specs.Integers.{is_zero}
+use Rattle.c_language.specs.declared.class.Class.{Class}
+use Rattle.c_language.specs.Integers.{is_zero}
 use Rattle.c_store.specs.declared.object.ObjectKind.TheVariants.{Automatic}
 use Rattle.c_store.specs.Store.{make, end}
-use Rattle.c_says.specs.Scopes.{Name, Scope}
+use Rattle.c_language.specs.Scopes.{Name, Scope}
 use Rattle.c_means.specs.declared.kind.Kind.{Kind}
 use Rattle.c_means.specs.declared.kind.Kind.TheVariants as k
 use Rattle.c_means.specs.Parts.{State, Env, Part}
 use Rattle.c_means.specs.Parts as c
 use Rattle.c_means.specs.Values as values
 use Rattle.c_means.specs.Expressions as forms
-use Rattle.c_runs.specs.declared.breach.Breach.{Breach}
-use Rattle.c_runs.specs.Notes.{Noted}
-use Rattle.c_runs.specs.Items.{Made, known, past_break, past_continue, at_label, at_case, at_default}
-use Rattle.c_runs.specs.Items as runs
-use Rattle.c_runs.specs.Statements as statements
-use Rattle.c_runs.specs.Initials as initials
-use Rattle.c_says.specs.declared.scope.Entry.{Entry}
+use Rattle.c_means.specs.declared.breach.Breach.{Breach}
+use Rattle.c_means.specs.Notes.{Noted}
+use Rattle.c_means.specs.Items.{Made, known, past_break, past_continue, at_label, at_case, at_default}
+use Rattle.c_means.specs.Items as runs
+use Rattle.c_means.specs.Statements as statements
+use Rattle.c_means.specs.Initials as initials
+use Rattle.c_language.specs.declared.scope.Entry.{Entry}
 use Rattle.core_tree.specs.declared.code.Code.{Code}
 use Rattle.core_tree.specs.declared.code.Code.TheVariants as tree
 use Rattle.core_tree.specs.declared.expr.Expr.{Expr}

@@ -1,12 +1,12 @@
 -- The calls of a program and those of its core do the same, by the depth that is left.
 use Rattle.std.proofs.Common.{◌≡◌, ℕ, zero, suc, ℤ, List, Some, None, sym, ap, ap₂, ◌∙◌}
-use Rattle.bit_words.specs.declared.run.Finish.TheVariants as finish
+use Rattle.plain_data.specs.declared.run.Finish.TheVariants as finish
 use Rattle.c_store.specs.Store.{Store}
 use Rattle.c_means.specs.Parts.{State, Env}
 use Rattle.c_means.specs.Parts as c
-use Rattle.c_runs.specs.Programs.{Function}
-use Rattle.c_runs.specs.Rules.{Rules, LogCall, IdentityCall, BodyCall, LibraryCall, PreludeCall, OutsideCall}
-use Rattle.c_runs.specs.Runs as whole
+use Rattle.c_means.specs.Programs.{Function}
+use Rattle.c_means.specs.Rules.{Rules, LogCall, IdentityCall, BodyCall, LibraryCall, PreludeCall, OutsideCall}
+use Rattle.c_means.specs.Runs as whole
 use Rattle.core_tree.specs.declared.program.Function.{Function as CoreFunction}
 use Rattle.core_tree.specs.States.{Output, entered, finished}
 use Rattle.core_tree.specs.Programs.{Machine, turns_in, size_by, room_by, measures_of, called_at}

@@ -3,19 +3,19 @@ use Rattle.std.proofs.Common.{◌≡◌, ℕ, ℤ, pos, Bool, false, cond, Optio
 use Rattle.std.proofs.Math.Path.{fun_ext}
 use Rattle.std.specs.Prelude.{not, ◌||◌, ◌^◌, ◌+ℤ◌, ◌-ℤ◌, ◌*ℤ◌, int_div, int_rem, int_lt, negsuc, unsigned_abs}
 use Rattle.std.specs.Int.{int_div_euclid}
-use Rattle.bit_words.specs.declared.run.Undefined.TheVariants.{ZeroDivisor, Shift}
-use Rattle.c_tree.specs.declared.expr.BinaryOperator.{BinaryOperator}
-use Rattle.c_tree.specs.declared.expr.BinaryOperator.TheVariants as o
-use Rattle.c_tree.specs.declared.expr.UnaryOperator.TheVariants as u
-use Rattle.c_type_terms.specs.declared.ctype.IntegerKind.{IntegerKind}
-use Rattle.c_type_terms.specs.declared.ctype.IntegerKind.TheVariants as k
-use Rattle.c_type_terms.specs.Integers as integers
+use Rattle.plain_data.specs.declared.run.Undefined.TheVariants.{ZeroDivisor, Shift}
+use Rattle.c_language.specs.declared.expr.BinaryOperator.{BinaryOperator}
+use Rattle.c_language.specs.declared.expr.BinaryOperator.TheVariants as o
+use Rattle.c_language.specs.declared.expr.UnaryOperator.TheVariants as u
+use Rattle.c_language.specs.declared.ctype.IntegerKind.{IntegerKind}
+use Rattle.c_language.specs.declared.ctype.IntegerKind.TheVariants as k
+use Rattle.c_language.specs.Integers as integers
 use Rattle.std.specs.Int.Bits.{bit_and, bit_or, bit_xor}
-use Rattle.bit_words.specs.Words.{word}
-use Rattle.c_type_terms.specs.Integers.{is_zero, number_of, is_bool, width_of}
-use Rattle.c_type_terms.specs.Operators as operators
-use Rattle.c_type_terms.specs.Operators.{Answer, where_in, is_negative, as_shift, is_far}
-use Rattle.c_says.specs.Typing as says
+use Rattle.plain_data.specs.Words.{word}
+use Rattle.c_language.specs.Integers.{is_zero, number_of, is_bool, width_of}
+use Rattle.c_language.specs.Operators as operators
+use Rattle.c_language.specs.Operators.{Answer, where_in, is_negative, as_shift, is_far}
+use Rattle.c_language.specs.Typing as says
 use Rattle.core_tree.specs.declared.types.Arithmetic.{Arithmetic}
 use Rattle.core_tree.specs.declared.types.Arithmetic.TheVariants as a
 use Rattle.core_tree.specs.declared.types.Turning.TheVariants as turn

@@ -1,16 +1,16 @@
 -- Objects of the core are read and written as those of C are.
 use Rattle.std.proofs.Common.{◌≡◌, ℕ, ℤ, Bool, true, false, cond, Ok, refl, sym, ap, ap₂, ◌∙◌}
 use Rattle.std.specs.Prelude.{not, ◌||◌}
-use Rattle.bit_words.specs.declared.run.Undefined.TheVariants as undefined
-use Rattle.c_type_terms.specs.declared.class.Class.{Class}
-use Rattle.c_type_terms.specs.declared.class.Class.TheVariants as class
-use Rattle.c_type_terms.specs.declared.ctype.IntegerKind.{IntegerKind}
-use Rattle.c_type_terms.specs.declared.ctype.IntegerKind.TheVariants as k
-use Rattle.c_type_terms.specs.declared.tables.Tables.{Tables}
-use Rattle.c_type_terms.specs.Integers as integers
+use Rattle.plain_data.specs.declared.run.Undefined.TheVariants as undefined
+use Rattle.c_language.specs.declared.class.Class.{Class}
+use Rattle.c_language.specs.declared.class.Class.TheVariants as class
+use Rattle.c_language.specs.declared.ctype.IntegerKind.{IntegerKind}
+use Rattle.c_language.specs.declared.ctype.IntegerKind.TheVariants as k
+use Rattle.c_language.specs.declared.tables.Tables.{Tables}
+use Rattle.c_language.specs.Integers as integers
 use Rattle.c_store.specs.Store.{read, write}
 use Rattle.c_store.specs.Access.{can_access, can_write}
-use Rattle.c_says.specs.Typing.{Typed}
+use Rattle.c_language.specs.Typing.{Typed}
 use Rattle.c_means.specs.Parts.{State, with_store, stop}
 use Rattle.c_means.specs.Values as values
 use Rattle.c_means.specs.Objects as objects

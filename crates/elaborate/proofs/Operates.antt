@@ -2,13 +2,13 @@
 use Rattle.std.proofs.Common.{◌≡◌, ℕ, pos, Bool, cond, Option, Some, None, Ok, refl, sym, ap}
 use Rattle.std.proofs.Common.{◌∙◌}
 use Rattle.std.specs.Prelude.{IfSome, nat_lt, nat_le, neg_ℤ, ◌+ℤ◌, ◌-ℤ◌, ◌*ℤ◌}
-use Rattle.bit_words.specs.declared.run.Undefined.TheVariants as undefined
-use Rattle.c_tree.specs.declared.expr.BinaryOperator.{BinaryOperator}
-use Rattle.c_tree.specs.declared.expr.BinaryOperator.TheVariants as o
-use Rattle.c_type_terms.specs.declared.ctype.IntegerKind.{IntegerKind}
-use Rattle.c_type_terms.specs.Integers.{number_of}
+use Rattle.plain_data.specs.declared.run.Undefined.TheVariants as undefined
+use Rattle.c_language.specs.declared.expr.BinaryOperator.{BinaryOperator}
+use Rattle.c_language.specs.declared.expr.BinaryOperator.TheVariants as o
+use Rattle.c_language.specs.declared.ctype.IntegerKind.{IntegerKind}
+use Rattle.c_language.specs.Integers.{number_of}
 use Rattle.c_store.specs.Access.{in_one_object}
-use Rattle.c_says.specs.Typing as says
+use Rattle.c_language.specs.Typing as says
 use Rattle.c_means.specs.Parts.{State, stop}
 use Rattle.c_means.specs.Values.{address}
 use Rattle.c_means.specs.Pointers as pointers

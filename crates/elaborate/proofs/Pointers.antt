@@ -2,16 +2,16 @@
 use Rattle.std.proofs.Common.{◌≡◌, ℕ, suc, ◌+◌, ℤ, pos, negsuc, Bool, false, cond, Option, Some, None, Ok, Err}
 use Rattle.std.proofs.Common.{refl, sym, ap, ap₂, ◌∙◌, subst}
 use Rattle.std.specs.Prelude.{not, nat_eq, nat_lt, nat_le, neg_ℤ, unsigned_abs, ◌+ℤ◌, ◌-ℤ◌, ◌*ℤ◌}
-use Rattle.bit_words.specs.declared.run.Undefined.TheVariants as undefined
-use Rattle.c_tree.specs.declared.expr.BinaryOperator.{BinaryOperator}
-use Rattle.c_tree.specs.declared.expr.BinaryOperator.TheVariants as o
-use Rattle.c_type_terms.specs.declared.ctype.CType.{CType}
-use Rattle.c_type_terms.specs.declared.ctype.IntegerKind.{IntegerKind}
-use Rattle.c_type_terms.specs.declared.tables.Tables.{Tables}
-use Rattle.c_type_terms.specs.Integers.{number_of}
+use Rattle.plain_data.specs.declared.run.Undefined.TheVariants as undefined
+use Rattle.c_language.specs.declared.expr.BinaryOperator.{BinaryOperator}
+use Rattle.c_language.specs.declared.expr.BinaryOperator.TheVariants as o
+use Rattle.c_language.specs.declared.ctype.CType.{CType}
+use Rattle.c_language.specs.declared.ctype.IntegerKind.{IntegerKind}
+use Rattle.c_language.specs.declared.tables.Tables.{Tables}
+use Rattle.c_language.specs.Integers.{number_of}
 use Rattle.c_store.specs.Access.{in_one_object}
-use Rattle.c_says.specs.Scopes.{Name}
-use Rattle.c_says.specs.Typing.{Typed}
+use Rattle.c_language.specs.Scopes.{Name}
+use Rattle.c_language.specs.Typing.{Typed}
 use Rattle.c_means.specs.Parts.{State, Env, Part, stop}
 use Rattle.c_means.specs.Parts as c
 use Rattle.c_means.specs.Values.{address, bytes_of, class_in}

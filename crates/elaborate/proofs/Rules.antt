@@ -21,8 +21,8 @@ use Rattle.std.proofs.Common.{
 use Rattle.std.proofs.Common.{Some, None, refl, sym, ap, ap₂, ◌∙◌, arith, length, drop, length-append, ◌-◌}
 use Rattle.std.proofs.lemmas.List.{append_assoc, append-nil}
 use Rattle.std.specs.Prelude.{not, ◌&&◌, nat_eq, nat_lt, ◌%◌, ◌^◌}
-use Rattle.bit_words.specs.declared.run.Finish.TheVariants as finish
-use Rattle.bit_words.specs.declared.run.Happening.TheVariants as happening
+use Rattle.plain_data.specs.declared.run.Finish.TheVariants as finish
+use Rattle.plain_data.specs.declared.run.Happening.TheVariants as happening
 use Rattle.printf_text.specs.declared.piece.Arg.{Arg}
 use Rattle.printf_text.specs.declared.piece.Form.{Form}
 use Rattle.printf_text.specs.declared.piece.Form.TheVariants as form
@@ -32,15 +32,15 @@ use Rattle.printf_text.specs.declared.piece.Size.{Size}
 use Rattle.printf_text.specs.declared.piece.Size.TheVariants as size
 use Rattle.printf_text.specs.Texts.{piece_text, piece_kinds, text_of}
 use Rattle.printf_text.specs.Texts.{size_of as size_in}
-use Rattle.c_says.specs.declared.scope.Entry.{Entry}
-use Rattle.c_runs.specs.declared.profile.LogText.{LogText}
+use Rattle.c_language.specs.declared.scope.Entry.{Entry}
+use Rattle.c_means.specs.declared.profile.LogText.{LogText}
 use Rattle.core_tree.specs.declared.expr.Watched.{Watched}
 use Rattle.elaborate.specs.Types.{word_type}
-use Rattle.bit_words.specs.declared.run.Undefined.TheVariants as undefined
-use Rattle.c_type_terms.specs.declared.class.Class.{Class}
-use Rattle.c_type_terms.specs.declared.class.Class.TheVariants as class
-use Rattle.c_type_terms.specs.declared.ctype.CType.{CType}
-use Rattle.c_type_terms.specs.declared.ctype.IntegerKind.TheVariants as int_
+use Rattle.plain_data.specs.declared.run.Undefined.TheVariants as undefined
+use Rattle.c_language.specs.declared.class.Class.{Class}
+use Rattle.c_language.specs.declared.class.Class.TheVariants as class
+use Rattle.c_language.specs.declared.ctype.CType.{CType}
+use Rattle.c_language.specs.declared.ctype.IntegerKind.TheVariants as int_
 use Rattle.std.specs.Prelude.{option_map}
 use Rattle.c_store.specs.declared.object.ObjectKind.TheVariants as object
 use Rattle.c_store.specs.Store.{Store, start, object_of, make, end, zero_range}
@@ -49,16 +49,16 @@ use Rattle.c_means.specs.Parts.{State, Env}
 use Rattle.c_means.specs.Parts as c
 use Rattle.c_means.specs.Values.{address, class_in, bytes_of}
 use Rattle.c_means.specs.Values as values
-use Rattle.c_runs.specs.Calls as calls
+use Rattle.c_means.specs.Calls as calls
 use Rattle.core_tree.specs.declared.types.ValueType.{ValueType}
 use Rattle.core_tree.specs.Numbers as numbers
 use Rattle.core_tree.specs.States.{Output, printing, plain, Done, Level, meets}
 use Rattle.core_tree.specs.Callees as core
 use Rattle.elaborate.specs.Means.{Numbering}
 use Rattle.elaborate.specs.Means.{as_done, Like}
-use Rattle.c_runs.specs.declared.profile.FillAnswer.{FillAnswer}
-use Rattle.c_runs.specs.declared.profile.FillAnswer.TheVariants as answer
-use Rattle.c_runs.specs.declared.profile.FillFunction.{FillFunction}
+use Rattle.c_means.specs.declared.profile.FillAnswer.{FillAnswer}
+use Rattle.c_means.specs.declared.profile.FillAnswer.TheVariants as answer
+use Rattle.c_means.specs.declared.profile.FillFunction.{FillFunction}
 use Rattle.core_tree.specs.declared.expr.Pointee.TheVariants as pointee
 use Rattle.elaborate.specs.Callees.{pointee_of, answer_in, answer_of, counts, fill_of, word_types}
 use Rattle.elaborate.proofs.Numbers.{wrapped_same}

@@ -1,8 +1,8 @@
 -- States of the core and of C, one behind the other.
 use Rattle.std.proofs.Common.{◌≡◌, ℕ, ℤ, Bool, true, false, cond, Ok, Err}
 use Rattle.std.proofs.Common.{refl, ap, ◌∙◌}
-use Rattle.c_type_terms.specs.Integers.{is_zero}
-use Rattle.c_type_terms.specs.Operators.{Answer}
+use Rattle.c_language.specs.Integers.{is_zero}
+use Rattle.c_language.specs.Operators.{Answer}
 use Rattle.c_means.specs.Parts.{State}
 use Rattle.c_means.specs.Parts as c
 use Rattle.c_means.specs.Expressions as forms

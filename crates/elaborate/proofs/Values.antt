@@ -2,27 +2,27 @@
 use Rattle.std.proofs.Common.{◌≡◌, ℕ, suc, ◌+◌, ℤ, pos, Bool, true, false, cond, Option, Some, None, Ok}
 use Rattle.std.proofs.Common.{Err, refl, sym, ap, ap₂, ◌∙◌, subst}
 use Rattle.std.specs.Prelude.{unsigned_abs, not, ◌||◌}
-use Rattle.c_tree.specs.declared.expr.BinaryOperator.{BinaryOperator}
-use Rattle.c_tree.specs.declared.expr.BinaryOperator.TheVariants as o
-use Rattle.c_tree.specs.declared.expr.UnaryOperator.{UnaryOperator}
-use Rattle.c_tree.specs.declared.expr.UnaryOperator.TheVariants as u
+use Rattle.c_language.specs.declared.expr.BinaryOperator.{BinaryOperator}
+use Rattle.c_language.specs.declared.expr.BinaryOperator.TheVariants as o
+use Rattle.c_language.specs.declared.expr.UnaryOperator.{UnaryOperator}
+use Rattle.c_language.specs.declared.expr.UnaryOperator.TheVariants as u
 use Rattle.core_tree.specs.declared.types.Turning.{Turning}
-use Rattle.c_says.specs.Typing as says
-use Rattle.c_type_terms.specs.declared.class.Class.{Class}
-use Rattle.c_type_terms.specs.declared.class.Class.TheVariants as class
-use Rattle.c_type_terms.specs.declared.ctype.IntegerKind.{IntegerKind}
-use Rattle.c_type_terms.specs.Integers.{is_zero, number_of, promoted}
-use Rattle.bit_words.specs.declared.run.Undefined.TheVariants as undefined
+use Rattle.c_language.specs.Typing as says
+use Rattle.c_language.specs.declared.class.Class.{Class}
+use Rattle.c_language.specs.declared.class.Class.TheVariants as class
+use Rattle.c_language.specs.declared.ctype.IntegerKind.{IntegerKind}
+use Rattle.c_language.specs.Integers.{is_zero, number_of, promoted}
+use Rattle.plain_data.specs.declared.run.Undefined.TheVariants as undefined
 use Rattle.c_store.specs.Access.{can_access}
 use Rattle.core_tree.specs.declared.types.ValueType.TheVariants as v
 use Rattle.c_store.specs.Store.{start}
-use Rattle.c_says.specs.declared.scope.Duration.TheVariants as duration
-use Rattle.c_says.specs.Typing.{Typed, type_of}
+use Rattle.c_language.specs.declared.scope.Duration.TheVariants as duration
+use Rattle.c_language.specs.Typing.{Typed, type_of}
 use Rattle.c_means.specs.Parts.{State, Env, Part}
 use Rattle.c_means.specs.Parts as c
 use Rattle.c_means.specs.Values.{class_in, address, bytes_of}
-use Rattle.c_type_terms.specs.declared.ctype.CType.{CType}
-use Rattle.c_type_terms.specs.declared.tables.Tables.{Tables}
+use Rattle.c_language.specs.declared.ctype.CType.{CType}
+use Rattle.c_language.specs.declared.tables.Tables.{Tables}
 use Rattle.c_means.specs.Objects as objects
 use Rattle.c_means.specs.Values as values
 use Rattle.c_means.specs.Operators.{value_type, kind_in}

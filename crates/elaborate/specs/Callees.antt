@@ -1,15 +1,15 @@
 -- What is called, for the rules of calls that are no calls by body.
 use Rattle.std.specs.Prelude.{Bool, true, false, cond, List, [], ◌∷◌, Option}
-use Rattle.c_type_terms.specs.declared.class.Class.{Class}
-use Rattle.c_type_terms.specs.declared.class.Class.TheVariants as class
-use Rattle.c_type_terms.specs.declared.ctype.CType.{CType}
-use Rattle.c_type_terms.specs.declared.tables.Tables.{Tables}
+use Rattle.c_language.specs.declared.class.Class.{Class}
+use Rattle.c_language.specs.declared.class.Class.TheVariants as class
+use Rattle.c_language.specs.declared.ctype.CType.{CType}
+use Rattle.c_language.specs.declared.tables.Tables.{Tables}
 use Rattle.c_means.specs.Parts.{Site}
 use Rattle.c_means.specs.Values.{class_in, bytes_of}
-use Rattle.c_runs.specs.declared.profile.FillAnswer.{FillAnswer}
-use Rattle.c_runs.specs.declared.profile.FillAnswer.TheVariants as answer
-use Rattle.c_runs.specs.declared.profile.FillFunction.{FillFunction}
-use Rattle.c_runs.specs.Calls.{kind_or_int, pointed, is_string}
+use Rattle.c_means.specs.declared.profile.FillAnswer.{FillAnswer}
+use Rattle.c_means.specs.declared.profile.FillAnswer.TheVariants as answer
+use Rattle.c_means.specs.declared.profile.FillFunction.{FillFunction}
+use Rattle.c_means.specs.Calls.{kind_or_int, pointed, is_string}
 use Rattle.core_tree.specs.declared.expr.Fill.{Fill}
 use Rattle.core_tree.specs.declared.expr.OutsideAnswer.{OutsideAnswer}
 use Rattle.core_tree.specs.declared.expr.OutsideAnswer.TheVariants as outside

@@ -2,24 +2,24 @@
 -- part does, takes as many places, and counts as many nodes. The states are the same, but that the core keeps apart
 -- what a run leaves outside.
 use Rattle.std.specs.Prelude.{◌≡◌, ℕ, ℤ, pos, true, List, [], ◌∷◌, Option, Some, Ok, Err}
-use Rattle.c_type_terms.specs.declared.class.Class.{Class}
-use Rattle.c_type_terms.specs.declared.tables.Tables.{Tables}
+use Rattle.c_language.specs.declared.class.Class.{Class}
+use Rattle.c_language.specs.declared.tables.Tables.{Tables}
 use Rattle.c_store.specs.Store.{Store, read}
-use Rattle.c_says.specs.Typing.{Typed, type_of}
+use Rattle.c_language.specs.Typing.{Typed, type_of}
 use Rattle.c_means.specs.Values as values
 use Rattle.c_means.specs.Objects as objects
 use Rattle.c_means.specs.Parts.{State, Env, Part}
 use Rattle.c_means.specs.Parts as c
-use Rattle.c_runs.specs.Items.{Made}
-use Rattle.c_runs.specs.Items as runs
-use Rattle.c_says.specs.declared.scope.Entry.{Entry}
-use Rattle.c_says.specs.Scopes.{Scope, Name}
-use Rattle.c_runs.specs.Programs.{Function}
-use Rattle.c_runs.specs.Runs as whole
+use Rattle.c_means.specs.Items.{Made}
+use Rattle.c_means.specs.Items as runs
+use Rattle.c_language.specs.declared.scope.Entry.{Entry}
+use Rattle.c_language.specs.Scopes.{Scope, Name}
+use Rattle.c_means.specs.Programs.{Function}
+use Rattle.c_means.specs.Runs as whole
 use Rattle.core_tree.specs.declared.program.Parameter.{Parameter}
 use Rattle.core_tree.specs.Memory.{stored}
 use Rattle.core_tree.specs.Programs.{Body, Machine, turns_in}
-use Rattle.c_runs.specs.Rules.{Rules, BodyCall, PreludeCall, identity_index}
+use Rattle.c_means.specs.Rules.{Rules, BodyCall, PreludeCall, identity_index}
 use Rattle.core_tree.specs.declared.code.Code.{Code}
 use Rattle.c_means.specs.Expressions.{Passed}
 use Rattle.core_tree.specs.declared.expr.Callee.{Callee}

@@ -1,8 +1,8 @@
 -- The operator of the core that a binary operator of C is, by the types of its operands.
 use Rattle.std.specs.Prelude.{◌≡◌, ℕ, ℤ, Option, Some, None}
-use Rattle.c_tree.specs.declared.expr.BinaryOperator.{BinaryOperator}
-use Rattle.c_tree.specs.declared.expr.BinaryOperator.TheVariants as o
-use Rattle.c_type_terms.specs.declared.ctype.IntegerKind.{IntegerKind}
+use Rattle.c_language.specs.declared.expr.BinaryOperator.{BinaryOperator}
+use Rattle.c_language.specs.declared.expr.BinaryOperator.TheVariants as o
+use Rattle.c_language.specs.declared.ctype.IntegerKind.{IntegerKind}
 use Rattle.c_means.specs.Parts.{State}
 use Rattle.c_means.specs.Operators.{Operand, operated}
 use Rattle.core_tree.specs.declared.types.Arithmetic.{Arithmetic}

@@ -3,8 +3,7 @@ ghost use Rattle.std.specs.Prelude.{◌≡◌, IfSome};
 ghost use Rattle.elaborate.specs.Operators as spec;
 
 use crate::types::{arithmetic, word_type};
-use c_tree::BinaryOperator;
-use c_type_terms::IntegerKind;
+use c_language::{BinaryOperator, IntegerKind};
 use core_tree::{Operator, Relation};
 
 /// What an operator is to know of an operand: the integer type that it has, or, of a pointer, the bytes of what it

@@ -2,8 +2,7 @@
 ghost use Rattle.std.specs.Prelude.{◌≡◌, Some, MatchOption, ⊤, IfSome};
 ghost use Rattle.elaborate.specs.Types as spec;
 
-use c_tree::BinaryOperator;
-use c_type_terms::{Class, IntegerKind};
+use c_language::{BinaryOperator, Class, IntegerKind};
 use core_tree::{Arithmetic, ValueType, WordType};
 
 /// The width and sign of an integer type, `_Bool` as the unsigned type of its byte.

@@ -2,11 +2,11 @@
 use Rattle.std.proofs.Common.{◌≡◌, ◌<◌, ◌+◌, ℕ, suc, List, [], ◌∷◌, ◌++◌, length, get_or, drop, map, Option, Some, None, refl, sym, ap, ◌∙◌, arith, add-one, drop-cons, append_assoc, ◌≢◌}
 use Rattle.std.proofs.lemmas.List.{append-nil}
 use Rattle.std.specs.Prelude.{option_map, IfSome}
-use Rattle.c_tree.specs.declared.unit.Stmt.{Stmt as Source, fold-roll-Stmt}
-use Rattle.c_tree.specs.declared.unit.Stmt.TheOpen as source
-use Rattle.c_tree.specs.declared.unit.Stmt.TheVariants as variant
-use Rattle.c_tree.specs.declared.unit.Stmt.TheVariants.{rolls-Block}
-use Rattle.c_tree.specs.declared.unit.External.{External}
+use Rattle.c_language.specs.declared.unit.Stmt.{Stmt as Source, fold-roll-Stmt}
+use Rattle.c_language.specs.declared.unit.Stmt.TheOpen as source
+use Rattle.c_language.specs.declared.unit.Stmt.TheVariants as variant
+use Rattle.c_language.specs.declared.unit.Stmt.TheVariants.{rolls-Block}
+use Rattle.c_language.specs.declared.unit.External.{External}
 use Rattle.first_form.specs.declared.tree.Stmt.{Stmt, fold-roll-Stmt as rolls}
 use Rattle.first_form.specs.declared.tree.Stmt.TheVariants as stmt
 use Rattle.first_form.specs.declared.tree.Stmt.TheVariants.{rolls-Block as rolls-items}

@@ -4,29 +4,29 @@ use Rattle.std.specs.Prelude.{◌≡◌, ◌+◌, ℕ, ℤ, pos, suc, max, List,
 use Rattle.std.specs.Str.{bytes_eq}
 use Rattle.std.specs.List.{list_any}
 use denote.Enum.Bare.{sameb}
-use Rattle.c_tokens.specs.declared.token.IntegerConstant.{IntegerConstant}
-use Rattle.c_tokens.specs.declared.token.IntegerType.{IntegerType}
-use Rattle.c_tokens.specs.declared.token.IntegerType.TheVariants.{Int}
-use Rattle.c_tree.specs.declared.expr.Expr.{Expr, out-Expr}
-use Rattle.c_tree.specs.declared.expr.Specifier.{Specifier, out-Specifier}
-use Rattle.c_tree.specs.declared.expr.Declarator.{Declarator, out-Declarator}
-use Rattle.c_tree.specs.declared.expr.Parameter.{Parameter, out-Parameter}
-use Rattle.c_tree.specs.declared.expr.TypeName.{TypeName}
-use Rattle.c_tree.specs.declared.expr.Field.{Field}
-use Rattle.c_tree.specs.declared.expr.Enumerator.{Enumerator}
-use Rattle.c_tree.specs.declared.expr.MemberDeclaration.{MemberDeclaration}
-use Rattle.c_tree.specs.declared.expr.Declarator.TheOpen as syntax
-use Rattle.c_tree.specs.declared.expr.Qualifier.TheVariants as qualifier
-use Rattle.c_tree.specs.declared.expr.TypeWord.{TypeWord}
-use Rattle.c_tree.specs.declared.expr.TypeWord.TheVariants as word
-use Rattle.c_tree.specs.contracts.expr.TypeWord.{the_type as word_type}
-use Rattle.c_tree.specs.declared.unit.InitDeclarator.{InitDeclarator}
-use Rattle.c_tree.specs.declared.unit.Stmt.{Stmt as Source, fold-Stmt, out-Stmt}
-use Rattle.c_tree.specs.declared.unit.Stmt.TheOpen as source
-use Rattle.c_tree.specs.declared.unit.Body.{Body}
-use Rattle.c_tree.specs.declared.unit.Body.TheVariants as body
-use Rattle.c_tree.specs.declared.unit.External.{External}
-use Rattle.c_tree.specs.declared.unit.External.TheVariants as external
+use Rattle.c_language.specs.declared.token.IntegerConstant.{IntegerConstant}
+use Rattle.c_language.specs.declared.token.IntegerType.{IntegerType}
+use Rattle.c_language.specs.declared.token.IntegerType.TheVariants.{Int}
+use Rattle.c_language.specs.declared.expr.Expr.{Expr, out-Expr}
+use Rattle.c_language.specs.declared.expr.Specifier.{Specifier, out-Specifier}
+use Rattle.c_language.specs.declared.expr.Declarator.{Declarator, out-Declarator}
+use Rattle.c_language.specs.declared.expr.Parameter.{Parameter, out-Parameter}
+use Rattle.c_language.specs.declared.expr.TypeName.{TypeName}
+use Rattle.c_language.specs.declared.expr.Field.{Field}
+use Rattle.c_language.specs.declared.expr.Enumerator.{Enumerator}
+use Rattle.c_language.specs.declared.expr.MemberDeclaration.{MemberDeclaration}
+use Rattle.c_language.specs.declared.expr.Declarator.TheOpen as syntax
+use Rattle.c_language.specs.declared.expr.Qualifier.TheVariants as qualifier
+use Rattle.c_language.specs.declared.expr.TypeWord.{TypeWord}
+use Rattle.c_language.specs.declared.expr.TypeWord.TheVariants as word
+use Rattle.c_language.specs.contracts.expr.TypeWord.{the_type as word_type}
+use Rattle.c_language.specs.declared.unit.InitDeclarator.{InitDeclarator}
+use Rattle.c_language.specs.declared.unit.Stmt.{Stmt as Source, fold-Stmt, out-Stmt}
+use Rattle.c_language.specs.declared.unit.Stmt.TheOpen as source
+use Rattle.c_language.specs.declared.unit.Body.{Body}
+use Rattle.c_language.specs.declared.unit.Body.TheVariants as body
+use Rattle.c_language.specs.declared.unit.External.{External}
+use Rattle.c_language.specs.declared.unit.External.TheVariants as external
 use Rattle.first_form.specs.declared.tree.Stmt.{Stmt, fold-Stmt as fold}
 use Rattle.first_form.specs.declared.tree.Stmt.TheVariants as stmt
 use Rattle.first_form.specs.declared.tree.Stmt.TheOpen as open_

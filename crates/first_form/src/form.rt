@@ -5,13 +5,11 @@ ghost use Rattle.first_form.specs.Form.{Gives};
 
 use crate::names::{is_declared, is_left_out, is_main, is_outside, is_printf};
 use crate::tree::{Declaration, Stmt, Unit};
-use bit_words::Bytes;
-use c_tokens::{IntegerConstant, IntegerType};
-use c_tree::{
-    Body, Declarator, Expr, External, InitDeclarator, Parameter, Qualifier, Specifier,
-    Stmt as Source, TypeWord,
+use c_language::{
+    Body, Declarator, Expr, External, InitDeclarator, IntegerConstant, IntegerType, Parameter,
+    Qualifier, Specifier, Stmt as Source, TypeWord,
 };
-use plain_data::{Items, Shared};
+use plain_data::{Bytes, Items, Shared};
 use std::alloc::{AllocError, Global};
 use thiserror::Error;
 
@@ -715,11 +713,11 @@ fn program_of(
 
 /// Reads the first form off a source's unit, whose places are kept. `NotYetRead` comes exactly where the unit doesn't
 /// have the form.
-pub fn read(alloc: Global, unit: c_tree::Unit) -> Result<Unit, FormFault>
+pub fn read(alloc: Global, unit: c_language::Unit) -> Result<Unit, FormFault>
     ensures tree { Gives (λ u. record { functions = u.functions; body = u.body }) result (spec.program_of unit.externals) }
     ensures places { IfOk result (λ u. u.places ≡ unit.places) }
 {
-    let c_tree::Unit { externals, places } = unit;
+    let c_language::Unit { externals, places } = unit;
     let (functions, body) = program_of(alloc, externals.as_slice())?;
     Ok(Unit {
         functions,

@@ -1,8 +1,6 @@
 //! The program that a source of the first form is, with the places of its tokens.
-use bit_words::Bytes;
-use c_tokens::Name;
-use c_tree::Places;
-use plain_data::{Items, Shared};
+use c_language::{Name, Places};
+use plain_data::{Bytes, Items, Shared};
 
 /// A statement (C99 6.8). Each `at` and `call` is the byte offset of a token: of the statement's keyword,
 /// and of a called function's name.

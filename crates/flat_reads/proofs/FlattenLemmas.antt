@@ -4,9 +4,9 @@ use Rattle.std.specs.Prelude.{slice_get, Result, Ok, Err, IfOk, OnOk}
 use Rattle.std.specs.Option.{option_map}
 use Rattle.std.specs.Map.{lookup}
 use Rattle.term_bank.specs.contracts.shape.ShapePartialEq.TheImpl.{ghosts}
-use Rattle.bit_words.specs.Words.{bits}
-use Rattle.bit_words.specs.declared.width.Width.{Width}
-use Rattle.bit_words.specs.declared.width.Width.TheVariants.{W8, W64}
+use Rattle.plain_data.specs.Words.{bits}
+use Rattle.plain_data.specs.declared.width.Width.{Width}
+use Rattle.plain_data.specs.declared.width.Width.TheVariants.{W8, W64}
 use Rattle.c_store.specs.declared.object.ObjectKind.{ObjectKind}
 use Rattle.term_bank.specs.declared.sort.Sort.{Sort}
 use Rattle.term_bank.specs.declared.sort.Sort.TheVariants.{Word}

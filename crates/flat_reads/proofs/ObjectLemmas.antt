@@ -1,8 +1,8 @@
 -- What is asked of objects, and of which memory.
 use Rattle.std.proofs.Common.{◌≡◌, ◌<◌, ◌/◌, ◌^◌, ◌∷◌, [], ℕ, List, Some, None, Bool, true, false, arith, refl, sym, ap, subst, ◌∙◌, cond}
 use Rattle.std.specs.Prelude.{slice_get, nat_eq, Option, IfSome, Result, Ok, Err, IfOk}
-use Rattle.bit_words.specs.declared.width.Width.{Width}
-use Rattle.bit_words.specs.declared.width.Width.TheVariants.{W64}
+use Rattle.plain_data.specs.declared.width.Width.{Width}
+use Rattle.plain_data.specs.declared.width.Width.TheVariants.{W64}
 use Rattle.c_store.specs.declared.object.Object.{Object}
 use Rattle.c_store.specs.declared.object.ObjectKind.{ObjectKind}
 use Rattle.term_bank.specs.declared.bank.BankFault.{BankFault}

@@ -10,8 +10,8 @@ use Rattle.term_bank.proofs.BankLemmas.{stays}
 use Rattle.term_bank.proofs.BindingLemmas.{node_sorted}
 use Rattle.flat_reads.specs.Flats.{Gives}
 use Rattle.flat_reads.proofs.FlatLemmas.{flat_first}
-use Rattle.bit_words.specs.declared.width.Width.{Width}
-use Rattle.bit_words.specs.declared.width.Width.TheVariants.{W8, W16, W32, W64}
+use Rattle.plain_data.specs.declared.width.Width.{Width}
+use Rattle.plain_data.specs.declared.width.Width.TheVariants.{W8, W16, W32, W64}
 use Rattle.term_bank.specs.declared.shape.WordOperator.TheVariants as operator
 use Rattle.term_bank.specs.declared.shape.WordTest.TheVariants as test
 use Rattle.term_bank.specs.Memories.{behind, distance}

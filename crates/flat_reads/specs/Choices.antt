@@ -1,6 +1,6 @@
 -- What a question leads to. A question is a shape whose value is asked for.
 use Rattle.std.specs.Prelude.{◌≡◌, ◌<◌, ◌≤◌, ℕ, List, cond}
-use Rattle.bit_words.specs.declared.width.Width.TheVariants.{W8}
+use Rattle.plain_data.specs.declared.width.Width.TheVariants.{W8}
 use Rattle.term_bank.specs.Memories.{lay}
 use Rattle.term_bank.specs.Under.{IsUnder}
 use Rattle.mem_terms.specs.Reads.{ReadsAlike}

@@ -1,7 +1,7 @@
 -- Questions for an object of a memory: whether bytes are of it while it lives, and of which kind and size it is.
 use Rattle.std.specs.Prelude.{◌≡◌, ◌<◌, ◌≤◌, ◌+◌, ◌%◌, ◌^◌, ℕ, List, [], ◌∷◌, Option, cond, nat_eq, false}
-use Rattle.bit_words.specs.Words.{bits}
-use Rattle.bit_words.specs.declared.width.Width.TheVariants.{W64}
+use Rattle.plain_data.specs.Words.{bits}
+use Rattle.plain_data.specs.declared.width.Width.TheVariants.{W64}
 use Rattle.c_store.specs.declared.object.Object.{Object}
 use Rattle.c_store.specs.Store.{object_of, offset_of, size_in}
 use Rattle.c_store.specs.Access.{reaches}

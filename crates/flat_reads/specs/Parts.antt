@@ -1,7 +1,7 @@
 -- What the nodes are worth of which a byte is made.
 use Rattle.std.specs.Prelude.{ℕ}
-use Rattle.bit_words.specs.declared.width.Width.{Width}
-use Rattle.bit_words.specs.declared.width.Width.TheVariants.{W8, W16, W32, W64}
+use Rattle.plain_data.specs.declared.width.Width.{Width}
+use Rattle.plain_data.specs.declared.width.Width.TheVariants.{W8, W16, W32, W64}
 use Rattle.term_bank.specs.declared.shape.WordOperator.TheVariants as operator
 use Rattle.term_bank.specs.declared.shape.Extension.TheVariants as extension
 use Rattle.term_bank.specs.Values.{result_of, converted}

@@ -1,5 +1,5 @@
 ghost use Rattle.std.specs.Prelude.{◌≡◌, ◌∷◌, [], Some, slice_get, IfOk};
-ghost use Rattle.bit_words.specs.declared.width.Width.TheVariants.{W8, W64};
+ghost use Rattle.plain_data.specs.declared.width.Width.TheVariants.{W8, W64};
 ghost use Rattle.term_bank.specs.Banks.{IsBank};
 ghost use Rattle.term_bank.specs.Shapes.{IsNode, IsWell, memory as memory_node, word};
 ghost use Rattle.term_bank.specs.Values.{Grows, IsWorth};
@@ -12,8 +12,8 @@ ghost use Rattle.flat_reads.specs.Choices.{Asks, IsChoice, IsQuestion, Leads};
 use crate::object_choices::object_choice;
 use crate::objects::ObjectQuestion;
 use crate::parts::{behind, constant, distance, inside, octet};
-use bit_words::Width;
 use mem_terms::{octets, seen};
+use plain_data::Width;
 use term_bank::{Bank, BankFault, Node, Shape, Sort};
 
 /// What a question leads to: a node, or another question.

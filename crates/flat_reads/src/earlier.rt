@@ -1,11 +1,11 @@
 //! Earlier memories that have the same object.
 ghost use Rattle.std.specs.Prelude.{◌≡◌, IsTrue, IfSome};
-ghost use Rattle.bit_words.specs.declared.width.Width.TheVariants.{W64};
+ghost use Rattle.plain_data.specs.declared.width.Width.TheVariants.{W64};
 ghost use Rattle.term_bank.specs.Shapes.{Each, IsNode, memory as memory_node, word};
 ghost use Rattle.flat_reads.specs.Objects.{AsksObject, AsksOther, IsEarlier, IsNumbered, operands};
 
 use crate::objects::ObjectQuestion;
-use bit_words::Width;
+use plain_data::Width;
 use term_bank::{Bank, Shape};
 
 /// The number of the object that a question asks for, where a constant tells it.

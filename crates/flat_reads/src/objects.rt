@@ -1,6 +1,6 @@
 //! What is told of an object that a question asks for, by its number.
 ghost use Rattle.std.specs.Prelude.{◌≡◌, ◌∷◌, ◌++◌, ◌+◌, ◌||◌, [], None, Some, not, nat_eq, nat_le};
-ghost use Rattle.bit_words.specs.declared.width.Width.TheVariants.{W64};
+ghost use Rattle.plain_data.specs.declared.width.Width.TheVariants.{W64};
 ghost use Rattle.c_store.specs.Store.{object_of, offset_of};
 ghost use Rattle.c_store.specs.Access.{reaches};
 ghost use Rattle.term_bank.specs.Banks.{IsBank};
@@ -13,8 +13,8 @@ ghost use Rattle.flat_reads.specs.Flats.{Gives};
 ghost use Rattle.flat_reads.specs.Objects.{asked_of, object_in, operands, sort_in, told};
 
 use crate::parts::{binary, constant, distance, inside};
-use bit_words::Width;
 use c_store::ObjectKind;
+use plain_data::Width;
 use term_bank::{Bank, BankFault, Connective, Node, Shape, Sort, WordOperator, WordTest};
 
 /// What is asked of the object of a number, whatever memory it is asked of.

@@ -1,6 +1,6 @@
 ghost use Rattle.std.specs.Prelude.{◌≡◌, ◌∷◌, [], nat_lt, ◌<◌, ◌^◌};
-ghost use Rattle.bit_words.specs.Words.{bits};
-ghost use Rattle.bit_words.specs.declared.width.Width.TheVariants.{W8, W64};
+ghost use Rattle.plain_data.specs.Words.{bits};
+ghost use Rattle.plain_data.specs.declared.width.Width.TheVariants.{W8, W64};
 ghost use Rattle.term_bank.specs.Memories.{behind as behind_of, distance as distance_of};
 ghost use Rattle.term_bank.specs.Shapes.{IsNode, word};
 ghost use Rattle.term_bank.specs.Banks.{IsBank};
@@ -11,7 +11,7 @@ ghost use Rattle.term_bank.specs.declared.sort.Sort.TheVariants.{Truth, Word};
 ghost use Rattle.flat_reads.specs.Flats.{Gives};
 ghost use Rattle.flat_reads.specs.Parts.{moved, octet_of};
 
-use bit_words::Width;
+use plain_data::Width;
 use term_bank::{Bank, BankFault, Extension, Node, Shape, Sort, WordOperator, WordTest};
 
 /// A constant word.

@@ -7,8 +7,7 @@ ghost use Rattle.flat_reads.specs.Tables.{IsAgreement, IsFlat, IsRow, Lists, IsT
 ghost use Rattle.term_bank.specs.Under.{IsOnly};
 
 use crate::flatten::flat_roots;
-use bit_words::Width;
-use plain_data::Items;
+use plain_data::{Items, Width};
 use std::alloc::Global;
 use term_bank::{Bank, BankFault, Node, Shape, Sort, WordTest, nodes_under};
 

@@ -1,5 +1,5 @@
 ghost use Rattle.std.specs.Prelude.{◌≡◌, ◌∷◌, ◌<◌, ◌%◌, [], OnOk};
-ghost use Rattle.bit_words.specs.declared.width.Width.TheVariants.{W8, W64};
+ghost use Rattle.plain_data.specs.declared.width.Width.TheVariants.{W8, W64};
 ghost use Rattle.term_bank.specs.Banks.{IsBank};
 ghost use Rattle.term_bank.specs.Memories.{behind as behind_of, octets as octets_of, read};
 ghost use Rattle.term_bank.specs.Shapes.{IsNode, memory as memory_node, word};
@@ -13,8 +13,8 @@ ghost use Rattle.flat_reads.specs.Answers.{AreAnswers};
 use crate::answers::answer;
 use crate::choices::{Found, asked};
 use crate::parts::{behind, binary, constant, converted_to};
-use bit_words::Width;
 use mem_terms::octets;
+use plain_data::Width;
 use std::alloc::Global;
 use std::collections::HashMap;
 use term_bank::{Bank, BankFault, Node, Shape, Sort, WordOperator};

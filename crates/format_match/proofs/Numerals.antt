@@ -7,8 +7,8 @@ use Rattle.std.specs.Int.Digits.{digits_of, AllBelowBase}
 use Rattle.std.proofs.lemmas.Int.Digits.{all_below_base_digits_of}
 use Rattle.std.proofs.Math.Nat.{eq-or-lt_of_le}
 use Rattle.std.proofs.lemmas.Bool.{or_from, or_parts, and_parts, both_ways, eqb-true}
-use Rattle.bit_words.specs.Words.{word, signed}
-use Rattle.bit_words.specs.declared.width.Width.{Width}
+use Rattle.plain_data.specs.Words.{word, signed}
+use Rattle.plain_data.specs.declared.width.Width.{Width}
 use Rattle.printf_text.specs.Texts.{Parts, formed, in_field, fills_zeros, number_of, signed_parts, unsigned_parts, pointer_parts, base, digit, digits, digits_wanted, sign_of, prefix_of, marked, with_zero}
 use Rattle.printf_text.specs.declared.piece.Arg.{Arg}
 use Rattle.printf_text.specs.declared.piece.Arg.TheVariants as arg

@@ -8,10 +8,10 @@ use Rattle.std.proofs.lemmas.Bool.{false_from_ne_true, eqb-true, eqb-false, eq-e
 use Rattle.std.proofs.lemmas.Int.{ints}
 use Rattle.std.proofs.Math.Nat.{mod-eq_of_lt}
 use Rattle.std.proofs.lemmas.List.{reverse-append}
-use Rattle.bit_words.specs.Words.{bits, word, signed}
-use Rattle.bit_words.specs.declared.width.Width.{Width}
-use Rattle.bit_words.specs.declared.width.Width.TheVariants.{W8, W16, W32, W64}
-use Rattle.bit_words.proofs.WordLaws.{word_below, word-signed}
+use Rattle.plain_data.specs.Words.{bits, word, signed}
+use Rattle.plain_data.specs.declared.width.Width.{Width}
+use Rattle.plain_data.specs.declared.width.Width.TheVariants.{W8, W16, W32, W64}
+use Rattle.plain_data.proofs.WordLaws.{word_below, word-signed}
 use Rattle.printf_text.specs.Texts.{HasKind, form_kind, formed, in_field, plain, number_of, fills_zeros, signed_parts, unsigned_parts}
 use Rattle.printf_text.specs.declared.kind.Kind.TheVariants as kind
 use Rattle.printf_text.specs.declared.piece.Arg.{Arg}

@@ -8,9 +8,9 @@ use Rattle.std.proofs.lemmas.Int.{ints}
 use Rattle.std.proofs.lemmas.Bool.{false_from_ne_true, eq-eqb, ne_eqb, lt-ltb, le-ltb, cases_lt, cases_eq, or_from}
 use Rattle.std.proofs.lemmas.Bool.Decides.{nat_tests}
 use Rattle.std.proofs.lemmas.List.{length-append, length-replicate, length-take, take_all}
-use Rattle.bit_words.specs.Words.{word, signed, is_signed}
-use Rattle.bit_words.specs.declared.width.Width.TheVariants.{W32}
-use Rattle.bit_words.proofs.WordLaws.{word_below, signed-word}
+use Rattle.plain_data.specs.Words.{word, signed, is_signed}
+use Rattle.plain_data.specs.declared.width.Width.TheVariants.{W32}
+use Rattle.plain_data.proofs.WordLaws.{word_below, signed-word}
 use Rattle.printf_text.specs.Texts.{HaveKinds, Parts, first, int_of, number_of, formed, in_field, parts, plain, text_bytes, fills_zeros, form_kind, size_of, size_kinds, marked, with_zero, digit, digits, base}
 use Rattle.printf_text.proofs.TextLaws.{length-in_field}
 use Rattle.printf_text.specs.declared.kind.Kind.{Kind}

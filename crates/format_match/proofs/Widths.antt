@@ -6,10 +6,10 @@ use Rattle.std.specs.Int.RustNames.{unsigned_abs}
 use Rattle.std.proofs.lemmas.Int.{ints}
 use Rattle.std.proofs.lemmas.Int.Digits.{length-digits_of-le}
 use Rattle.std.proofs.lemmas.List.{drop-drop, length-append, length-map, length-replicate, length-take}
-use Rattle.bit_words.specs.Words.{bits, word, signed}
-use Rattle.bit_words.specs.declared.width.Width.{Width}
-use Rattle.bit_words.specs.declared.width.Width.TheVariants.{W8, W16, W32, W64}
-use Rattle.bit_words.proofs.WordLaws.{word_below}
+use Rattle.plain_data.specs.Words.{bits, word, signed}
+use Rattle.plain_data.specs.declared.width.Width.{Width}
+use Rattle.plain_data.specs.declared.width.Width.TheVariants.{W8, W16, W32, W64}
+use Rattle.plain_data.proofs.WordLaws.{word_below}
 use Rattle.printf_text.specs.Texts.{HasKind, HaveKinds, base, digits, digits_wanted, sign_of, unsigned_parts, with_zero, number_of, parts, first, size_of, size_kinds, form_kind, text_bytes, fills_zeros}
 use Rattle.printf_text.specs.declared.kind.Kind.{Kind}
 use Rattle.printf_text.specs.declared.piece.Arg.{Arg}

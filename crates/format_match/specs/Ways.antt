@@ -3,8 +3,8 @@ use Rattle.std.specs.Prelude.{ℕ, zero, suc, ◌+◌, ◌-◌, ◌≡◌, ◌==
 use Rattle.std.specs.List.{filter, list_any, list_all}
 use Rattle.std.specs.Int.{is_negative}
 use Rattle.std.specs.Str.{bytes_eq}
-use Rattle.bit_words.specs.Words.{is_signed}
-use Rattle.bit_words.specs.declared.width.Width.TheVariants.{W32}
+use Rattle.plain_data.specs.Words.{is_signed}
+use Rattle.plain_data.specs.declared.width.Width.TheVariants.{W32}
 use Rattle.printf_text.specs.declared.kind.Kind.{Kind}
 use Rattle.printf_text.specs.declared.kind.Kind.TheVariants as kind
 use Rattle.printf_text.specs.declared.piece.Arg.{Arg}

@@ -4,7 +4,7 @@ ghost use Rattle.positions.specs.Sets.{has, are_before};
 ghost use Rattle.format_match.specs.Spelled.{AddsEnds, EndsBehind, EndsExactly, AreWithin, AreBelow, is_printed, may_end, is_plain_text, has_no_sizes, is_text};
 
 use crate::matching::{MatchFault, begins, conversion_splits};
-use bit_words::Bytes;
+use plain_data::Bytes;
 use positions::Positions;
 use printf_text::{Conversion, Form, Piece, Pieces, Size};
 use std::alloc::{AllocError, Global};

@@ -10,7 +10,7 @@ ghost use Rattle.format_match.specs.Reading.{is_integer, form_width};
 use crate::reading::{form_width, pads_right, pointer_read, word_read};
 use crate::split::{Constraint, SplitList, Stretch};
 use crate::way::{Sizes, push_way};
-use bit_words::Bytes;
+use plain_data::Bytes;
 use printf_text::{Arg, Flags, Form, write_formed};
 use std::alloc::{AllocError, Global};
 

@@ -9,7 +9,7 @@ use crate::matching::begins;
 use crate::reaching::reach;
 use crate::split::SplitList;
 use crate::stars::push_conversion;
-use bit_words::Bytes;
+use plain_data::Bytes;
 use printf_text::{Conversion, Piece};
 use std::alloc::{AllocError, Global};
 

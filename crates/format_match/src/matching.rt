@@ -9,7 +9,7 @@ ghost use Rattle.format_match.specs.Ways.{Adds, Describes, AddsAfter, Follows, e
 use crate::reaching::reach;
 use crate::split::{Constraints, Split, SplitList, joined};
 use crate::stars::push_conversion;
-use bit_words::Bytes;
+use plain_data::Bytes;
 use printf_text::{Conversion, Piece, Pieces};
 use std::alloc::{AllocError, Global};
 use thiserror::Error;

@@ -6,7 +6,7 @@ ghost use Rattle.printf_text.specs.declared.piece.Arg.{Arg};
 ghost use Rattle.format_match.specs.Splits.{begins};
 ghost use Rattle.format_match.specs.Reaches.{is_numeric, is_hex, is_mark, is_numeral, is_other, HasMostDigits, IsWidest, IsLongest, IsLongestNumber, IsLongestField, Reaches};
 
-use bit_words::Width;
+use plain_data::Width;
 use printf_text::{Conversion, Form, Radix, Size};
 
 /// Whether a form prints a number or a pointer.

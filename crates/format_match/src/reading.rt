@@ -1,11 +1,11 @@
 ghost use Rattle.std.specs.Prelude.{◌≡◌, ◌%◌, ◌^◌, ◌<◌, ◌≤◌, ◌+◌, ◌*◌, IsTrue, ℕ, if◌then◌else◌};
 ghost use Rattle.std.specs.Char.{digit_value, is_digit};
-ghost use Rattle.bit_words.specs.Words.{bits};
+ghost use Rattle.plain_data.specs.Words.{bits};
 ghost use Rattle.printf_text.specs.Texts.{base};
 ghost use Rattle.format_match.specs.Reading.{digits_read, signed_read, first_byte, last_byte, pads_right, form_width, word_read};
 
 use crate::way::Sizes;
-use bit_words::{Width, wrap};
+use plain_data::{Width, wrap};
 use printf_text::{Flags, Form, Radix};
 
 /// The value of a digit in a base up to 36, or 36.

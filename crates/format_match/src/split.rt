@@ -1,7 +1,6 @@
 ghost use Rattle.std.specs.Prelude.{◌≡◌, ◌++◌, IfOk};
 
-use bit_words::Width;
-use plain_data::Items;
+use plain_data::{Items, Width};
 use std::alloc::{AllocError, Global};
 use std::marker::Model;
 

@@ -3,9 +3,9 @@ use Rattle.std.proofs.Common.{◌≡◌, ◌+◌, ◌||◌, ℕ, zero, suc, ℤ,
 use Rattle.std.proofs.lemmas.Bool.{or_left, eq-eqb}
 use Rattle.c_means.specs.declared.kind.Kind.{Kind}
 use Rattle.c_means.specs.declared.kind.Kind.TheVariants as k
-use Rattle.c_runs.specs.Items.{Made, known}
-use Rattle.c_runs.specs.Runs.{comes_back}
-use Rattle.c_runs.specs.Statements.{no_env}
+use Rattle.c_means.specs.Items.{Made, known}
+use Rattle.c_means.specs.Runs.{comes_back}
+use Rattle.c_means.specs.Statements.{no_env}
 use Rattle.c_store.specs.Store.{Store}
 use Rattle.core_tree.specs.declared.code.Code.{Code}
 use Rattle.core_tree.specs.declared.program.Function.{Function}

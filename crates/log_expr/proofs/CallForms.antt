@@ -2,8 +2,8 @@
 use Rattle.std.proofs.Common.{◌≡◌, ℕ, zero, suc, ◌+◌, ◌*◌, ◌-◌, ◌≤◌, ℤ, pos, Bool, true, false, cond, not, ◌&&◌, ◌⊎◌, inl, inr, List, [], ◌∷◌, length, drop, Option, Some, None, refl, sym, ap, subst, ◌∙◌, arith}
 use Rattle.std.specs.Prelude.{Ok, Err, nat_lt, nat_eq}
 use Rattle.std.proofs.lemmas.List.{length-drop}
-use Rattle.bit_words.specs.declared.run.Finish.TheVariants as finish
-use Rattle.bit_words.specs.declared.run.Happening.TheVariants as happening
+use Rattle.plain_data.specs.declared.run.Finish.TheVariants as finish
+use Rattle.plain_data.specs.declared.run.Happening.TheVariants as happening
 use Rattle.printf_text.specs.declared.piece.Arg.{Arg}
 use Rattle.printf_text.specs.declared.piece.Piece.{Piece}
 use Rattle.printf_text.specs.Texts.{HaveKinds, kinds}
@@ -11,7 +11,7 @@ use Rattle.c_means.specs.declared.kind.Kind.{Kind}
 use Rattle.c_means.specs.declared.kind.Kind.TheVariants as k
 use Rattle.c_means.specs.Parts.{Env, World}
 use Rattle.c_means.specs.Values.{address}
-use Rattle.c_runs.specs.Calls.{pointers_in}
+use Rattle.c_means.specs.Calls.{pointers_in}
 use Rattle.c_store.specs.Store.{Store}
 use Rattle.c_store.specs.Access.{can_access, can_write, can_free}
 use Rattle.core_tree.specs.declared.expr.Callee.{Callee}
@@ -21,7 +21,7 @@ use Rattle.core_tree.specs.declared.expr.OutsideAnswer.{OutsideAnswer}
 use Rattle.core_tree.specs.declared.expr.OutsideAnswer.TheVariants as answer
 use Rattle.core_tree.specs.declared.expr.Pointee.{Pointee}
 use Rattle.core_tree.specs.declared.expr.Pointee.TheVariants as pointee
-use Rattle.bit_words.specs.declared.run.Undefined.TheVariants as undefined
+use Rattle.plain_data.specs.declared.run.Undefined.TheVariants as undefined
 use Rattle.core_tree.specs.declared.expr.Watched.{Watched}
 use Rattle.core_tree.specs.declared.types.ValueType.{ValueType}
 use Rattle.core_tree.specs.declared.types.ValueType.TheVariants as v

@@ -1,12 +1,12 @@
 -- What holds code holds the forms over it.
 use Rattle.std.proofs.Common.{◌≡◌, ◌+◌, ℕ, zero, suc, ℤ, Bool, true, false, cond, List, [], ◌∷◌, Option, Some, None, refl, sym, subst, ◌∙◌}
 use Rattle.std.specs.Prelude.{map}
-use Rattle.bit_words.specs.declared.run.Finish.TheVariants as finish
-use Rattle.bit_words.specs.declared.run.Happening.TheVariants as happening
+use Rattle.plain_data.specs.declared.run.Finish.TheVariants as finish
+use Rattle.plain_data.specs.declared.run.Happening.TheVariants as happening
 use Rattle.c_means.specs.declared.kind.Kind.{Kind}
 use Rattle.c_means.specs.declared.kind.Kind.TheVariants as k
 use Rattle.c_means.specs.Parts.{Env}
-use Rattle.c_runs.specs.Items.{Made, known, past_break, past_continue, past_switch}
+use Rattle.c_means.specs.Items.{Made, known, past_break, past_continue, past_switch}
 use Rattle.core_tree.specs.declared.types.WordType.{WordType}
 use Rattle.core_tree.specs.Codes.{Item, acting, nothing, followed, in_turn, lived, evaluated, value_of, jump, returns, return_of, block, arrived, if_of, if_runs, is_among, chosen, chosen_at, switch_of, switch_runs}
 use Rattle.core_tree.specs.Numbers.{wrapped}

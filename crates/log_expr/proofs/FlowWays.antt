@@ -1,13 +1,13 @@
 -- Flows, step by step.
 use Rattle.std.proofs.Common.{◌≡◌, ℕ, zero, suc, ℤ, Bool, true, false, cond, List, [], ◌∷◌, Option, Some, None, refl, sym, subst, ◌∙◌}
 use Rattle.std.specs.Prelude.{Ok, Err}
-use Rattle.bit_words.specs.declared.run.Finish.{Finish}
+use Rattle.plain_data.specs.declared.run.Finish.{Finish}
 use Rattle.c_means.specs.declared.kind.Kind.{Kind}
 use Rattle.c_means.specs.declared.kind.Kind.TheVariants as k
-use Rattle.c_type_terms.specs.Integers.{is_zero}
+use Rattle.c_language.specs.Integers.{is_zero}
 use Rattle.core_tree.specs.States.{along, Done, Outcome, Arrow, onward, running, where_running, arrive, become, with_value, on_branch}
 use Rattle.positions.specs.Sets.{has}
-use Rattle.c_runs.specs.Items.{past_break, past_continue}
+use Rattle.c_means.specs.Items.{past_break, past_continue}
 use Rattle.log_expr.specs.declared.course.Course.{Course}
 use Rattle.log_expr.specs.declared.flow.Flow.{Flow}
 use Rattle.log_expr.specs.Courses.{only_running, but_running, jumps, turned, EndsBody}

@@ -3,7 +3,7 @@ use Rattle.std.proofs.Common.{◌≡◌, ◌≢◌, ℕ, zero, suc, ◌+◌, ◌
 use Rattle.std.specs.List.{starts_with}
 use Rattle.std.proofs.lemmas.List.{length-append, length-drop}
 use Rattle.std.proofs.lemmas.List.Elements.{All-nil, All-cons}
-use Rattle.bit_words.proofs.WordLaws.{word_below}
+use Rattle.plain_data.proofs.WordLaws.{word_below}
 use Rattle.printf_text.specs.declared.kind.Kind.{Kind}
 use Rattle.printf_text.specs.declared.kind.Kind.TheVariants as kind
 use Rattle.printf_text.specs.declared.piece.Arg.{Arg}
@@ -17,10 +17,10 @@ use Rattle.printf_text.specs.declared.piece.Size.{Size}
 use Rattle.printf_text.specs.declared.piece.Size.TheVariants as size
 use Rattle.printf_text.specs.Texts.{HasKind, HaveKinds, kinds, piece_kinds, size_kinds, form_kind, piece_text, text_of}
 use Rattle.printf_text.specs.Texts.{size_of as size_in}
-use Rattle.c_type_terms.specs.Integers.{is_zero}
+use Rattle.c_language.specs.Integers.{is_zero}
 use Rattle.c_store.specs.Store.{Store}
 use Rattle.c_means.specs.Values.{address}
-use Rattle.c_runs.specs.Calls.{text_from, text_at, most_of, text_arg, with_byte, before_args, shown_number, pointer_places}
+use Rattle.c_means.specs.Calls.{text_from, text_at, most_of, text_arg, with_byte, before_args, shown_number, pointer_places}
 use Rattle.core_tree.specs.Callees.{Spoken, integer_arg, star_args, behind_star, pointer_arg, first_value, formed_arg, arguments_of, taken_then, says_all, asked}
 use Rattle.core_tree.specs.States.{along, follows, Level}
 use Rattle.positions.specs.Sets.{has}

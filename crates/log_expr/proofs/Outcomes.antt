@@ -1,10 +1,10 @@
 -- Outcomes of expressions along a log, step by step.
 use Rattle.std.proofs.Common.{◌≡◌, ℕ, ℤ, pos, negsuc, Bool, true, false, cond, List, Some, None, refl, sym, subst, ◌∙◌}
 use Rattle.std.specs.Prelude.{Ok, Err}
-use Rattle.bit_words.specs.declared.run.Undefined.{Undefined}
+use Rattle.plain_data.specs.declared.run.Undefined.{Undefined}
 use Rattle.c_means.specs.declared.kind.Kind.TheVariants as k
-use Rattle.c_type_terms.specs.Integers.{is_zero}
-use Rattle.c_type_terms.specs.Operators.{Answer}
+use Rattle.c_language.specs.Integers.{is_zero}
+use Rattle.c_language.specs.Operators.{Answer}
 use Rattle.core_tree.specs.declared.types.Access.{Access}
 use Rattle.core_tree.specs.declared.types.Operator.{Operator}
 use Rattle.core_tree.specs.declared.types.Operator.TheVariants as op

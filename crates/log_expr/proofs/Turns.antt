@@ -1,10 +1,10 @@
 -- Loops, turn by turn.
 use Rattle.std.proofs.Common.{◌≡◌, ◌+◌, ◌<◌, ◌⊎◌, inl, inr, ℕ, zero, suc, ℤ, Bool, true, false, List, [], ◌∷◌, Option, Some, None, refl, sym, ap, subst, ◌∙◌, arith}
-use Rattle.bit_words.specs.declared.run.Finish.TheVariants as finish
+use Rattle.plain_data.specs.declared.run.Finish.TheVariants as finish
 use Rattle.c_means.specs.declared.kind.Kind.{Kind}
 use Rattle.c_means.specs.declared.kind.Kind.TheVariants as k
 use Rattle.c_means.specs.Parts.{Env}
-use Rattle.c_runs.specs.Items.{past_break, past_continue}
+use Rattle.c_means.specs.Items.{past_break, past_continue}
 use Rattle.core_tree.specs.Codes.{Item, left_at, tested, test_needs, turn_needs, turns_from, broken_out, looped, rounds_from, repeated, maybe_evaluated}
 use Rattle.core_tree.specs.States.{along, Done, Acts, Arrow, Level, onward, running, stay, arrive, finished, on_branch, one_of}
 use Rattle.core_tree.specs.Values.{Value}

@@ -3,7 +3,7 @@ use Rattle.std.proofs.Common.{◌≡◌, ◌+◌, ℕ, ℤ, pos, Bool, true, fal
 use Rattle.std.specs.Prelude.{unsigned_abs, not}
 use Rattle.c_means.specs.declared.kind.Kind.TheVariants as k
 use Rattle.c_means.specs.Parts.{Env}
-use Rattle.c_type_terms.specs.Integers.{is_zero, number_of}
+use Rattle.c_language.specs.Integers.{is_zero, number_of}
 use Rattle.core_tree.specs.declared.types.Access.{Access}
 use Rattle.core_tree.specs.declared.types.Answered.{Answered}
 use Rattle.core_tree.specs.declared.types.Operator.{Operator}

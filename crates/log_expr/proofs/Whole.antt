@@ -1,9 +1,9 @@
 -- A closed table that has the call of `main` is sound.
 use Rattle.std.proofs.Common.{◌≡◌, ◌+◌, ◌<◌, ◌⊎◌, inl, inr, ℕ, zero, suc, ℤ, cond, List, [], Option, Some, None, refl, sym, ap, subst, ◌∙◌, arith}
 use Rattle.std.specs.Prelude.{slice_get, IfSome, IsSome}
-use Rattle.bit_words.specs.declared.bounds.Bounds.{Bounds}
+use Rattle.plain_data.specs.declared.bounds.Bounds.{Bounds}
 use Rattle.c_means.specs.Parts.{World, Limits}
-use Rattle.c_runs.specs.Units.{limits_of}
+use Rattle.c_means.specs.Units.{limits_of}
 use Rattle.c_store.specs.Store.{Store}
 use Rattle.core_tree.specs.declared.program.Core.{Core}
 use Rattle.core_tree.specs.declared.program.Function.{Function}

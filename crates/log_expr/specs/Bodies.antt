@@ -1,8 +1,8 @@
 -- The ends of functions.
 use Rattle.std.specs.Prelude.{◌≡◌, ◌⊎◌, ℕ, suc, cond, List, Some, IfSome, slice_get}
-use Rattle.bit_words.specs.declared.bounds.Bounds.{Bounds}
+use Rattle.plain_data.specs.declared.bounds.Bounds.{Bounds}
 use Rattle.c_means.specs.declared.kind.Kind.{Kind}
-use Rattle.c_runs.specs.Units.{limits_of}
+use Rattle.c_means.specs.Units.{limits_of}
 use Rattle.core_tree.specs.declared.program.Core.{Core}
 use Rattle.core_tree.specs.declared.program.Function.{Function}
 use Rattle.core_tree.specs.Programs.{turns_in}

@@ -2,7 +2,7 @@
 use Rattle.std.specs.Prelude.{◌≡◌, ◌++◌, ◌∷◌, [], ◌⊎◌, ℕ, List}
 use Rattle.c_means.specs.declared.kind.Kind.{Kind}
 use Rattle.c_means.specs.declared.kind.Kind.TheVariants as k
-use Rattle.c_runs.specs.Items.{past_continue}
+use Rattle.c_means.specs.Items.{past_continue}
 use Rattle.log_expr.specs.declared.course.Aside.{Aside}
 use Rattle.log_expr.specs.declared.course.Course.{Course}
 use Rattle.log_expr.specs.declared.flow.Flow.{Flow}

@@ -1,8 +1,8 @@
 -- A program within bounds along a log.
 use Rattle.std.specs.Prelude.{ℕ, List}
-use Rattle.bit_words.specs.declared.bounds.Bounds.{Bounds}
+use Rattle.plain_data.specs.declared.bounds.Bounds.{Bounds}
 use Rattle.c_means.specs.Parts.{Limits}
-use Rattle.c_runs.specs.Units.{limits_of}
+use Rattle.c_means.specs.Units.{limits_of}
 use Rattle.core_tree.specs.declared.program.Core.{Core}
 use Rattle.log_expr.specs.declared.table.Entry.{Entry}
 

@@ -1,6 +1,6 @@
 //! The end table of a program.
 ghost use Rattle.std.specs.Prelude.{◌<◌, IfOk};
-ghost use Rattle.c_runs.specs.Units.{limits_of};
+ghost use Rattle.c_means.specs.Units.{limits_of};
 ghost use Rattle.log_expr.specs.Below.{FoundEnds};
 ghost use Rattle.log_expr.specs.Bodies.{site_of, PutsOnce, WalksCall};
 ghost use Rattle.log_expr.specs.Sound.{IsSound};
@@ -9,8 +9,8 @@ use crate::bodies::walk_body;
 use crate::callees::Walk;
 use crate::place::{Place, below};
 use crate::table::{EndTable, Ends};
-use bit_words::Bounds;
 use core_tree::Core;
+use plain_data::Bounds;
 use positions::Positions;
 use std::alloc::{AllocError, Global};
 

@@ -1,9 +1,9 @@
 //! Positions at which a run may stand.
 ghost use Rattle.std.specs.Prelude.{◌≡◌, ℤ, Option, [], IfOk, OnOk};
-ghost use Rattle.c_runs.specs.Items.{past_break, past_continue, past_switch, at_label, at_case, at_default};
-ghost use Rattle.bit_words.specs.declared.run.Finish.{Finish};
+ghost use Rattle.c_means.specs.Items.{past_break, past_continue, past_switch, at_label, at_case, at_default};
+ghost use Rattle.plain_data.specs.declared.run.Finish.{Finish};
 ghost use Rattle.c_means.specs.declared.kind.Kind.TheVariants as k;
-ghost use Rattle.c_says.specs.Scopes.{Name};
+ghost use Rattle.c_language.specs.Scopes.{Name};
 ghost use Rattle.log_expr.specs.Courses.{jumps};
 ghost use Rattle.log_expr.specs.Flows.{Arrives, unchanged, Wider};
 

@@ -4,8 +4,8 @@ ghost use Rattle.core_tree.specs.Programs.{turns_in};
 ghost use Rattle.log_expr.specs.Bodies.{whole_of, site_of};
 
 use crate::stage::Stage;
-use bit_words::Bounds;
 use core_tree::{Core, Function};
+use plain_data::Bounds;
 
 /// Where a function of a program runs along a log: the bounds, how many turns its loops take, and how many levels of
 /// calls are left below it.

@@ -2,7 +2,7 @@
 use Rattle.std.proofs.Common.{◌≡◌, ◌+◌, ◌*◌, ℕ, zero, suc, ℤ, pos, Bool, true, false, cond, not, ◌&&◌, List, [], ◌∷◌, ◌++◌, length, drop, Option, Some, None, refl, sym, ap, subst, ◌∙◌, append_assoc}
 use Rattle.std.specs.Prelude.{Ok, Err, nat_lt, nat_eq}
 use Rattle.std.proofs.lemmas.List.{append-nil}
-use Rattle.bit_words.specs.declared.run.Finish.TheVariants as finish
+use Rattle.plain_data.specs.declared.run.Finish.TheVariants as finish
 use Rattle.printf_text.specs.declared.piece.Arg.{Arg}
 use Rattle.printf_text.specs.declared.piece.Piece.{Piece}
 use Rattle.printf_text.specs.Texts.{piece_text, piece_kinds, text_of}
@@ -10,7 +10,7 @@ use Rattle.c_means.specs.declared.kind.Kind.{Kind}
 use Rattle.c_means.specs.declared.kind.Kind.TheVariants as k
 use Rattle.c_means.specs.Parts.{Env}
 use Rattle.c_means.specs.Values.{address}
-use Rattle.c_runs.specs.Calls.{pointers_in}
+use Rattle.c_means.specs.Calls.{pointers_in}
 use Rattle.c_store.specs.Store.{Store}
 use Rattle.c_store.specs.Access.{can_access, can_write, can_free}
 use Rattle.core_tree.specs.declared.expr.Callee.{Callee}

@@ -3,9 +3,9 @@ use Rattle.std.proofs.Common.{◌≡◌, ◌+◌, ℕ, zero, suc, ℤ, Bool, tru
 use Rattle.std.proofs.lemmas.List.{append-nil}
 use Rattle.c_means.specs.declared.kind.Kind.{Kind}
 use Rattle.c_means.specs.Parts.{Env}
-use Rattle.c_runs.specs.Items.{Made, known, past_switch}
-use Rattle.c_runs.specs.Initials.{text_byte}
-use Rattle.c_runs.specs.Statements.{no_env}
+use Rattle.c_means.specs.Items.{Made, known, past_switch}
+use Rattle.c_means.specs.Initials.{text_byte}
+use Rattle.c_means.specs.Statements.{no_env}
 use Rattle.c_store.specs.Store.{Store, start, lay}
 use Rattle.core_tree.specs.declared.code.Setting.{Setting}
 use Rattle.core_tree.specs.declared.code.Setting.TheVariants as setting

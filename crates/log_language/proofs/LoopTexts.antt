@@ -4,10 +4,10 @@ use Rattle.std.specs.Prelude.{Ok, Err}
 use Rattle.std.proofs.lemmas.List.{append-nil}
 use Rattle.c_means.specs.declared.kind.Kind.{Kind}
 use Rattle.c_means.specs.declared.kind.Kind.TheVariants as k
-use Rattle.c_type_terms.specs.Integers.{is_zero}
-use Rattle.bit_words.specs.declared.run.Finish.TheVariants as finish
+use Rattle.c_language.specs.Integers.{is_zero}
+use Rattle.plain_data.specs.declared.run.Finish.TheVariants as finish
 use Rattle.c_means.specs.Parts.{Env}
-use Rattle.c_runs.specs.Items.{past_break, past_continue}
+use Rattle.c_means.specs.Items.{past_break, past_continue}
 use Rattle.core_tree.specs.Codes.{Item, left_at, tested, test_needs, turn_needs, turns_from, broken_out, looped, rounds_from, repeated, maybe_evaluated, evaluated, nothing}
 use Rattle.core_tree.specs.States.{Output, plain, Done, Acts, Arrow, Level, onward, running, where_running, stay, with_value, Outcome, arrive, finished, on_branch, one_of}
 use Rattle.core_tree.specs.Values.{Value}

@@ -3,8 +3,8 @@ use Rattle.std.proofs.Common.{◌≡◌, ◌+◌, ◌<◌, ◌≤◌, ℕ, ℤ, 
 use Rattle.std.specs.Prelude.{option_map, slice_get}
 use Rattle.std.proofs.lemmas.List.{drop_more, drop_all}
 use Rattle.c_means.specs.declared.kind.Kind.TheVariants as k
-use Rattle.c_runs.specs.Items.{at_label, at_case, at_default}
-use Rattle.c_says.specs.Scopes.{Name}
+use Rattle.c_means.specs.Items.{at_label, at_case, at_default}
+use Rattle.c_language.specs.Scopes.{Name}
 use Rattle.core_tree.specs.declared.code.Code.{Code}
 use Rattle.core_tree.specs.declared.code.Code.TheVariants as tree_of
 use Rattle.core_tree.specs.declared.code.Setting.{Setting}

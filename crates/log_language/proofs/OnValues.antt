@@ -5,7 +5,7 @@ use Rattle.std.proofs.lemmas.List.{drop_more, drop_all}
 use Rattle.c_means.specs.Values.{address, bytes_within}
 use Rattle.c_means.specs.Expressions.{behind}
 use Rattle.c_store.specs.Store.{start}
-use Rattle.c_type_terms.specs.Integers.{is_zero, number_of}
+use Rattle.c_language.specs.Integers.{is_zero, number_of}
 use Rattle.core_tree.specs.declared.expr.Callee.{Callee}
 use Rattle.core_tree.specs.declared.expr.Expr.{Expr}
 use Rattle.core_tree.specs.declared.expr.Expr.TheVariants as expr

@@ -1,9 +1,9 @@
 -- What expressions print.
 use Rattle.std.proofs.Common.{◌≡◌, ◌+◌, ℕ, ℤ, pos, Bool, true, false, List, [], ◌∷◌, refl, sym, subst}
 use Rattle.std.specs.Prelude.{unsigned_abs, not, Some, None, Option}
-use Rattle.bit_words.specs.declared.run.Happening.TheVariants as happening
+use Rattle.plain_data.specs.declared.run.Happening.TheVariants as happening
 use Rattle.c_means.specs.Parts.{Env}
-use Rattle.c_type_terms.specs.Integers.{is_zero, number_of}
+use Rattle.c_language.specs.Integers.{is_zero, number_of}
 use Rattle.core_tree.specs.declared.expr.Callee.{Callee}
 use Rattle.core_tree.specs.declared.types.Access.{Access}
 use Rattle.core_tree.specs.declared.types.Answered.{Answered}

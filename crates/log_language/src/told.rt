@@ -3,8 +3,7 @@ ghost use Rattle.std.specs.Prelude.{◌≡◌, IfOk, OnOk};
 ghost use Rattle.log_language.specs.Steps.{MayPrint, Saves, Switches, Joins, EntersLoop, LeavesLoop};
 
 use crate::tree::LogExpr;
-use bit_words::Bytes;
-use plain_data::{Items, Shared};
+use plain_data::{Bytes, Items, Shared};
 use printf_text::{Piece, Pieces};
 use std::alloc::{AllocError, Global};
 

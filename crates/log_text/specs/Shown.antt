@@ -1,15 +1,15 @@
 -- What a run shows along a stripped log.
 use Rattle.std.specs.Prelude.{◌≡◌, ℕ, ℤ, List, Some, Any, All, slice_get}
-use Rattle.bit_words.specs.declared.run.Undefined.{Undefined}
-use Rattle.bit_words.specs.declared.run.Finish.{Finish}
-use Rattle.bit_words.specs.declared.run.Finish.TheVariants as finish
-use Rattle.bit_words.specs.declared.run.Side.{Side}
-use Rattle.bit_words.specs.declared.run.Happening.{Happening}
-use Rattle.bit_words.specs.declared.run.Happening.TheVariants as happening
-use Rattle.bit_words.specs.declared.run.Event.{Event}
-use Rattle.bit_words.specs.declared.run.Run.{Run}
-use Rattle.bit_words.specs.declared.fact.Fact.{Fact}
-use Rattle.bit_words.specs.declared.fact.Fact.TheVariants as fact
+use Rattle.plain_data.specs.declared.run.Undefined.{Undefined}
+use Rattle.plain_data.specs.declared.run.Finish.{Finish}
+use Rattle.plain_data.specs.declared.run.Finish.TheVariants as finish
+use Rattle.plain_data.specs.declared.run.Side.{Side}
+use Rattle.plain_data.specs.declared.run.Happening.{Happening}
+use Rattle.plain_data.specs.declared.run.Happening.TheVariants as happening
+use Rattle.plain_data.specs.declared.run.Event.{Event}
+use Rattle.plain_data.specs.declared.run.Run.{Run}
+use Rattle.plain_data.specs.declared.fact.Fact.{Fact}
+use Rattle.plain_data.specs.declared.fact.Fact.TheVariants as fact
 use Rattle.log_text.specs.Lines.{line_of}
 
 -- the run stays within its bounds

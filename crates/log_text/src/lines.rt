@@ -2,8 +2,7 @@ ghost use Rattle.std.specs.Prelude.{◌≡◌, ◌≤◌, ◌<◌, nat_le, lengt
 ghost use Rattle.std.specs.List.Sorted.{IsNonDecreasing};
 ghost use Rattle.log_text.specs.Lines as spec;
 
-use bit_words::Bytes;
-use plain_data::Items;
+use plain_data::{Bytes, Items};
 use std::alloc::{AllocError, Global};
 use std::marker::Model;
 

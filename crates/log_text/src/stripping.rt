@@ -6,7 +6,7 @@ ghost use Rattle.log_text.specs.Stripping.{stripped};
 
 use crate::lines::{LogText, count_lines, line_len};
 use crate::prefix::{Prefix, without_prefix};
-use bit_words::Bytes;
+use plain_data::Bytes;
 use std::alloc::{AllocError, Global};
 use thiserror::Error;
 

@@ -1,7 +1,7 @@
 -- Worked rows of the definitions: a store of bytes written, zeroed, copied onto itself with an overlap, chosen, read in
 -- every width and around the end of the address space; an object's size and kind before and after its end.
 use Rattle.std.proofs.Common.{◌≡◌, ◌-◌, ◌^◌, ℕ, zero, suc, Bool, true, false, List, [], refl}
-use Rattle.bit_words.specs.declared.width.Width.TheVariants.{W16}
+use Rattle.plain_data.specs.declared.width.Width.TheVariants.{W16}
 use Rattle.c_store.specs.declared.object.ObjectKind.TheVariants.{Heap, Static}
 use Rattle.c_store.specs.Store.{Store, initial, make, end, object_size}
 use Rattle.c_store.specs.Access.{is_live}

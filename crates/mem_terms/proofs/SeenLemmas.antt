@@ -3,8 +3,8 @@ use Rattle.std.proofs.Common.{◌≡◌, ◌<◌, ◌^◌, ℕ, List, Some, arit
 use Rattle.std.specs.Prelude.{slice_get, Result, Ok, Err, IfOk}
 use Rattle.term_bank.specs.declared.bank.BankFault.{BankFault}
 use Rattle.term_bank.specs.Terms.{Makes}
-use Rattle.bit_words.specs.declared.width.Width.{Width}
-use Rattle.bit_words.specs.declared.width.Width.TheVariants.{W8, W16, W32, W64}
+use Rattle.plain_data.specs.declared.width.Width.{Width}
+use Rattle.plain_data.specs.declared.width.Width.TheVariants.{W8, W16, W32, W64}
 use Rattle.c_store.specs.declared.object.ObjectKind.{ObjectKind}
 use Rattle.c_store.specs.Store.{Store, byte_of, spelt}
 use Rattle.term_bank.specs.declared.sort.Sort.TheVariants.{Word}
@@ -20,7 +20,7 @@ use Rattle.term_bank.proofs.BankLemmas.{weaken, stays}
 use Rattle.term_bank.proofs.BindingLemmas.{node_sorted}
 use Rattle.term_bank.specs.Under.{IsUnder}
 use Rattle.term_bank.proofs.OverLemmas.{only_below}
-use Rattle.bit_words.specs.Words.{bits}
+use Rattle.plain_data.specs.Words.{bits}
 use Rattle.mem_terms.specs.Reads.{IsApart, AreApart, ReadsAlike, IsBefore}
 use Rattle.mem_terms.proofs.Space.{read_apart, read_written}
 

@@ -1,5 +1,5 @@
 ghost use Rattle.std.specs.Prelude.{nat_eq, not, ◌&&◌};
-ghost use Rattle.bit_words.specs.declared.width.Width.TheVariants.{W64};
+ghost use Rattle.plain_data.specs.declared.width.Width.TheVariants.{W64};
 ghost use Rattle.c_store.specs.Store.{object_of, offset_of};
 ghost use Rattle.c_store.specs.Access.{can_access as may_access, can_write as may_write, can_free as may_free};
 ghost use Rattle.c_store.specs.Access.{in_one_object as are_in_one_object, is_live as live_in, is_literal, is_heap};
@@ -10,8 +10,8 @@ ghost use Rattle.term_bank.specs.declared.sort.Sort.TheVariants.{Truth, Word, Me
 ghost use Rattle.mem_terms.specs.Truths.{Gives};
 
 use crate::memory::{has_kind, is_live};
-use bit_words::Width;
 use c_store::ObjectKind;
+use plain_data::Width;
 use term_bank::{Bank, BankFault, Connective, Node, WordOperator, WordTest};
 
 /// The number of the object that an address belongs to.

@@ -1,12 +1,12 @@
-ghost use Rattle.bit_words.specs.declared.width.Width.TheVariants.{W64};
+ghost use Rattle.plain_data.specs.declared.width.Width.TheVariants.{W64};
 ghost use Rattle.term_bank.specs.Terms.{IsTerm, Makes};
 ghost use Rattle.term_bank.specs.declared.sort.Sort.TheVariants.{Truth, Word, Memory};
 ghost use Rattle.term_bank.specs.declared.shape.Shape.TheVariants.{Initial, Write, ZeroRange, CopyRange, Made, Ended};
 ghost use Rattle.term_bank.specs.declared.shape.Shape.TheVariants.{Read, ObjectSize, IsLive, HasKind, Choose};
 
 use crate::passing::seen;
-use bit_words::Width;
 use c_store::ObjectKind;
+use plain_data::Width;
 use term_bank::{Bank, BankFault, Node, Shape, Sort};
 
 /// The memory that holds the world's initial bytes, with no object.

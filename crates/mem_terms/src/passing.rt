@@ -1,5 +1,5 @@
 ghost use Rattle.std.specs.Prelude.{◌≡◌, ◌≤◌, IsTrue, IfSome};
-ghost use Rattle.bit_words.specs.declared.width.Width.TheVariants.{W64};
+ghost use Rattle.plain_data.specs.declared.width.Width.TheVariants.{W64};
 ghost use Rattle.term_bank.specs.Memories.{octets as octets_of};
 ghost use Rattle.term_bank.specs.Shapes.{IsNode, memory as memory_node, word};
 ghost use Rattle.term_bank.specs.Terms.{IsTerm};
@@ -7,7 +7,7 @@ ghost use Rattle.term_bank.specs.Under.{IsUnder};
 ghost use Rattle.term_bank.specs.declared.sort.Sort.TheVariants.{Word, Memory};
 ghost use Rattle.mem_terms.specs.Reads.{IsApart, AreApart, IsBefore, ReadsAlike};
 
-use bit_words::Width;
+use plain_data::Width;
 use term_bank::{Bank, Node, Shape, Sort};
 
 /// How many bytes a word has.

@@ -4,9 +4,9 @@ use Rattle.std.specs.Prelude.{map, max, slice_get, take, Bool, true, false, not,
 use Rattle.std.specs.List.{All}
 use Rattle.std.proofs.lemmas.List.Elements.{All-append}
 use mathlib.Core.Bool.{beq}
-use Rattle.bit_words.specs.declared.fact.Fact.{Fact}
-use Rattle.bit_words.specs.declared.run.Run.{Run}
-use Rattle.bit_words.specs.Worlds.{WorldTables}
+use Rattle.plain_data.specs.declared.fact.Fact.{Fact}
+use Rattle.plain_data.specs.declared.run.Run.{Run}
+use Rattle.plain_data.specs.Worlds.{WorldTables}
 use Rattle.log_text.specs.Shown.{Holds}
 use Rattle.proof_check.specs.Steps.{Step}
 use Rattle.proof_check.specs.declared.steps.Trail.{Trail}

@@ -1,7 +1,7 @@
 -- The measure, and what a query is asked.
 use Rattle.std.proofs.Common.{◌≡◌, ◌≤◌, ◌<◌, ◌+◌, ◌*◌, ◌/◌, ◌↔◌, ◌∷◌, [], ℕ, List, min, arith, subst}
 use Rattle.std.proofs.Math.Nat.{le-div_iff_mul-le}
-use Rattle.bit_words.specs.declared.fact.Fact.{Fact}
+use Rattle.plain_data.specs.declared.fact.Fact.{Fact}
 use Rattle.term_bank.specs.declared.shape.Shape.{Shape}
 use Rattle.term_bank.specs.declared.sort.Node.{Node}
 use Rattle.term_bank.specs.declared.sort.Sort.TheVariants.{Truth}

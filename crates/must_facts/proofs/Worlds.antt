@@ -1,9 +1,9 @@
 -- What replies of a query say of the runs of an accepted source.
 use Rattle.std.proofs.Common.{◌≡◌, ℕ, List, [], Some, Bool, true, false, refl, sym, subst}
 use Rattle.std.specs.Prelude.{◌↔◌}
-use Rattle.bit_words.specs.declared.fact.Fact.{Fact}
-use Rattle.bit_words.specs.declared.run.Run.{Run}
-use Rattle.bit_words.specs.Worlds.{WorldTables, value_at}
+use Rattle.plain_data.specs.declared.fact.Fact.{Fact}
+use Rattle.plain_data.specs.declared.run.Run.{Run}
+use Rattle.plain_data.specs.Worlds.{WorldTables, value_at}
 use Rattle.c_store.specs.Store.{initial}
 use Rattle.gates.specs.Nets.{bit_holds}
 use Rattle.log_text.specs.Shown.{Fits, Holds}

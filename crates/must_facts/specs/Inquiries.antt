@@ -1,10 +1,10 @@
 -- What is asked of an accepted source and a log.
 use Rattle.std.specs.Prelude.{◌≡◌, ◌+◌, ◌*◌, ℕ, Bool, List}
-use Rattle.bit_words.specs.declared.bounds.Bounds.{Bounds}
-use Rattle.bit_words.specs.declared.fact.Fact.{Fact}
-use Rattle.bit_words.specs.declared.run.Run.{Run}
-use Rattle.bit_words.specs.Worlds.{WorldTables}
-use Rattle.c_runs.specs.Units.{source_run, source_size}
+use Rattle.plain_data.specs.declared.bounds.Bounds.{Bounds}
+use Rattle.plain_data.specs.declared.fact.Fact.{Fact}
+use Rattle.plain_data.specs.declared.run.Run.{Run}
+use Rattle.plain_data.specs.Worlds.{WorldTables}
+use Rattle.c_means.specs.Units.{source_run, source_size}
 use Rattle.core_tree.specs.declared.program.Core.{Core}
 use Rattle.accepted.specs.declared.program.Accepted.{Accepted}
 use Rattle.log_text.specs.Lines.{line_count}

@@ -1,9 +1,9 @@
 -- Worlds that are known while facts are weighed.
 use Rattle.std.specs.Prelude.{◌≡◌, ◌≤◌, ◌++◌, ℕ, List, length, map, slice_get, zero, suc, Bool, true, false, not, Option, Some, None}
 use Rattle.std.specs.List.{All}
-use Rattle.bit_words.specs.declared.fact.Fact.{Fact}
-use Rattle.bit_words.specs.declared.run.Run.{Run}
-use Rattle.bit_words.specs.Worlds.{WorldTables}
+use Rattle.plain_data.specs.declared.fact.Fact.{Fact}
+use Rattle.plain_data.specs.declared.run.Run.{Run}
+use Rattle.plain_data.specs.Worlds.{WorldTables}
 use Rattle.log_text.specs.Shown.{Holds}
 use Rattle.diagnoses.specs.declared.verdict.Verdict.{Verdict}
 use Rattle.must_facts.specs.declared.known.Known.{Known}

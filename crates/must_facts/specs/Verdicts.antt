@@ -1,9 +1,9 @@
 -- What a diagnosis says of the runs of a program in all worlds.
 use Rattle.std.specs.Prelude.{◌≤◌, ℕ, zero, suc, List, [], ◌∷◌, length, take, max, slice_get, Option, Some, None}
 use Rattle.std.specs.List.{All}
-use Rattle.bit_words.specs.declared.fact.Fact.{Fact}
-use Rattle.bit_words.specs.declared.run.Run.{Run}
-use Rattle.bit_words.specs.Worlds.{WorldTables}
+use Rattle.plain_data.specs.declared.fact.Fact.{Fact}
+use Rattle.plain_data.specs.declared.run.Run.{Run}
+use Rattle.plain_data.specs.Worlds.{WorldTables}
 use Rattle.log_text.specs.Shown.{Fits, Holds}
 use Rattle.proof_check.specs.Steps.{Step}
 use Rattle.proof_check.specs.declared.steps.Trail.{Trail}

@@ -6,8 +6,8 @@ ghost use Rattle.must_facts.specs.Verdicts.{AreFindings, FitsOn, IsDiagnosis};
 use crate::inquiry::Inquiry;
 use crate::known::Known;
 use crate::weighing::weigh_all;
-use bit_words::World;
 use diagnoses::{Diagnosis, Findings};
+use plain_data::World;
 use query_core::{AskFault, Query, Reply, Target};
 use std::alloc::Global;
 

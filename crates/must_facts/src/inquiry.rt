@@ -1,7 +1,7 @@
 //! What is asked.
 use accepted::Accepted;
-use bit_words::{Bounds, Fact};
 use log_text::LogText;
+use plain_data::{Bounds, Fact};
 
 /// An accepted source within bounds, a log, the facts that are asked of the runs that print it, and how many conflicts
 /// each question may take.

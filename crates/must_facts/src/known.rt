@@ -4,9 +4,8 @@ ghost use Rattle.must_facts.specs.Inquiries.{run_in};
 ghost use Rattle.must_facts.specs.Knowing.{Finds, FindsWorld};
 
 use crate::inquiry::Inquiry;
-use bit_words::{Fact, Run, World};
 use log_text::LogText;
-use plain_data::Items;
+use plain_data::{Fact, Items, Run, World};
 use query_core::AskFault;
 use replayer::replay;
 use run_facts::holds;

@@ -6,9 +6,8 @@ ghost use Rattle.must_facts.specs.Knowing.{Answers, IsKnown, Weighs, WeighsAll};
 
 use crate::inquiry::Inquiry;
 use crate::known::{Known, number_at};
-use bit_words::Fact;
 use diagnoses::{Open, Verdict};
-use plain_data::Items;
+use plain_data::{Fact, Items};
 use query_core::{AskFault, Query, Reply, Target};
 use std::alloc::Global;
 

@@ -2,11 +2,11 @@
 use Rattle.std.proofs.Common.{◌≡◌, ℕ, ◌+◌, ◌%◌, ◌^◌, ◌<◌, ◌≤◌, List, [], ◌∷◌, ◌++◌, Bool, true, false, cond, Some, None, refl, sym, ap, subst, ◌∙◌, arith}
 use Rattle.std.specs.Prelude.{Ok, nat_eq}
 use Rattle.std.proofs.Math.Nat.{mod-eq_of_lt}
-use Rattle.bit_words.specs.declared.width.Width.TheVariants.{W64}
+use Rattle.plain_data.specs.declared.width.Width.TheVariants.{W64}
 use Rattle.c_store.specs.declared.object.Object.{Object as StoredObject}
 use Rattle.c_store.specs.declared.object.ObjectKind.TheVariants.{Automatic}
 use Rattle.c_store.specs.Store.{Store, make, end}
-use Rattle.c_runs.specs.Items.{Made}
+use Rattle.c_means.specs.Items.{Made}
 use Rattle.core_tree.specs.States.{Done, along, born, dead, with_store}
 use Rattle.term_bank.specs.declared.sort.Sort.TheVariants.{Memory}
 use Rattle.term_bank.specs.declared.sort.Node.{Node}

@@ -1,8 +1,8 @@
 -- Points at which a run arrives that may be what it was looking for (C99 6.8.1, 6.8.4.2, 6.8.6).
 use Rattle.std.specs.Prelude.{Some}
 use Rattle.c_means.specs.declared.kind.Kind.{Kind}
-use Rattle.c_runs.specs.Items.{past_break, past_continue, past_switch, at_label, at_case, at_default}
-use Rattle.c_runs.specs.Runs.{comes_back}
+use Rattle.c_means.specs.Items.{past_break, past_continue, past_switch, at_label, at_case, at_default}
+use Rattle.c_means.specs.Runs.{comes_back}
 use Rattle.path_arrows.specs.declared.points.Point.{Point}
 use Rattle.path_arrows.specs.declared.points.Point.TheVariants as point
 

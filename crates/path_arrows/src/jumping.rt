@@ -1,6 +1,6 @@
 //! Steps that only say where a run stands.
 ghost use Rattle.std.specs.Prelude.{◌≡◌, ◌∷◌, [], ℕ, List, IfOk, Some};
-ghost use Rattle.bit_words.specs.declared.run.Finish.TheVariants as finish;
+ghost use Rattle.plain_data.specs.declared.run.Finish.TheVariants as finish;
 ghost use Rattle.core_tree.specs.States.{become};
 ghost use Rattle.core_tree.specs.Codes.{left_at};
 ghost use Rattle.term_bank.specs.declared.shape.Shape.{Shape as ShapeType};
@@ -8,11 +8,10 @@ ghost use Rattle.path_states.specs.States.{IsState, AreStates};
 ghost use Rattle.path_states.specs.Ways.{Goes, Steps};
 ghost use Rattle.path_arrows.specs.Arrows.{by_arrow, returning};
 
-use bit_words::Finish;
 use c_means::Kind;
 use path_states::{State, copy_kind};
 use path_steps::pop;
-use plain_data::Items;
+use plain_data::{Finish, Items};
 use std::alloc::{AllocError, Global};
 use term_bank::{Bank, BankFault};
 

@@ -8,11 +8,10 @@ ghost use Rattle.path_states.specs.Ways.{Goes};
 ghost use Rattle.path_arrows.specs.Arrows.{by_arrow};
 ghost use Rattle.path_arrows.specs.Objects.{Places, Bears, Buries, Fit, made_at};
 
-use bit_words::Width;
 use c_store::ObjectKind;
 use mem_terms::{ended, made};
 use path_states::State;
-use plain_data::Items;
+use plain_data::{Items, Width};
 use std::alloc::Global;
 use term_bank::{Bank, BankFault, Node, WordOperator};
 

@@ -1,7 +1,7 @@
 //! Where a run on its way arrives.
 ghost use Rattle.std.specs.Prelude.{◌≡◌, ℕ, List, IfOk, Some};
-ghost use Rattle.c_runs.specs.Items as arriving;
-ghost use Rattle.c_runs.specs.Runs.{comes_back};
+ghost use Rattle.c_means.specs.Items as arriving;
+ghost use Rattle.c_means.specs.Runs.{comes_back};
 ghost use Rattle.core_tree.specs.States.{arrive as arrives};
 ghost use Rattle.term_bank.specs.declared.shape.Shape.{Shape as ShapeType};
 ghost use Rattle.path_states.specs.States.{AreStates};
@@ -9,8 +9,8 @@ ghost use Rattle.path_states.specs.Ways.{Goes};
 ghost use Rattle.path_arrows.specs.Arrows.{by_arrow};
 ghost use Rattle.path_arrows.specs.Points.{at_point};
 
+use c_language::Name;
 use c_means::Kind;
-use c_tokens::Name;
 use path_states::State;
 use plain_data::Items;
 use std::alloc::{AllocError, Global};

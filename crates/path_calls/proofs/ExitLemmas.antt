@@ -2,10 +2,10 @@
 use Rattle.std.proofs.Common.{◌≡◌, ℕ, ◌^◌, ◌<◌, ℤ, pos, List, [], ◌∷◌, ◌++◌, Bool, true, false, not, cond, Option, Some, None, refl, sym, ap, ◌∙◌, append-nil}
 use Rattle.std.specs.Prelude.{slice_get, IfSome}
 use Rattle.std.specs.Option.{option_map}
-use Rattle.bit_words.specs.declared.run.Finish.{Finish}
-use Rattle.bit_words.specs.declared.run.Finish.TheVariants as finish
-use Rattle.bit_words.specs.declared.width.Width.{Width}
-use Rattle.bit_words.specs.Words.{bits, signed}
+use Rattle.plain_data.specs.declared.run.Finish.{Finish}
+use Rattle.plain_data.specs.declared.run.Finish.TheVariants as finish
+use Rattle.plain_data.specs.declared.width.Width.{Width}
+use Rattle.plain_data.specs.Words.{bits, signed}
 use Rattle.core_tree.specs.declared.types.WordType.{WordType}
 use Rattle.core_tree.specs.Numbers.{value_of_word}
 use Rattle.core_tree.specs.States.{Done, finished}

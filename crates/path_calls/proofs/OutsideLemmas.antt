@@ -2,7 +2,7 @@
 use Rattle.std.proofs.Common.{◌≡◌, ℕ, ◌+◌, ◌%◌, ◌^◌, ◌<◌, ◌≤◌, pos, List, false, ap, ◌∙◌, arith}
 use Rattle.std.specs.Prelude.{Ok}
 use Rattle.std.proofs.Math.Nat.{mod-eq_of_lt}
-use Rattle.bit_words.specs.declared.width.Width.TheVariants.{W64}
+use Rattle.plain_data.specs.declared.width.Width.TheVariants.{W64}
 use Rattle.term_bank.specs.declared.shape.WordOperator.TheVariants as operator
 use Rattle.term_bank.specs.declared.shape.Shape.{Shape}
 use Rattle.term_bank.specs.declared.shape.Shape.TheVariants.{Base, Constant, Binary, WorldWord}

@@ -1,7 +1,7 @@
 -- Ends by `exit`, whose statuses are known.
 use Rattle.std.specs.Prelude.{◌≡◌, ℤ, List, [], ◌∷◌, ◌++◌, cond}
-use Rattle.bit_words.specs.declared.run.Finish.{Finish}
-use Rattle.bit_words.specs.declared.run.Finish.TheVariants as finish
+use Rattle.plain_data.specs.declared.run.Finish.{Finish}
+use Rattle.plain_data.specs.declared.run.Finish.TheVariants as finish
 use Rattle.c_means.specs.declared.kind.Kind.TheVariants as k
 use Rattle.core_tree.specs.States.{finished}
 use Rattle.term_bank.specs.declared.sort.Sort.TheVariants.{Truth}

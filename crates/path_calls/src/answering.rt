@@ -7,12 +7,11 @@ ghost use Rattle.path_states.specs.States.{IsNumber, AreNumbers, numbers_in};
 ghost use Rattle.path_numbers.specs.Answers.{Numbered};
 ghost use Rattle.path_calls.specs.Begun.{AnswersBy};
 
-use bit_words::Finish;
 use c_means::Kind;
 use core_tree::ValueType;
 use path_numbers::{constant, converted};
 use path_states::{Number, State, Walked, settled};
-use plain_data::Items;
+use plain_data::{Finish, Items};
 use std::alloc::{AllocError, Global};
 use term_bank::{Bank, BankFault};
 

@@ -8,11 +8,11 @@ use crate::answering::{answer, argument, finish};
 use crate::beginning::begin;
 use crate::exiting::{MOST_CHOICES, put_exits};
 use crate::outside_words::outside_word;
-use bit_words::Finish;
 use core_tree::{Callee, Fill, OutsideAnswer};
 use path_forms::{CallSite, WalkFault};
 use path_numbers::constant;
 use path_states::{State, Walked, settled};
+use plain_data::Finish;
 use std::alloc::Global;
 use term_bank::{Bank, BankFault};
 

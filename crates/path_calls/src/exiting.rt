@@ -1,17 +1,16 @@
 //! Ends of runs by `exit`, each with a status that is known.
 ghost use Rattle.std.specs.Prelude.{◌≡◌, IfSome, OnOk};
 ghost use Rattle.std.specs.Option.{option_map};
-ghost use Rattle.bit_words.specs.declared.run.Finish.TheVariants as f;
+ghost use Rattle.plain_data.specs.declared.run.Finish.TheVariants as f;
 ghost use Rattle.term_bank.specs.Terms.{IsTerm};
 ghost use Rattle.term_bank.specs.declared.sort.Sort.TheVariants.{Truth};
 ghost use Rattle.path_states.specs.States.{IsNumber, IsState, AreStates};
 ghost use Rattle.path_calls.specs.Exits.{IsKnown, IsExitWith, IsChoice, ExitsBy, PutsEnd};
 
-use bit_words::{Finish, to_signed};
 use c_means::Kind;
 use path_forms::WalkFault;
 use path_states::{Number, State, halve};
-use plain_data::Items;
+use plain_data::{Finish, Items, to_signed};
 use std::alloc::{AllocError, Global};
 use term_bank::{Bank, Node, Shape, Sort};
 

@@ -2,9 +2,9 @@
 ghost use Rattle.std.specs.Prelude.{IfOk};
 ghost use Rattle.path_calls.specs.Outside.{AsksAt};
 
-use bit_words::Width;
 use path_numbers::ADDRESS;
 use path_states::Number;
+use plain_data::Width;
 use term_bank::{Bank, BankFault, WordOperator};
 
 /// The world's word at the place that is so many places behind the base. It fails for want of memory alone.

@@ -1,16 +1,16 @@
 -- The case of a `switch` that a value takes.
 use Rattle.std.proofs.Common.{◌≡◌, ℕ, ◌+◌, ℤ, List, [], ◌∷◌, ◌++◌, Bool, true, false, not, cond, Option, Some, None, map, refl, sym, ap, subst, ◌∙◌, arith, append_assoc}
 use Rattle.std.specs.Prelude.{Ok, Err, int_lt, ◌||◌}
-use Rattle.bit_words.specs.declared.run.Happening.TheVariants as happening
-use Rattle.bit_words.specs.declared.run.Side.{Side}
-use Rattle.bit_words.specs.declared.run.Side.TheVariants as side
-use Rattle.bit_words.specs.Words.{word}
-use Rattle.bit_words.proofs.WordLaws.{word_below}
-use Rattle.c_type_terms.specs.Integers.{is_zero, number_of}
-use Rattle.c_type_terms.specs.Operators.{Answer}
+use Rattle.plain_data.specs.declared.run.Happening.TheVariants as happening
+use Rattle.plain_data.specs.declared.run.Side.{Side}
+use Rattle.plain_data.specs.declared.run.Side.TheVariants as side
+use Rattle.plain_data.specs.Words.{word}
+use Rattle.plain_data.proofs.WordLaws.{word_below}
+use Rattle.c_language.specs.Integers.{is_zero, number_of}
+use Rattle.c_language.specs.Operators.{Answer}
 use Rattle.c_means.specs.declared.kind.Kind.{Kind}
 use Rattle.c_means.specs.declared.kind.Kind.TheVariants as k
-use Rattle.c_runs.specs.Items.{same, past_switch}
+use Rattle.c_means.specs.Items.{same, past_switch}
 use Rattle.core_tree.specs.declared.code.Code.{Code}
 use Rattle.core_tree.specs.declared.expr.Expr.{Expr}
 use Rattle.core_tree.specs.declared.types.Arithmetic.TheVariants as o

@@ -1,13 +1,13 @@
 -- Bodies of functions: parameters' objects, arguments, and the way back.
 use Rattle.std.proofs.Common.{◌≡◌, ℕ, suc, ◌+◌, List, [], ◌∷◌, ◌++◌, Bool, true, cond, length, Option, Some, None, refl, sym, ap, ap₂, ◌∙◌, arith, add-zero, append_assoc, append-nil}
 use Rattle.std.specs.Prelude.{Ok}
-use Rattle.bit_words.specs.declared.run.Event.{Event}
+use Rattle.plain_data.specs.declared.run.Event.{Event}
 use Rattle.c_store.specs.Store.{start}
 use Rattle.c_means.specs.declared.kind.Kind.TheVariants as k
 use Rattle.c_means.specs.Parts.{Env}
-use Rattle.c_runs.specs.Items.{Made, known}
-use Rattle.c_runs.specs.Runs.{comes_back}
-use Rattle.c_runs.specs.Statements.{no_env}
+use Rattle.c_means.specs.Items.{Made, known}
+use Rattle.c_means.specs.Runs.{comes_back}
+use Rattle.c_means.specs.Statements.{no_env}
 use Rattle.core_tree.specs.declared.program.Function.{Function}
 use Rattle.core_tree.specs.declared.program.Parameter.{Parameter}
 use Rattle.core_tree.specs.declared.types.ValueType.{ValueType}

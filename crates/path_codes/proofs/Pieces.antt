@@ -1,10 +1,10 @@
 -- The pieces of which statements are made: states that are running, an expression, a branch.
 use Rattle.std.proofs.Common.{◌≡◌, ℕ, ◌+◌, ℤ, List, ◌++◌, Bool, true, false, cond, Option, Some, None, refl, ap, ◌∙◌, append-nil}
 use Rattle.std.specs.Prelude.{Ok, Err}
-use Rattle.bit_words.specs.declared.run.Side.TheVariants as side
+use Rattle.plain_data.specs.declared.run.Side.TheVariants as side
 use Rattle.c_means.specs.declared.kind.Kind.{Kind}
 use Rattle.c_means.specs.declared.kind.Kind.TheVariants as k
-use Rattle.c_type_terms.specs.Integers.{is_zero}
+use Rattle.c_language.specs.Integers.{is_zero}
 use Rattle.core_tree.specs.declared.expr.Expr.{Expr}
 use Rattle.core_tree.specs.States.{Done, Arrow, Outcome, along, running, where_running, with_value, on_branch, one_of}
 use Rattle.core_tree.specs.Values.{value}

@@ -5,7 +5,7 @@ use Rattle.std.specs.Prelude.{option_map, Result, IfOk}
 use Rattle.path_forms.specs.declared.fault.WalkFault.{WalkFault}
 use Rattle.c_means.specs.declared.kind.Kind.{Kind}
 use Rattle.c_means.specs.declared.kind.Kind.TheVariants as k
-use Rattle.c_runs.specs.Items.{past_break, past_continue}
+use Rattle.c_means.specs.Items.{past_break, past_continue}
 use Rattle.core_tree.specs.declared.code.Code.{Code}
 use Rattle.core_tree.specs.declared.expr.Expr.{Expr}
 use Rattle.core_tree.specs.States.{Done, Arrow, arrive, onward, running, where_running, one_of}

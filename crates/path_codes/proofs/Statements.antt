@@ -9,7 +9,7 @@ use Rattle.core_tree.specs.States.{Done, Arrow, Measures, along, born, dead, bec
 use Rattle.core_tree.specs.Values.{value}
 use Rattle.core_tree.specs.Codes as form
 use Rattle.core_tree.specs.Codes.{Item, code}
-use Rattle.c_runs.specs.Items.{known}
+use Rattle.c_means.specs.Items.{known}
 use Rattle.term_bank.specs.declared.shape.Shape.{Shape}
 use Rattle.term_bank.specs.Values.{Environment}
 use Rattle.path_states.specs.declared.state.State.{State}

@@ -2,9 +2,9 @@
 use Rattle.std.proofs.Common.{◌≡◌, ℕ, ◌+◌, ◌%◌, ◌^◌, ◌<◌, ◌≤◌, List, [], ◌∷◌, ◌++◌, false, Option, Some, refl, sym, ap, subst, ◌∙◌, arith, add-zero}
 use Rattle.std.specs.Prelude.{Ok}
 use Rattle.std.proofs.Math.Nat.{mod-eq_of_lt}
-use Rattle.bit_words.specs.declared.width.Width.{Width}
-use Rattle.bit_words.specs.declared.width.Width.TheVariants as width
-use Rattle.c_type_terms.specs.Integers.{bytes_in}
+use Rattle.plain_data.specs.declared.width.Width.{Width}
+use Rattle.plain_data.specs.declared.width.Width.TheVariants as width
+use Rattle.c_language.specs.Integers.{bytes_in}
 use Rattle.c_store.specs.Store.{start}
 use Rattle.c_means.specs.Expressions.{behind}
 use Rattle.c_means.specs.declared.kind.Kind.{Kind}

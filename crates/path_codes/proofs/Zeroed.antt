@@ -1,8 +1,8 @@
 -- Objects set to 0, and declarations.
 use Rattle.std.proofs.Common.{◌≡◌, ℕ, ◌+◌, ◌^◌, ◌<◌, ◌≤◌, pos, List, [], ◌∷◌, ◌++◌, Bool, true, false, cond, Option, Some, refl, sym, ap, ◌∙◌, arith}
 use Rattle.std.specs.Prelude.{Ok}
-use Rattle.bit_words.specs.declared.width.Width.TheVariants.{W64}
-use Rattle.bit_words.specs.Words.{word}
+use Rattle.plain_data.specs.declared.width.Width.TheVariants.{W64}
+use Rattle.plain_data.specs.Words.{word}
 use Rattle.c_store.specs.Store.{Store, start}
 use Rattle.c_store.specs.Store as stores
 use Rattle.c_means.specs.declared.kind.Kind.{Kind}

@@ -2,8 +2,8 @@
 use Rattle.std.specs.Prelude.{◌≡◌, ℕ, ◌+◌, ℤ, List, [], ◌∷◌, ◌++◌, length, Some}
 use Rattle.c_store.specs.Store.{start}
 use Rattle.c_store.specs.Store.{Store}
-use Rattle.c_runs.specs.Items.{known}
-use Rattle.c_runs.specs.Statements.{no_env}
+use Rattle.c_means.specs.Items.{known}
+use Rattle.c_means.specs.Statements.{no_env}
 use Rattle.core_tree.specs.declared.program.Function.{Function}
 use Rattle.core_tree.specs.declared.program.Parameter.{Parameter}
 use Rattle.core_tree.specs.declared.types.ValueType.{ValueType}

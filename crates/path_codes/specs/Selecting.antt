@@ -1,9 +1,9 @@
 -- The case of a `switch` that a value takes (C99 6.8.4.2p4, p5).
 use Rattle.std.specs.Prelude.{◌≡◌, ℕ, ℤ, List, [], ◌∷◌, ◌++◌, cond, Some}
-use Rattle.bit_words.specs.declared.run.Happening.TheVariants as happening
-use Rattle.bit_words.specs.declared.run.Side.{Side}
+use Rattle.plain_data.specs.declared.run.Happening.TheVariants as happening
+use Rattle.plain_data.specs.declared.run.Side.{Side}
 use Rattle.c_means.specs.declared.kind.Kind.{Kind}
-use Rattle.c_runs.specs.Items.{same}
+use Rattle.c_means.specs.Items.{same}
 use Rattle.core_tree.specs.declared.types.WordType.{WordType}
 use Rattle.core_tree.specs.Numbers.{wrapped}
 use Rattle.core_tree.specs.States.{Done, Arrow, along}

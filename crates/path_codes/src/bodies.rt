@@ -12,14 +12,13 @@ ghost use Rattle.path_codes.specs.Bodies.{Frames, holding, PassesOne, Passes, Wa
 use crate::below::Coded;
 use crate::storing::store;
 use crate::walking::walk_items;
-use bit_words::Width;
 use c_means::Kind;
 use core_tree::{Function, Parameter, ValueType};
 use path_arrows::{Object, Point, arrive, bear, bury, pass};
 use path_forms::{Calls, Placed, WalkFault};
 use path_rooms::{check_fit, sum, with_objects};
 use path_states::{Number, State, alone, join};
-use plain_data::Items;
+use plain_data::{Items, Width};
 use std::alloc::{AllocError, Global};
 use term_bank::{Bank, Node};
 

@@ -1,6 +1,6 @@
 //! Labeled statements (C99 6.8.1), at which a run on its way may arrive.
 ghost use Rattle.std.specs.Prelude.{◌≡◌, IfOk, Some};
-ghost use Rattle.c_runs.specs.Items as arriving;
+ghost use Rattle.c_means.specs.Items as arriving;
 ghost use Rattle.core_tree.specs.Codes as form;
 ghost use Rattle.path_forms.specs.Calling.{Stays};
 ghost use Rattle.path_states.specs.States.{AreStates};
@@ -10,7 +10,7 @@ ghost use Rattle.path_codes.specs.Below.{ReachesCode};
 ghost use Rattle.path_codes.specs.Walks.{WalksItem};
 
 use crate::below::{Coded, Steps};
-use c_tokens::Name;
+use c_language::Name;
 use core_tree::Code;
 use path_arrows::{Point, arrive};
 use path_forms::{Calls, Placed, WalkFault};

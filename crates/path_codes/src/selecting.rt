@@ -4,18 +4,17 @@ ghost use Rattle.core_tree.specs.Numbers.{is_in};
 ghost use Rattle.term_bank.specs.Terms.{IsTerm};
 ghost use Rattle.term_bank.specs.declared.sort.Sort.TheVariants.{Events};
 ghost use Rattle.path_states.specs.States.{IsNumber, IsState, AreStates};
-ghost use Rattle.bit_words.specs.declared.run.Side.TheVariants as side;
+ghost use Rattle.plain_data.specs.declared.run.Side.TheVariants as side;
 ghost use Rattle.c_means.specs.declared.kind.Kind.TheVariants as k;
 ghost use Rattle.path_codes.specs.Selecting.{Tells, SelectsCase, Selects, SelectsOne, SelectsAll, IsOnItsWay};
 
-use bit_words::{Side, Width};
 use c_means::Kind;
 use core_tree::{Arithmetic, WordType};
 use path_forms::WalkFault;
 use path_numbers::{constant, truth, worked, wrapped};
 use path_states::{Number, State, halve};
 use path_steps::pop;
-use plain_data::Items;
+use plain_data::{Items, Side, Width};
 use std::alloc::Global;
 use term_bank::{Bank, BankFault, Node};
 

@@ -8,8 +8,8 @@ ghost use Rattle.path_states.specs.States.{AreStates};
 ghost use Rattle.path_codes.specs.Walks.{WalksItem};
 
 use crate::below::{Coded, Evaluated, Steps};
+use c_language::Name;
 use c_means::Kind;
-use c_tokens::Name;
 use core_tree::Expr;
 use path_arrows::{Sifted, give, jump, pass, rejoin, sift};
 use path_forms::{Calls, Placed, WalkFault};

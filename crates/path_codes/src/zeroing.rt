@@ -3,13 +3,12 @@ ghost use Rattle.std.specs.Prelude.{IfOk};
 ghost use Rattle.path_states.specs.States.{IsState, AreStates};
 ghost use Rattle.path_codes.specs.Settings.{ZeroesOne, ZeroesAll, Zeroes};
 
-use bit_words::Width;
 use mem_terms::zero_range;
 use path_forms::WalkFault;
 use path_numbers::address;
 use path_states::State;
 use path_steps::{Leaf, each, pop};
-use plain_data::Items;
+use plain_data::{Items, Width};
 use std::alloc::Global;
 use term_bank::{Bank, BankFault};
 

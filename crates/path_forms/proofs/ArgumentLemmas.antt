@@ -1,7 +1,7 @@
 -- Arguments behind one another, and the call that takes them off the operands.
 use Rattle.std.proofs.Common.{◌≡◌, ℕ, zero, suc, ◌+◌, ℤ, List, [], ◌∷◌, ◌++◌, length, Bool, Some, None, refl, sym, ap, subst, ◌∙◌, add-zero}
 use Rattle.std.specs.Prelude.{Ok, Err}
-use Rattle.bit_words.specs.declared.run.Happening.TheVariants as happening
+use Rattle.plain_data.specs.declared.run.Happening.TheVariants as happening
 use Rattle.c_means.specs.Parts.{Env}
 use Rattle.core_tree.specs.Callees.{callee_room}
 use Rattle.core_tree.specs.declared.expr.Callee.{Callee}

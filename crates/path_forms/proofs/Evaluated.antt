@@ -1,8 +1,8 @@
 -- What each form of the core's expressions is, by what its parts are.
 use Rattle.std.proofs.Common.{◌≡◌, ℕ, ◌+◌, ℤ, pos, List, ◌++◌, Bool, cond, refl, sym, ap, subst, ◌∙◌, arith, add-zero}
 use Rattle.std.specs.Prelude.{unsigned_abs, not}
-use Rattle.bit_words.specs.declared.run.Side.TheVariants as side
-use Rattle.c_type_terms.specs.Integers.{is_zero, number_of}
+use Rattle.plain_data.specs.declared.run.Side.TheVariants as side
+use Rattle.c_language.specs.Integers.{is_zero, number_of}
 use Rattle.c_means.specs.Values.{address}
 use Rattle.c_means.specs.Expressions.{behind}
 use Rattle.c_store.specs.Store.{start}

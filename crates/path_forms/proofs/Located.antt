@@ -5,7 +5,7 @@ use Rattle.std.proofs.Math.Nat.{mod-eq_of_lt}
 use Rattle.c_store.specs.Store.{start, set_at}
 use Rattle.c_means.specs.Expressions.{behind}
 use Rattle.c_means.specs.Parts.{Env}
-use Rattle.c_runs.specs.Statements.{no_env}
+use Rattle.c_means.specs.Statements.{no_env}
 use Rattle.core_tree.specs.declared.expr.Expr.{Expr}
 use Rattle.core_tree.specs.declared.expr.Expr.TheVariants as expr
 use Rattle.core_tree.specs.declared.types.Access.{Access}

@@ -2,7 +2,7 @@
 use Rattle.std.specs.Prelude.{◌≡◌, ℕ, ◌+◌, ◌<◌, List, [], ◌∷◌, Option, Some, None}
 use Rattle.c_store.specs.Store.{set_at}
 use Rattle.c_means.specs.Parts.{Env, Limits}
-use Rattle.c_runs.specs.Statements.{no_env}
+use Rattle.c_means.specs.Statements.{no_env}
 use Rattle.core_tree.specs.States.{Calls, Level, Measures, along}
 use Rattle.term_bank.specs.Values.{Environment}
 use Rattle.path_forms.specs.declared.frame.Placed.{Placed}

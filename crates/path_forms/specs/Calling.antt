@@ -1,6 +1,6 @@
 -- Calls inside an expression: the values on top of the operands are the arguments, the last one on top.
 use Rattle.std.specs.Prelude.{◌≡◌, ℕ, zero, suc, ◌+◌, ℤ, List, [], ◌∷◌, ◌++◌, false}
-use Rattle.bit_words.specs.declared.run.Happening.TheVariants as happening
+use Rattle.plain_data.specs.declared.run.Happening.TheVariants as happening
 use Rattle.core_tree.specs.declared.expr.Callee.{Callee}
 use Rattle.core_tree.specs.States.{Outcome, ◌>>=◌, note, along, Done}
 use Rattle.core_tree.specs.Values.{acting, needed}

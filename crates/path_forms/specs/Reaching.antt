@@ -1,7 +1,7 @@
 -- What an expression makes of runs, behind whatever led to them.
 use Rattle.std.specs.Prelude.{◌≡◌, ℕ, ◌+◌, ℤ, List, [], ◌∷◌, ◌++◌, cond, Option, Some, None, Result, Ok, Err, map}
-use Rattle.bit_words.specs.declared.run.Side.TheVariants as side
-use Rattle.c_type_terms.specs.Integers.{is_zero}
+use Rattle.plain_data.specs.declared.run.Side.TheVariants as side
+use Rattle.c_language.specs.Integers.{is_zero}
 use Rattle.core_tree.specs.declared.expr.Expr.{Expr}
 use Rattle.core_tree.specs.declared.types.Operator.{Operator}
 use Rattle.core_tree.specs.Memory.{operated}

@@ -1,6 +1,6 @@
 //! How many places what is called takes.
 ghost use Rattle.std.specs.Prelude.{◌≡◌, ◌+◌, IfOk};
-ghost use Rattle.c_runs.specs.Calls.{pointers_in, pointer_places};
+ghost use Rattle.c_means.specs.Calls.{pointers_in, pointer_places};
 ghost use Rattle.core_tree.specs.Callees as callees;
 
 use crate::calling::Calls;

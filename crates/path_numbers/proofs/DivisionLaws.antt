@@ -6,13 +6,13 @@ use Rattle.std.specs.Int.Signed.{mag, mag_rem}
 use Rattle.std.proofs.Math.Facts.{sfits_to_z}
 use Rattle.std.proofs.lemmas.Bool.Decides.{nat_tests}
 use Rattle.std.proofs.Math.Nat.{div-le_self, div-lt_self, div-one}
-use Rattle.bit_words.specs.declared.width.Width.{Width}
-use Rattle.bit_words.specs.declared.width.Width.TheVariants.{W8, W16, W32, W64}
-use Rattle.bit_words.specs.declared.run.Undefined.TheVariants.{Overflow, ZeroDivisor}
-use Rattle.bit_words.specs.Words.{machine, bits, word, signed, is_signed, sdiv, srem}
-use Rattle.bit_words.proofs.WordLaws.{word-signed, signed-word, word_below}
+use Rattle.plain_data.specs.declared.width.Width.{Width}
+use Rattle.plain_data.specs.declared.width.Width.TheVariants.{W8, W16, W32, W64}
+use Rattle.plain_data.specs.declared.run.Undefined.TheVariants.{Overflow, ZeroDivisor}
+use Rattle.plain_data.specs.Words.{machine, bits, word, signed, is_signed, sdiv, srem}
+use Rattle.plain_data.proofs.WordLaws.{word-signed, signed-word, word_below}
 use Rattle.core_tree.specs.Numbers.{value_of_word, wrapped, exact, quotient, remainder}
-use Rattle.c_type_terms.specs.Operators.{Answer, where_in}
+use Rattle.c_language.specs.Operators.{Answer, where_in}
 use Rattle.term_bank.specs.Values.{divided}
 use Rattle.path_numbers.proofs.WordSums.{of_type, word-pos, wrapped_is, exactly, zero_word}
 

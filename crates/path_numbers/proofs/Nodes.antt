@@ -3,11 +3,11 @@ use Rattle.std.proofs.Common.{◌≡◌, ℕ, ◌-◌, ◌^◌, ◌<◌, List, B
 use Rattle.std.proofs.Common.{ℤ, pos, negsuc}
 use Rattle.std.specs.Prelude.{Ok, nat_eq, int_lt, ◌&&◌}
 use Rattle.std.proofs.lemmas.Bool.Decides.{nat_tests}
-use Rattle.bit_words.specs.declared.width.Width.{Width}
-use Rattle.bit_words.specs.declared.width.Width.TheVariants.{W32, W64}
-use Rattle.bit_words.specs.Words.{bits, word}
-use Rattle.bit_words.proofs.WordLaws.{signed-word}
-use Rattle.c_type_terms.specs.Integers.{is_zero, number_of}
+use Rattle.plain_data.specs.declared.width.Width.{Width}
+use Rattle.plain_data.specs.declared.width.Width.TheVariants.{W32, W64}
+use Rattle.plain_data.specs.Words.{bits, word}
+use Rattle.plain_data.proofs.WordLaws.{signed-word}
+use Rattle.c_language.specs.Integers.{is_zero, number_of}
 use Rattle.core_tree.specs.declared.types.WordType.{WordType}
 use Rattle.core_tree.specs.Numbers.{is_in, value_of_word, wrapped, int}
 use Rattle.term_bank.specs.declared.sort.Sort.TheVariants as sort
@@ -89,7 +89,7 @@ in_unsigned w z some h =
     rw e.1 (ap pos (word-pos w e.0 e.2))
 
 some_words : (w : Width) → 0 < 2 ^ bits w
-some_words w = omega (arith, Rattle.bit_words.proofs.WordLaws.word_below w (pos 0))
+some_words w = omega (arith, Rattle.plain_data.proofs.WordLaws.word_below w (pos 0))
 
 pub value_of_in : (t : WordType) (z : ℤ) → is_in t z ≡ true → value_of_word t (word t.width z) ≡ z
 value_of_in t z h = by t.is_signed t.width z h

@@ -2,14 +2,14 @@
 use Rattle.std.proofs.Common.{◌≡◌, ℕ, List, Bool, true, false, not, cond, Option, Some, None, refl, sym, ap, ◌∙◌}
 use Rattle.std.proofs.Common.{ℤ, pos, negsuc, ◌-ℤ◌}
 use Rattle.std.specs.Prelude.{Ok, Err, nat_eq, nat_lt}
-use Rattle.bit_words.specs.declared.width.Width.{Width}
-use Rattle.bit_words.specs.declared.run.Undefined.{Undefined}
-use Rattle.bit_words.specs.declared.run.Undefined.TheVariants.{Overflow, ZeroDivisor, Shift}
-use Rattle.bit_words.specs.Words.{bits, word, sub, ult, slt}
-use Rattle.bit_words.proofs.WordLaws.{word-sub}
-use Rattle.bit_words.specs.declared.width.Width.TheVariants.{W8, W16, W32, W64}
-use Rattle.c_type_terms.specs.Integers.{number_of}
-use Rattle.c_type_terms.specs.Operators.{Answer}
+use Rattle.plain_data.specs.declared.width.Width.{Width}
+use Rattle.plain_data.specs.declared.run.Undefined.{Undefined}
+use Rattle.plain_data.specs.declared.run.Undefined.TheVariants.{Overflow, ZeroDivisor, Shift}
+use Rattle.plain_data.specs.Words.{bits, word, sub, ult, slt}
+use Rattle.plain_data.proofs.WordLaws.{word-sub}
+use Rattle.plain_data.specs.declared.width.Width.TheVariants.{W8, W16, W32, W64}
+use Rattle.c_language.specs.Integers.{number_of}
+use Rattle.c_language.specs.Operators.{Answer}
 use Rattle.core_tree.specs.declared.types.WordType.{WordType}
 use Rattle.core_tree.specs.declared.types.Arithmetic.TheVariants as o
 use Rattle.core_tree.specs.declared.types.Turning.TheVariants as turning

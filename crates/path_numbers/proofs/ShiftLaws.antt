@@ -7,14 +7,14 @@ use Rattle.std.specs.Int.Signed.{mag}
 use Rattle.std.proofs.lemmas.Bool.Decides.{nat_tests}
 use Rattle.std.proofs.Math.Nat.{div-le_self}
 use Rattle.std.proofs.Math.Pow.{pow-lt}
-use Rattle.bit_words.specs.declared.width.Width.{Width}
-use Rattle.bit_words.specs.declared.width.Width.TheVariants.{W8, W16, W32, W64}
-use Rattle.bit_words.specs.declared.run.Undefined.TheVariants.{Overflow, Shift}
-use Rattle.bit_words.specs.Words.{bits, word, signed, is_signed, shl, lshr, ashr, shl_over}
-use Rattle.bit_words.proofs.WordLaws.{word-signed, signed-word, word-mul, word_below}
+use Rattle.plain_data.specs.declared.width.Width.{Width}
+use Rattle.plain_data.specs.declared.width.Width.TheVariants.{W8, W16, W32, W64}
+use Rattle.plain_data.specs.declared.run.Undefined.TheVariants.{Overflow, Shift}
+use Rattle.plain_data.specs.Words.{bits, word, signed, is_signed, shl, lshr, ashr, shl_over}
+use Rattle.plain_data.proofs.WordLaws.{word-signed, signed-word, word-mul, word_below}
 use Rattle.core_tree.specs.declared.types.WordType.{WordType}
 use Rattle.core_tree.specs.Numbers.{value_of_word, wrapped, exact, is_far, shifted_left, shifted_right}
-use Rattle.c_type_terms.specs.Operators.{Answer, is_negative, as_shift}
+use Rattle.c_language.specs.Operators.{Answer, is_negative, as_shift}
 use Rattle.term_bank.specs.Values.{shifted}
 use Rattle.path_numbers.proofs.WordSums.{of_type, word-pos, word_of_value, wrapped_is, exactly}
 use Rattle.path_numbers.proofs.DivisionLaws.{fits, is_fit, otherwise}

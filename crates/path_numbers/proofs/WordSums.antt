@@ -4,15 +4,15 @@ use Rattle.std.proofs.Common.{ℤ, pos, negsuc, ◌+ℤ◌, ◌-ℤ◌, ◌*ℤ�
 use Rattle.std.specs.Prelude.{Ok, Err, nat_eq, int_lt, ◌||◌}
 use Rattle.std.proofs.lemmas.Bool.Decides.{nat_tests}
 use Rattle.std.proofs.Math.Nat.{mod-eq_of_lt}
-use Rattle.bit_words.specs.declared.width.Width.{Width}
-use Rattle.bit_words.specs.declared.width.Width.TheVariants.{W8, W16, W32, W64}
-use Rattle.bit_words.specs.declared.run.Undefined.TheVariants.{Overflow}
-use Rattle.bit_words.specs.Words.{bits, word, signed, is_signed, add, sub, mul, add_over, sub_over, mul_over, ult, slt}
-use Rattle.bit_words.proofs.WordLaws.{word-signed, signed-word, word-add, word-sub, word-mul, word_below}
+use Rattle.plain_data.specs.declared.width.Width.{Width}
+use Rattle.plain_data.specs.declared.width.Width.TheVariants.{W8, W16, W32, W64}
+use Rattle.plain_data.specs.declared.run.Undefined.TheVariants.{Overflow}
+use Rattle.plain_data.specs.Words.{bits, word, signed, is_signed, add, sub, mul, add_over, sub_over, mul_over, ult, slt}
+use Rattle.plain_data.proofs.WordLaws.{word-signed, signed-word, word-add, word-sub, word-mul, word_below}
 use Rattle.core_tree.specs.declared.types.WordType.{WordType}
 use Rattle.core_tree.specs.Numbers.{is_in, value_of_word, wrapped, exact}
-use Rattle.c_type_terms.specs.Integers.{is_zero}
-use Rattle.c_type_terms.specs.Operators.{Answer}
+use Rattle.c_language.specs.Integers.{is_zero}
+use Rattle.c_language.specs.Operators.{Answer}
 
 abbrev pub of_type : Bool → Width → WordType
 of_type s w = record { width = w; is_signed = s }

@@ -1,9 +1,9 @@
 -- What nodes say of the numbers and answers of the core.
 use Rattle.std.specs.Prelude.{◌≡◌, ℕ, ℤ, List, Bool, true, false, cond, Option, Some, None, Ok, Err, nat_eq}
-use Rattle.bit_words.specs.declared.width.Width.{Width}
-use Rattle.bit_words.specs.declared.run.Undefined.{Undefined}
-use Rattle.bit_words.specs.declared.run.Undefined.TheVariants.{Overflow, ZeroDivisor}
-use Rattle.c_type_terms.specs.Operators.{Answer}
+use Rattle.plain_data.specs.declared.width.Width.{Width}
+use Rattle.plain_data.specs.declared.run.Undefined.{Undefined}
+use Rattle.plain_data.specs.declared.run.Undefined.TheVariants.{Overflow, ZeroDivisor}
+use Rattle.c_language.specs.Operators.{Answer}
 use Rattle.core_tree.specs.declared.types.WordType.{WordType}
 use Rattle.core_tree.specs.Numbers.{value_of_word}
 use Rattle.term_bank.specs.declared.sort.Sort.TheVariants.{Truth, Word}

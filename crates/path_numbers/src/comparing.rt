@@ -1,5 +1,5 @@
 ghost use Rattle.std.specs.Prelude.{◌≡◌, IfOk, Ok, not};
-ghost use Rattle.c_type_terms.specs.Integers.{number_of};
+ghost use Rattle.c_language.specs.Integers.{number_of};
 ghost use Rattle.core_tree.specs.Numbers.{precedes, differs, worked as worked_in};
 ghost use Rattle.core_tree.specs.declared.types.Arithmetic.TheVariants as o;
 ghost use Rattle.term_bank.specs.Terms.{IsTerm};

@@ -1,7 +1,7 @@
 ghost use Rattle.std.specs.Prelude.{◌≡◌, ◌≤ℤ◌, ℕ, ℤ, pos, negsuc, ◌-◌, ◌^◌, IfOk, not, true};
-ghost use Rattle.bit_words.specs.Words.{word as word_of};
-ghost use Rattle.bit_words.specs.declared.width.Width.TheVariants.{W64};
-ghost use Rattle.c_type_terms.specs.Integers.{is_zero, number_of};
+ghost use Rattle.plain_data.specs.Words.{word as word_of};
+ghost use Rattle.plain_data.specs.declared.width.Width.TheVariants.{W64};
+ghost use Rattle.c_language.specs.Integers.{is_zero, number_of};
 ghost use Rattle.c_means.specs.Values.{address as address_of};
 ghost use Rattle.core_tree.specs.Numbers.{is_in, wrapped as wrapped_to, converted_to};
 ghost use Rattle.term_bank.specs.Banks.{IsBank};
@@ -10,9 +10,9 @@ ghost use Rattle.term_bank.specs.declared.sort.Sort.TheVariants.{Truth};
 ghost use Rattle.path_states.specs.States.{IsNumber, number_in};
 ghost use Rattle.path_numbers.specs.Answers.{Numbered, Truthful, Worded, extension_of};
 
-use bit_words::{Width, wrap};
 use core_tree::{ValueType, WordType};
 use path_states::Number;
+use plain_data::{Width, wrap};
 use term_bank::{Bank, BankFault, Extension, Node, Sort, WordTest};
 
 /// The type `int`.

@@ -8,9 +8,9 @@ ghost use Rattle.path_numbers.specs.Answers.{Answers, by_sign, divides_in};
 
 use crate::operators::{Words, operands, signed_fault};
 use crate::tested::{Fault, Tested};
-use bit_words::Undefined;
 use core_tree::WordType;
 use path_states::Number;
+use plain_data::Undefined;
 use term_bank::{Bank, BankFault, WordOperator, WordTest};
 
 /// The operator of a signed type, or that of an unsigned one.

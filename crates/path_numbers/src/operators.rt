@@ -1,6 +1,6 @@
 ghost use Rattle.std.specs.Prelude.{◌≡◌, IfOk, cond, false, Ok, Err, not, nat_eq, ◌||◌, ◌&&◌};
-ghost use Rattle.bit_words.specs.declared.run.Undefined.TheVariants.{Overflow};
-ghost use Rattle.bit_words.specs.Words.{word as word_of};
+ghost use Rattle.plain_data.specs.declared.run.Undefined.TheVariants.{Overflow};
+ghost use Rattle.plain_data.specs.Words.{word as word_of};
 ghost use Rattle.core_tree.specs.Numbers.{exact as exact_in, value_of_word, wrapped as wrapped_to, worked as worked_in};
 ghost use Rattle.core_tree.specs.declared.types.Arithmetic.TheVariants as o;
 ghost use Rattle.term_bank.specs.Terms.{IsTerm};
@@ -11,9 +11,9 @@ ghost use Rattle.path_numbers.specs.Answers.{Answers, Faulty, AreWords, faults_i
 
 use crate::conversions::{in_width, keeps_bank};
 use crate::tested::{Fault, Tested};
-use bit_words::{Undefined, Width};
 use core_tree::WordType;
 use path_states::Number;
+use plain_data::{Undefined, Width};
 use term_bank::{Bank, BankFault, Node, WordOperator, WordTest};
 
 /// Two operands' words of one width.

@@ -7,9 +7,9 @@ ghost use Rattle.path_numbers.specs.Answers.{Answers, Truthful};
 use crate::divisions::operator_of;
 use crate::operators::{operands, signed_fault};
 use crate::tested::{Fault, Tested};
-use bit_words::Undefined;
 use core_tree::WordType;
 use path_states::Number;
+use plain_data::Undefined;
 use term_bank::{Bank, BankFault, Node, WordOperator, WordTest};
 
 /// Whether a shift's count is negative or not below the width (C99 6.5.7p3).

@@ -1,7 +1,7 @@
 ghost use Rattle.std.specs.Prelude.{◌≡◌, None};
 
-use bit_words::Undefined;
 use path_states::Number;
+use plain_data::Undefined;
 use term_bank::Node;
 
 /// A kind of undefined behaviour, which is met where the truth is true.

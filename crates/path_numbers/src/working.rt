@@ -1,5 +1,5 @@
 ghost use Rattle.std.specs.Prelude.{IfOk, Ok};
-ghost use Rattle.bit_words.specs.Words.{word as word_of};
+ghost use Rattle.plain_data.specs.Words.{word as word_of};
 ghost use Rattle.core_tree.specs.Numbers.{turned as turned_in, worked as worked_in, value_of_word};
 ghost use Rattle.term_bank.specs.Values.{result_of};
 ghost use Rattle.path_states.specs.States.{IsNumber, number_in};

@@ -1,7 +1,7 @@
 -- The arguments of a format, and the texts of its pieces, by numbers of a walk.
 use Rattle.std.proofs.Common.{◌≡◌, ℕ, zero, suc, ◌+◌, ◌-◌, ◌≤◌, ℤ, negsuc, true, List, [], ◌∷◌, ◌++◌, length, take, drop, Option, Some, None, refl, sym, ap, subst, ◌∙◌, arith, append-nil, append_assoc}
 use Rattle.std.proofs.lemmas.List.{length-take-le, length-drop, drop_at}
-use Rattle.bit_words.specs.Words.{word}
+use Rattle.plain_data.specs.Words.{word}
 use Rattle.printf_text.specs.declared.kind.Kind.TheVariants as kind
 use Rattle.printf_text.specs.declared.piece.Arg.{Arg}
 use Rattle.printf_text.specs.declared.piece.Arg.TheVariants as arg
@@ -17,7 +17,7 @@ use Rattle.printf_text.specs.Texts.{piece_kinds, size_kinds, form_kind, piece_te
 use Rattle.printf_text.specs.Texts.{size_of as size_in}
 use Rattle.format_match.specs.Reading.{is_integer}
 use Rattle.c_store.specs.Store.{Store}
-use Rattle.c_runs.specs.Calls.{before_args, pointer_places}
+use Rattle.c_means.specs.Calls.{before_args, pointer_places}
 use Rattle.core_tree.specs.declared.types.WordType.{WordType}
 use Rattle.core_tree.specs.Callees.{Spoken, spoken, integer_arg, star_args, behind_star, first_value, formed_arg, arguments_of, says_all, taken_then}
 use Rattle.core_tree.specs.States.{Level, along}

@@ -2,10 +2,10 @@
 use Rattle.std.proofs.Common.{◌≡◌, ℕ, suc, ℤ, List, [], ◌∷◌, Bool, true, false, not, cond, refl, ap, ◌∙◌, arith}
 use Rattle.std.specs.Prelude.{Ok, nat_eq, ◌&&◌, ◌||◌, ◌==◌, length, int_lt}
 use Rattle.std.proofs.lemmas.Bool.Decides.{nat_tests}
-use Rattle.bit_words.specs.declared.width.Width.{Width}
-use Rattle.bit_words.specs.declared.width.Width.TheVariants.{W32, W64}
-use Rattle.bit_words.specs.Words.{word, signed, is_signed}
-use Rattle.bit_words.proofs.WordLaws.{word_below, signed-word}
+use Rattle.plain_data.specs.declared.width.Width.{Width}
+use Rattle.plain_data.specs.declared.width.Width.TheVariants.{W32, W64}
+use Rattle.plain_data.specs.Words.{word, signed, is_signed}
+use Rattle.plain_data.proofs.WordLaws.{word_below, signed-word}
 use Rattle.format_match.specs.Splits.{meets, meet_all}
 use Rattle.format_match.specs.declared.split.Constraint.{Constraint}
 use Rattle.format_match.specs.declared.split.Constraint.TheVariants.{Equal, Between}

@@ -1,8 +1,8 @@
 -- The print of a state, once its format is taken.
 use Rattle.std.proofs.Common.{◌≡◌, ℕ, zero, suc, ◌-◌, ℤ, pos, List, [], ◌∷◌, ◌++◌, cond, refl, sym, ap, ◌∙◌, append-nil}
 use Rattle.std.specs.Prelude.{Ok}
-use Rattle.bit_words.specs.declared.run.Event.{Event}
-use Rattle.bit_words.specs.declared.run.Happening.TheVariants as happening
+use Rattle.plain_data.specs.declared.run.Event.{Event}
+use Rattle.plain_data.specs.declared.run.Happening.TheVariants as happening
 use Rattle.core_tree.specs.declared.types.ValueType.{ValueType}
 use Rattle.core_tree.specs.Numbers.{int, wrapped, converted_to}
 use Rattle.term_bank.specs.declared.sort.Sort.TheVariants.{Events}

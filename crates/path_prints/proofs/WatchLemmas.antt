@@ -2,10 +2,10 @@
 use Rattle.std.proofs.Common.{◌≡◌, ℕ, ◌+◌, ◌*◌, ◌%◌, ◌^◌, ◌<◌, ◌≤◌, List, [], ◌∷◌, ◌++◌, refl, sym, ap, ◌∙◌, arith, append-nil, append_assoc}
 use Rattle.std.specs.Prelude.{Ok}
 use Rattle.std.proofs.Math.Nat.{mod-eq_of_lt}
-use Rattle.bit_words.specs.declared.width.Width.{Width}
-use Rattle.bit_words.specs.declared.width.Width.TheVariants as width
-use Rattle.bit_words.specs.declared.width.Width.TheVariants.{W64}
-use Rattle.bit_words.specs.Words.{shl}
+use Rattle.plain_data.specs.declared.width.Width.{Width}
+use Rattle.plain_data.specs.declared.width.Width.TheVariants as width
+use Rattle.plain_data.specs.declared.width.Width.TheVariants.{W64}
+use Rattle.plain_data.specs.Words.{shl}
 use Rattle.c_store.specs.Store.{start}
 use Rattle.core_tree.specs.declared.expr.Holder.TheVariants as holder
 use Rattle.core_tree.specs.declared.expr.Watched.{Watched}

@@ -1,7 +1,7 @@
 -- Where a format has been taken: the print is noted, and its length is answered.
 use Rattle.std.specs.Prelude.{◌≡◌, ℕ, zero, suc, ◌-◌, ℤ, pos, List, [], ◌∷◌, ◌++◌, Some}
-use Rattle.bit_words.specs.declared.run.Event.{Event}
-use Rattle.bit_words.specs.declared.run.Happening.TheVariants as happening
+use Rattle.plain_data.specs.declared.run.Event.{Event}
+use Rattle.plain_data.specs.declared.run.Happening.TheVariants as happening
 use Rattle.printf_text.specs.declared.piece.Piece.{Piece}
 use Rattle.core_tree.specs.declared.expr.Callee.TheVariants as callee
 use Rattle.core_tree.specs.declared.expr.Watched.{Watched}

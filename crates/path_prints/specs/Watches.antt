@@ -1,7 +1,7 @@
 -- The values of watched variables, as numbers of a walk.
 use Rattle.std.specs.Prelude.{◌≡◌, ◌+◌, ◌<◌, ◌^◌, ℕ, List, ◌++◌}
-use Rattle.bit_words.specs.declared.width.Width.{Width}
-use Rattle.bit_words.specs.declared.width.Width.TheVariants.{W64}
+use Rattle.plain_data.specs.declared.width.Width.{Width}
+use Rattle.plain_data.specs.declared.width.Width.TheVariants.{W64}
 use Rattle.c_store.specs.Store.{start}
 use Rattle.core_tree.specs.declared.expr.Watched.{Watched}
 use Rattle.core_tree.specs.declared.types.ValueType.{ValueType}

@@ -1,17 +1,17 @@
 //! What a split says of integers, as a truth.
 ghost use Rattle.std.specs.Prelude.{IfOk};
-ghost use Rattle.bit_words.specs.Words.{word as word_of};
-ghost use Rattle.bit_words.specs.declared.width.Width.TheVariants.{W64};
+ghost use Rattle.plain_data.specs.Words.{word as word_of};
+ghost use Rattle.plain_data.specs.declared.width.Width.TheVariants.{W64};
 ghost use Rattle.format_match.specs.Splits.{meets as meets_in, meet_all as meet_all_in};
 ghost use Rattle.format_match.specs.declared.split.Constraint.TheVariants.{Equal, Between};
 ghost use Rattle.path_states.specs.States.{AreNumbers, IsNumber};
 ghost use Rattle.path_numbers.specs.Answers.{Truthful, Worded};
 ghost use Rattle.path_prints.specs.Arguments.{arg_in, args_in};
 
-use bit_words::{Width, wrap};
 use format_match::Constraint;
 use path_numbers::{INT, in_width, wrapped};
 use path_states::Number;
+use plain_data::{Width, wrap};
 use term_bank::{Bank, BankFault, Connective, Node, WordTest};
 
 /// Whether an integer has these bits, converted to an unsigned type of a width.

@@ -4,9 +4,9 @@ ghost use Rattle.format_match.specs.Splits.{SplitsExactly};
 ghost use Rattle.printf_text.specs.Texts.{piece_kinds, size_kinds};
 ghost use Rattle.path_prints.specs.Says.{takes_integers as takes_integers_in};
 
-use bit_words::Bytes;
 use format_match::{SplitList, splits};
 use path_forms::WalkFault;
+use plain_data::Bytes;
 use printf_text::{Form, Piece, Pieces, Size};
 use std::alloc::{AllocError, Global};
 

@@ -9,13 +9,12 @@ ghost use Rattle.path_numbers.specs.Answers.{Numbered};
 ghost use Rattle.path_steps.specs.Memories.{IsScalar, width_of};
 ghost use Rattle.path_prints.specs.Watches.{IsBehind, IsScalarOf, StandsAt, Sees, SeesAll};
 
-use bit_words::Width;
 use core_tree::{Holder, ValueType, Watched, WordType};
 use mem_terms::read;
 use path_forms::{Placed, WalkFault, place_of};
 use path_numbers::{ADDRESS, flag, truth};
 use path_states::Number;
-use plain_data::Items;
+use plain_data::{Items, Width};
 use term_bank::{Bank, BankFault, Node, WordOperator};
 
 /// The type of the byte that a `_Bool` has.

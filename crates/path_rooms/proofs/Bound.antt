@@ -2,8 +2,8 @@
 use Rattle.std.proofs.Common.{◌≡◌, ℕ, ◌+◌, List, [], ◌∷◌, ◌++◌, refl, ◌∙◌}
 use Rattle.c_store.specs.Store.{set_at}
 use Rattle.c_means.specs.Parts.{Env}
-use Rattle.c_runs.specs.Items.{known}
-use Rattle.c_runs.specs.Statements.{no_env}
+use Rattle.c_means.specs.Items.{known}
+use Rattle.c_means.specs.Statements.{no_env}
 use Rattle.term_bank.specs.Values.{Environment}
 use Rattle.path_arrows.specs.declared.objects.Object.{Object}
 use Rattle.path_arrows.specs.Objects.{made_at}

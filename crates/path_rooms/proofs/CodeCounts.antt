@@ -1,7 +1,7 @@
 -- How many places each kind of code takes.
 use Rattle.std.proofs.Common.{◌≡◌, ℕ, ◌+◌, ℤ, Bool, List, Option, Some, None}
 use Rattle.std.proofs.Common.{refl, sym, ap, ap₂, ◌∙◌}
-use Rattle.c_says.specs.Scopes.{Name}
+use Rattle.c_language.specs.Scopes.{Name}
 use Rattle.core_tree.specs.declared.types.WordType.{WordType}
 use Rattle.core_tree.specs.declared.expr.Expr.{Expr}
 use Rattle.core_tree.specs.declared.code.Setting.{Setting as Part}

@@ -1,6 +1,6 @@
 //! How many places an expression takes.
 ghost use Rattle.std.specs.Prelude.{◌≡◌, ◌+◌, ℕ, IfOk};
-ghost use Rattle.c_runs.specs.Calls.{pointers_in, pointer_places};
+ghost use Rattle.c_means.specs.Calls.{pointers_in, pointer_places};
 ghost use Rattle.core_tree.specs.Callees as callees;
 ghost use Rattle.path_rooms.specs.Rooms.{rooms_of, value_room as value_places};
 

@@ -4,7 +4,7 @@ use Rattle.std.proofs.Common.{Option, Some, None, get_or, refl, sym, ap, ◌∙�
 use Rattle.std.specs.Prelude.{slice_get}
 use Rattle.std.proofs.lemmas.List.{take_more}
 use Rattle.std.proofs.lemmas.Option.{slice_get-get_or}
-use Rattle.bit_words.specs.declared.run.Event.{Event}
+use Rattle.plain_data.specs.declared.run.Event.{Event}
 use Rattle.c_store.specs.Store.{Store}
 use Rattle.core_tree.specs.declared.types.WordType.{WordType}
 use Rattle.core_tree.specs.Numbers.{value_of_word}

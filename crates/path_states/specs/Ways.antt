@@ -1,6 +1,6 @@
 -- What becomes of states: at most one of them stands, and its run goes on.
 use Rattle.std.specs.Prelude.{◌≡◌, ℕ, List, [], ◌∷◌, ◌++◌, Bool, true, false, cond, not, Option, Some, None, Result, Ok, Err}
-use Rattle.bit_words.specs.declared.run.Event.{Event}
+use Rattle.plain_data.specs.declared.run.Event.{Event}
 use Rattle.core_tree.specs.States.{Done}
 use Rattle.term_bank.specs.declared.sort.Sort.{Sort}
 use Rattle.term_bank.specs.declared.sort.Sort.TheVariants.{Truth, Events}

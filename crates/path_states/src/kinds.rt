@@ -1,8 +1,8 @@
 ghost use Rattle.std.specs.Prelude.{◌≡◌, true, IfOk};
 ghost use Rattle.c_means.specs.declared.kind.Kind.TheVariants as k;
 
-use bit_words::Finish;
 use c_means::Kind;
+use plain_data::Finish;
 use std::alloc::AllocError;
 
 /// A copy of a kind, whose label is shared.

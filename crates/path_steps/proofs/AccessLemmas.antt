@@ -2,16 +2,16 @@
 use Rattle.std.proofs.Common.{◌≡◌, ℕ, zero, suc, ◌+◌, ◌^◌, ◌<◌, ◌≤◌, ℤ, pos, List, ◌∷◌, Bool, true, false, not, cond, Option, Some, None, refl, ap, ◌∙◌, arith}
 use Rattle.std.specs.Prelude.{Result, Ok, Err, nat_eq, nat_le, ◌||◌}
 use Rattle.std.proofs.lemmas.Bool.Decides.{nat_tests}
-use Rattle.bit_words.specs.declared.width.Width.{Width}
-use Rattle.bit_words.specs.declared.width.Width.TheVariants as width
-use Rattle.bit_words.specs.declared.run.Finish.{Finish}
-use Rattle.bit_words.specs.declared.run.Finish.TheVariants as finish
-use Rattle.bit_words.specs.declared.run.Undefined.TheVariants.{Dereference, LiteralWrite}
+use Rattle.plain_data.specs.declared.width.Width.{Width}
+use Rattle.plain_data.specs.declared.width.Width.TheVariants as width
+use Rattle.plain_data.specs.declared.run.Finish.{Finish}
+use Rattle.plain_data.specs.declared.run.Finish.TheVariants as finish
+use Rattle.plain_data.specs.declared.run.Undefined.TheVariants.{Dereference, LiteralWrite}
 use Rattle.c_store.specs.declared.object.Object.{Object}
 use Rattle.c_store.specs.Store.{Store, object_of, offset_of}
 use Rattle.c_store.specs.Store as stores
 use Rattle.c_store.specs.Access.{can_access, can_write, is_live, reaches}
-use Rattle.c_type_terms.specs.Integers.{is_zero, number_of, bytes_in}
+use Rattle.c_language.specs.Integers.{is_zero, number_of, bytes_in}
 use Rattle.core_tree.specs.declared.types.Access.{Access}
 use Rattle.core_tree.specs.declared.types.ValueType.{ValueType}
 use Rattle.core_tree.specs.declared.types.ValueType.TheVariants as vt

@@ -1,10 +1,10 @@
 -- Runs that leave by an exit, and those that stay.
 use Rattle.std.proofs.Common.{◌≡◌, ℕ, List, [], ◌∷◌, ◌++◌, Bool, true, false, not, cond, Option, Some, None, refl, sym, ap, ◌∙◌, append-nil}
 use Rattle.std.specs.Prelude.{Result, Ok, Err}
-use Rattle.bit_words.specs.declared.run.Finish.TheVariants as finish
+use Rattle.plain_data.specs.declared.run.Finish.TheVariants as finish
 use Rattle.c_means.specs.declared.kind.Kind.TheVariants as k
 use Rattle.core_tree.specs.States.{Done, finished, or_stop}
-use Rattle.c_type_terms.specs.Operators.{Answer}
+use Rattle.c_language.specs.Operators.{Answer}
 use Rattle.term_bank.specs.declared.sort.Sort.TheVariants.{Truth}
 use Rattle.term_bank.specs.declared.sort.Node.{Node}
 use Rattle.term_bank.specs.declared.shape.Shape.{Shape}

@@ -5,8 +5,8 @@ use Rattle.std.proofs.Common.{negsuc, FitsSigned, to_z, of_z}
 use Rattle.std.specs.Int.{w128}
 use Rattle.std.proofs.lemmas.Int.{ints, to_z-of_z}
 use Rattle.std.proofs.Math.Nat.{mod-eq_of_lt}
-use Rattle.bit_words.specs.declared.width.Width.TheVariants.{W64}
-use Rattle.bit_words.specs.Words.{shl}
+use Rattle.plain_data.specs.declared.width.Width.TheVariants.{W64}
+use Rattle.plain_data.specs.Words.{shl}
 use Rattle.c_store.specs.Store.{start}
 use Rattle.core_tree.specs.Numbers.{turned}
 use Rattle.term_bank.specs.declared.shape.WordOperator.TheVariants as operator

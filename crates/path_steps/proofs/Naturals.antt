@@ -4,10 +4,10 @@ use Rattle.std.specs.Prelude.{Ok, unsigned_abs, int_lt}
 use Rattle.std.specs.Int.Signed.{mag}
 use Rattle.std.proofs.lemmas.Bool.Decides.{nat_tests}
 use Rattle.std.proofs.Math.Nat.{mod-eq_of_lt}
-use Rattle.bit_words.specs.declared.width.Width.{Width}
-use Rattle.bit_words.specs.declared.width.Width.TheVariants.{W8, W16, W32, W64}
-use Rattle.bit_words.specs.Words.{bits, word, signed, sub, slt}
-use Rattle.bit_words.proofs.WordLaws.{signed-word}
+use Rattle.plain_data.specs.declared.width.Width.{Width}
+use Rattle.plain_data.specs.declared.width.Width.TheVariants.{W8, W16, W32, W64}
+use Rattle.plain_data.specs.Words.{bits, word, signed, sub, slt}
+use Rattle.plain_data.proofs.WordLaws.{signed-word}
 use Rattle.core_tree.specs.Numbers.{value_of_word}
 use Rattle.term_bank.specs.declared.sort.Sort.TheVariants as sort
 use Rattle.term_bank.specs.declared.sort.Node.{Node}

@@ -1,13 +1,13 @@
 -- Operators on two numbers of a state.
 use Rattle.std.proofs.Common.{◌≡◌, ℕ, ◌^◌, ◌<◌, ℤ, pos, negsuc, neg_ℤ, ◌+ℤ◌, ◌-ℤ◌, ◌*ℤ◌, List, [], ◌∷◌, ◌++◌, Bool, true, false, not, cond, ◌&&◌, Option, Some, None, refl, sym, ap, ◌∙◌, arith}
 use Rattle.std.specs.Prelude.{Result, Ok, Err}
-use Rattle.bit_words.specs.declared.run.Finish.TheVariants as finish
-use Rattle.bit_words.specs.declared.run.Undefined.{Undefined}
-use Rattle.bit_words.specs.declared.run.Undefined.TheVariants.{PointerRange, PointerOrder}
+use Rattle.plain_data.specs.declared.run.Finish.TheVariants as finish
+use Rattle.plain_data.specs.declared.run.Undefined.{Undefined}
+use Rattle.plain_data.specs.declared.run.Undefined.TheVariants.{PointerRange, PointerOrder}
 use Rattle.c_store.specs.Store.{Store}
-use Rattle.c_type_terms.specs.Operators.{Answer}
+use Rattle.c_language.specs.Operators.{Answer}
 use Rattle.c_store.specs.Access.{in_one_object}
-use Rattle.c_type_terms.specs.Integers.{number_of}
+use Rattle.c_language.specs.Integers.{number_of}
 use Rattle.c_means.specs.Pointers.{elements_in}
 use Rattle.c_means.specs.Values.{address}
 use Rattle.core_tree.specs.declared.types.Operator.{Operator}

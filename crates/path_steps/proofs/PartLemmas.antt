@@ -1,9 +1,9 @@
 -- The sides of a branch.
 use Rattle.std.proofs.Common.{◌≡◌, ℕ, List, [], ◌∷◌, ◌++◌, Bool, true, false, not, cond, Some, None, refl, sym, ap, subst, ◌∙◌}
-use Rattle.bit_words.specs.declared.run.Happening.TheVariants as happening
-use Rattle.bit_words.specs.declared.run.Side.{Side}
-use Rattle.bit_words.specs.declared.run.Side.TheVariants as side
-use Rattle.c_type_terms.specs.Integers.{is_zero}
+use Rattle.plain_data.specs.declared.run.Happening.TheVariants as happening
+use Rattle.plain_data.specs.declared.run.Side.{Side}
+use Rattle.plain_data.specs.declared.run.Side.TheVariants as side
+use Rattle.c_language.specs.Integers.{is_zero}
 use Rattle.core_tree.specs.States.{Done}
 use Rattle.term_bank.specs.declared.sort.Sort.TheVariants as sort
 use Rattle.term_bank.specs.declared.sort.Node.{Node}

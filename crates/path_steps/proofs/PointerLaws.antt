@@ -4,16 +4,16 @@ use Rattle.std.specs.Prelude.{nat_eq, nat_lt, nat_le, unsigned_abs, int_div, Ok,
 use Rattle.std.proofs.lemmas.Bool.Decides.{nat_tests}
 use Rattle.std.proofs.lemmas.Int.{ints, unsigned_abs-mul, quot_fits}
 use Rattle.std.proofs.Math.Nat.{mod-eq_of_lt, div-lt_iff_lt-mul, div-eq_of_lt}
-use Rattle.bit_words.specs.declared.run.Undefined.TheVariants.{PointerRange, Overflow, ZeroDivisor}
-use Rattle.bit_words.specs.declared.width.Width.TheVariants.{W64}
-use Rattle.bit_words.specs.Words.{word, signed, is_signed, machine}
-use Rattle.bit_words.proofs.WordLaws.{word_below, word-add, word-sub, word-mul, word-word, signed-word, fits_of_test}
+use Rattle.plain_data.specs.declared.run.Undefined.TheVariants.{PointerRange, Overflow, ZeroDivisor}
+use Rattle.plain_data.specs.declared.width.Width.TheVariants.{W64}
+use Rattle.plain_data.specs.Words.{word, signed, is_signed, machine}
+use Rattle.plain_data.proofs.WordLaws.{word_below, word-add, word-sub, word-mul, word-word, signed-word, fits_of_test}
 use Rattle.c_store.specs.Store.{Store, object_of}
 use Rattle.c_store.specs.Access.{in_one_object, is_live}
 use Rattle.c_means.specs.Values.{address}
 use Rattle.c_means.specs.Pointers.{elements_in}
-use Rattle.c_type_terms.specs.Integers.{is_zero}
-use Rattle.c_type_terms.specs.Operators.{Answer}
+use Rattle.c_language.specs.Integers.{is_zero}
+use Rattle.c_language.specs.Operators.{Answer}
 use Rattle.core_tree.specs.declared.types.Arithmetic.TheVariants as o
 use Rattle.core_tree.specs.declared.types.WordType.{WordType}
 use Rattle.core_tree.specs.Memory.{moved, moved_to}

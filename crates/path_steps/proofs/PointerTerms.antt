@@ -2,14 +2,14 @@
 use Rattle.std.proofs.Common.{◌≡◌, ℕ, zero, suc, ◌+◌, ◌-◌, ◌/◌, ◌^◌, ◌<◌, ℤ, pos, ◌+ℤ◌, ◌-ℤ◌, ◌*ℤ◌, List, Bool, true, false, not, cond, ◌&&◌, ◌||◌, refl, sym, ap, ◌∙◌, arith}
 use Rattle.std.specs.Prelude.{Ok, nat_eq, nat_lt, nat_le, int_lt, unsigned_abs}
 use Rattle.std.proofs.lemmas.Bool.Decides.{nat_tests}
-use Rattle.bit_words.specs.declared.run.Undefined.TheVariants.{PointerRange, PointerOrder}
-use Rattle.bit_words.specs.declared.width.Width.TheVariants.{W64}
-use Rattle.bit_words.proofs.WordLaws.{word_below}
+use Rattle.plain_data.specs.declared.run.Undefined.TheVariants.{PointerRange, PointerOrder}
+use Rattle.plain_data.specs.declared.width.Width.TheVariants.{W64}
+use Rattle.plain_data.proofs.WordLaws.{word_below}
 use Rattle.c_store.specs.Store.{Store}
 use Rattle.c_store.specs.Access.{in_one_object}
 use Rattle.c_means.specs.Values.{address}
 use Rattle.c_means.specs.Pointers.{elements_in}
-use Rattle.c_type_terms.specs.Integers.{number_of}
+use Rattle.c_language.specs.Integers.{number_of}
 use Rattle.core_tree.specs.declared.types.Arithmetic.TheVariants as o
 use Rattle.core_tree.specs.declared.types.Relation.{Relation}
 use Rattle.core_tree.specs.declared.types.Relation.TheVariants as r

@@ -1,8 +1,8 @@
 -- What trials make of one state.
 use Rattle.std.proofs.Common.{◌≡◌, ℕ, ℤ, List, [], ◌∷◌, ◌++◌, Bool, true, false, not, cond, Option, Some, refl, sym, ap, ◌∙◌, subst}
 use Rattle.std.specs.Prelude.{Result, Ok, Err}
-use Rattle.c_type_terms.specs.Integers.{is_zero, number_of}
-use Rattle.c_type_terms.specs.Operators.{Answer}
+use Rattle.c_language.specs.Integers.{is_zero, number_of}
+use Rattle.c_language.specs.Operators.{Answer}
 use Rattle.core_tree.specs.States.{Done, or_stop}
 use Rattle.term_bank.specs.declared.sort.Node.{Node}
 use Rattle.term_bank.specs.declared.shape.Shape.{Shape}

@@ -1,9 +1,9 @@
 -- The sides of a branch: the operand on top is taken as a condition, and the side is noted.
 use Rattle.std.specs.Prelude.{◌≡◌, ℕ, List, [], ◌∷◌, ◌++◌, cond, Some, None}
-use Rattle.bit_words.specs.declared.run.Side.{Side}
-use Rattle.bit_words.specs.declared.run.Side.TheVariants as taken
-use Rattle.bit_words.specs.declared.run.Happening.TheVariants as happening
-use Rattle.c_type_terms.specs.Integers.{is_zero}
+use Rattle.plain_data.specs.declared.run.Side.{Side}
+use Rattle.plain_data.specs.declared.run.Side.TheVariants as taken
+use Rattle.plain_data.specs.declared.run.Happening.TheVariants as happening
+use Rattle.c_language.specs.Integers.{is_zero}
 use Rattle.term_bank.specs.declared.sort.Node.{Node}
 use Rattle.term_bank.specs.declared.shape.Shape.{Shape}
 use Rattle.term_bank.specs.Values.{Grows}

@@ -1,6 +1,6 @@
 -- Where a step ends the run: the first exit whose truth is true, else what follows.
 use Rattle.std.specs.Prelude.{◌≡◌, ℕ, List, [], ◌∷◌, ◌++◌, Bool, false, cond, not, Option, Some, None, Result, Ok, Err}
-use Rattle.bit_words.specs.declared.run.Finish.TheVariants as finish
+use Rattle.plain_data.specs.declared.run.Finish.TheVariants as finish
 use Rattle.core_tree.specs.States.{Done, finished}
 use Rattle.term_bank.specs.declared.sort.Sort.TheVariants.{Truth}
 use Rattle.term_bank.specs.declared.sort.Node.{Node}

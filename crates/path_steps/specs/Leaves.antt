@@ -1,7 +1,7 @@
 -- What the leaves of expressions do to a run.
 use Rattle.std.specs.Prelude.{ℕ, suc, List, ◌∷◌, ◌+◌, ◌<◌, ◌-◌, ◌^◌, ℤ, pos, negsuc, ◌≤ℤ◌, Some, Ok, unsigned_abs}
 use Rattle.c_store.specs.Store.{start}
-use Rattle.c_type_terms.specs.Integers.{is_zero, number_of}
+use Rattle.c_language.specs.Integers.{is_zero, number_of}
 use Rattle.core_tree.specs.Memory.{operated}
 use Rattle.core_tree.specs.Numbers.{converted_to, turned}
 use Rattle.core_tree.specs.States.{found, or_stop}

@@ -1,7 +1,7 @@
 ghost use Rattle.std.specs.Prelude.{◌≡◌, IfOk, not, cond, false};
-ghost use Rattle.bit_words.specs.declared.run.Finish.TheVariants as finish;
-ghost use Rattle.bit_words.specs.declared.run.Undefined.TheVariants.{Dereference, LiteralWrite};
-ghost use Rattle.bit_words.specs.declared.width.Width.TheVariants.{W64};
+ghost use Rattle.plain_data.specs.declared.run.Finish.TheVariants as finish;
+ghost use Rattle.plain_data.specs.declared.run.Undefined.TheVariants.{Dereference, LiteralWrite};
+ghost use Rattle.plain_data.specs.declared.width.Width.TheVariants.{W64};
 ghost use Rattle.c_store.specs.Access.{can_access as may_access, can_write as may_write};
 ghost use Rattle.core_tree.specs.Numbers.{value_of_bytes};
 ghost use Rattle.term_bank.specs.Banks.{IsBank};
@@ -12,11 +12,11 @@ ghost use Rattle.path_numbers.specs.Answers.{Numbered};
 ghost use Rattle.path_steps.specs.Memories.{IsScalar, width_of, Guards};
 
 use crate::settling::Exit;
-use bit_words::{Finish, Undefined, Width};
 use core_tree::{ValueType, WordType};
 use mem_terms::{can_access, can_write, octets};
 use path_numbers::{ADDRESS, flag, truth};
 use path_states::Number;
+use plain_data::{Finish, Undefined, Width};
 use term_bank::{Bank, BankFault, Node};
 
 /// The type of the byte that a `_Bool` has.

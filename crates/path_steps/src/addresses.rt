@@ -1,11 +1,11 @@
 ghost use Rattle.std.specs.Prelude.{◌≡◌, IfOk, unsigned_abs};
-ghost use Rattle.bit_words.specs.declared.width.Width.TheVariants.{W64};
+ghost use Rattle.plain_data.specs.declared.width.Width.TheVariants.{W64};
 ghost use Rattle.path_states.specs.States.{IsNumber, number_in};
 ghost use Rattle.path_numbers.specs.Answers.{Worded};
 
-use bit_words::Width;
 use path_numbers::in_width;
 use path_states::Number;
+use plain_data::Width;
 use term_bank::{Bank, BankFault, Node, Sort, WordOperator, WordTest};
 
 /// The node of the address that a number is: a number that is negative is taken without its sign. It fails for want of

@@ -2,7 +2,7 @@
 ghost use Rattle.std.specs.Prelude.{◌≡◌, IfOk, cond, pos, ◌+ℤ◌, ◌*ℤ◌};
 ghost use Rattle.c_store.specs.Store.{Store};
 ghost use Rattle.c_store.specs.Access.{in_one_object as in_one_object_of};
-ghost use Rattle.bit_words.specs.declared.width.Width.TheVariants.{W64};
+ghost use Rattle.plain_data.specs.declared.width.Width.TheVariants.{W64};
 ghost use Rattle.c_means.specs.Values.{address as address_of};
 ghost use Rattle.core_tree.specs.Memory.{moved as moved_in, apart as apart_in, ordered as ordered_in, operated as operated_by};
 ghost use Rattle.core_tree.specs.Numbers.{worked as worked_in};
@@ -16,11 +16,11 @@ ghost use Rattle.path_steps.specs.Operators.{Operates, Between, is_measured, is_
 
 use crate::addresses::natural;
 use crate::settling::{Exit, exit_of};
-use bit_words::{Finish, Undefined, Width};
 use core_tree::{Arithmetic, Operator, Relation, WordType};
 use mem_terms::in_one_object;
 use path_numbers::{ADDRESS, address, constant, worked, wrapped};
 use path_states::Number;
+use plain_data::{Finish, Undefined, Width};
 use term_bank::{Bank, BankFault, Connective, Node, WordTest};
 
 /// The type of the distance between two pointers, `ptrdiff_t`.

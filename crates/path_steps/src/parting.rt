@@ -5,10 +5,9 @@ ghost use Rattle.path_states.specs.States.{IsState, AreStates};
 ghost use Rattle.path_steps.specs.Branches.{IsSided, PartsOne, PartsAll};
 
 use crate::operands::pop;
-use bit_words::Side;
 use path_numbers::truth;
 use path_states::{State, halve};
-use plain_data::Items;
+use plain_data::{Items, Side};
 use std::alloc::Global;
 use term_bank::{Bank, BankFault, Node};
 

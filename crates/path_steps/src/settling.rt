@@ -4,11 +4,10 @@ ghost use Rattle.term_bank.specs.declared.sort.Sort.TheVariants.{Truth};
 ghost use Rattle.path_states.specs.States.{IsState, AreStates};
 ghost use Rattle.path_steps.specs.Exits.{IsMaybeExit, Leaves, Settles, exit_at};
 
-use bit_words::Finish;
 use c_means::Kind;
 use path_numbers::Fault;
 use path_states::{State, Walked, alone, halve};
-use plain_data::Items;
+use plain_data::{Finish, Items};
 use std::alloc::Global;
 use term_bank::{Bank, BankFault, Node};
 

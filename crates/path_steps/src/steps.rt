@@ -1,6 +1,6 @@
 ghost use Rattle.std.specs.Prelude.{◌≡◌, ◌++◌, ◌∷◌, [], IfOk, Some, Ok};
 ghost use Rattle.std.specs.Prelude.{◌<◌, ◌+◌, ◌-◌, ◌^◌, ◌≤ℤ◌, pos, negsuc, ℕ, unsigned_abs};
-ghost use Rattle.c_type_terms.specs.Integers.{is_zero, number_of};
+ghost use Rattle.c_language.specs.Integers.{is_zero, number_of};
 ghost use Rattle.core_tree.specs.Memory.{operated as operated_by};
 ghost use Rattle.core_tree.specs.Numbers.{converted_to, turned as turned_in};
 ghost use Rattle.core_tree.specs.States.{found, or_stop};
@@ -19,10 +19,10 @@ use crate::memory_steps::{load_step, put_step};
 use crate::operands::pop;
 use crate::operators::operate;
 use crate::settling::{exit_of, settle};
-use bit_words::Width;
 use core_tree::{Operator, Turning, ValueType, WordType};
 use path_numbers::{ADDRESS, Tested, constant, converted, flag, truth, turned};
 use path_states::{Number, State, Walked, settled};
+use plain_data::Width;
 use std::alloc::Global;
 use term_bank::{Bank, BankFault, WordOperator};
 

@@ -4,11 +4,11 @@ use Rattle.std.specs.Prelude.{slice_get, map, ◌+◌}
 use Rattle.std.proofs.Math.Path.{fun_ext}
 use Rattle.c_means.specs.Parts.{World}
 use Rattle.c_store.specs.Store.{Store}
-use Rattle.c_runs.specs.Units.{silent}
+use Rattle.c_means.specs.Units.{silent}
 use Rattle.core_tree.specs.declared.program.Function.{Function}
 use Rattle.core_tree.specs.Programs.{body_of, body_size, body_room, maybe_body, size_by, room_by, by_body, frame, back, measures_of, turns_in, calls_of, called_at, level_with}
-use Rattle.c_runs.specs.Items as items
-use Rattle.c_runs.specs.Statements.{no_env}
+use Rattle.c_means.specs.Items as items
+use Rattle.c_means.specs.Statements.{no_env}
 use Rattle.core_tree.specs.Codes.{lived, in_turn, code}
 use Rattle.core_tree.specs.States.{Calls, Done, Measures, Level, along, born, dead, entered, onward}
 use Rattle.log_expr.specs.declared.table.Ends.{Ends}

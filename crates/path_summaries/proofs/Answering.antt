@@ -1,8 +1,8 @@
 -- Calls of a level: by summaries, where no run makes them, and where no level is left.
 use Rattle.std.proofs.Common.{◌≡◌, ℕ, zero, suc, ℤ, ◌+◌, ◌<◌, ◌≤◌, List, [], ◌∷◌, length, Bool, true, false, cond, Option, Some, None, refl, sym, ap, subst, ◌∙◌, arith, append-nil}
 use Rattle.std.specs.Prelude.{slice_get, Err}
-use Rattle.bit_words.specs.declared.run.Event.{Event}
-use Rattle.bit_words.specs.declared.run.Finish.TheVariants as finish
+use Rattle.plain_data.specs.declared.run.Event.{Event}
+use Rattle.plain_data.specs.declared.run.Finish.TheVariants as finish
 use Rattle.c_means.specs.declared.kind.Kind.TheVariants as k
 use Rattle.c_means.specs.Parts.{World}
 use Rattle.c_store.specs.Store.{Store}

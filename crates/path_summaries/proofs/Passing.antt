@@ -2,10 +2,10 @@
 use Rattle.std.proofs.Common.{◌≡◌, ℕ, suc, ℤ, pos, List, [], ◌∷◌, ◌++◌, length, Bool, true, false, not, refl, sym, ap, ◌∙◌, arith}
 use Rattle.std.specs.Prelude.{slice_index, unsigned_abs}
 use Rattle.std.proofs.Math.Nat.{mod-eq_of_lt}
-use Rattle.bit_words.specs.Words.{word}
-use Rattle.bit_words.specs.declared.width.Width.TheVariants.{W64}
-use Rattle.bit_words.proofs.WordLaws.{word_below, word-word}
-use Rattle.c_type_terms.specs.Integers.{is_zero, number_of}
+use Rattle.plain_data.specs.Words.{word}
+use Rattle.plain_data.specs.declared.width.Width.TheVariants.{W64}
+use Rattle.plain_data.proofs.WordLaws.{word_below, word-word}
+use Rattle.c_language.specs.Integers.{is_zero, number_of}
 use Rattle.c_means.specs.Values.{address}
 use Rattle.core_tree.specs.declared.program.Parameter.{Parameter}
 use Rattle.core_tree.specs.declared.types.ValueType.{ValueType}

@@ -1,9 +1,9 @@
 -- What functions do along a log, with so many levels of calls left below them, as the summaries say it.
 use Rattle.std.specs.Prelude.{◌≡◌, ℕ, zero, suc, List, [], ◌∷◌, map, Option, Some, None, slice_get}
-use Rattle.bit_words.specs.declared.bounds.Bounds.{Bounds}
+use Rattle.plain_data.specs.declared.bounds.Bounds.{Bounds}
 use Rattle.c_means.specs.Parts.{World, Limits}
 use Rattle.c_store.specs.Store.{Store}
-use Rattle.c_runs.specs.Units.{silent, limits_of}
+use Rattle.c_means.specs.Units.{silent, limits_of}
 use Rattle.core_tree.specs.declared.program.Core.{Core}
 use Rattle.core_tree.specs.declared.program.Function.{Function}
 use Rattle.core_tree.specs.declared.program.Parameter.{Parameter}

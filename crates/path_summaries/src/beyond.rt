@@ -8,12 +8,11 @@ ghost use Rattle.path_forms.specs.declared.frame.Placed.{Placed as PlacedType};
 ghost use Rattle.path_forms.specs.Around.{Around as Surroundings};
 ghost use Rattle.path_forms.specs.Calling.{call_way};
 
-use bit_words::Finish;
 use c_means::Kind;
 use path_calls::begin;
 use path_forms::{CallSite, WalkFault};
 use path_states::{State, Walked, alone, settled};
-use plain_data::Items;
+use plain_data::{Finish, Items};
 use std::alloc::Global;
 use term_bank::Bank;
 

@@ -12,13 +12,13 @@ ghost use Rattle.path_summaries.specs.Tables.{HoldsRooms, IsReady, Counts, has_e
 
 use crate::beyond::{beyond, never};
 use crate::table::Summaries;
-use bit_words::Bounds;
 use core_tree::{Callee, Core, Function};
 use log_expr::EndTable;
 use path_calls::call_by_rule;
 use path_forms::{CallSite, Calls, Placed, WalkFault};
 use path_prints::log_call;
 use path_states::{State, Walked};
+use plain_data::Bounds;
 use std::alloc::Global;
 use summary_compose::compose;
 use term_bank::Bank;

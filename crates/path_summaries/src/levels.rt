@@ -1,6 +1,6 @@
 //! The summaries of all keys, level by level of depth.
 ghost use Rattle.std.specs.Prelude.{◌≡◌, suc, IfOk, IfSome, OnOk, [], length};
-ghost use Rattle.c_runs.specs.Units.{limits_of};
+ghost use Rattle.c_means.specs.Units.{limits_of};
 ghost use Rattle.log_expr.specs.Sound.{IsSound};
 ghost use Rattle.log_expr.specs.Tours.{tour_of};
 ghost use Rattle.path_summaries.specs.Tours.{room_in};
@@ -10,11 +10,10 @@ ghost use Rattle.path_summaries.specs.Levels.{Based, FillsKey, FillsEntry, Fills
 use crate::level::{Level, is_key};
 use crate::table::Summaries;
 use crate::walking::{next_number, room_of_body, walk};
-use bit_words::Bounds;
 use core_tree::{Core, Function};
 use log_expr::{EndTable, Entry};
 use path_forms::WalkFault;
-use plain_data::Items;
+use plain_data::{Bounds, Items};
 use std::alloc::{AllocError, Global};
 use term_bank::Bank;
 

@@ -11,13 +11,12 @@ ghost use Rattle.path_summaries.specs.Tables.{IsReady, has_ends};
 ghost use Rattle.path_summaries.specs.Walking.{EntersOne, Enters, Walks};
 
 use crate::level::Level;
-use bit_words::Width;
 use core_tree::{Parameter, ValueType, WordType};
 use path_codes::walk_body;
 use path_forms::WalkFault;
 use path_rooms::{room_of_items, sum};
 use path_states::Number;
-use plain_data::Items;
+use plain_data::{Items, Width};
 use std::alloc::Global;
 use summary_compose::Summary;
 use term_bank::Bank;

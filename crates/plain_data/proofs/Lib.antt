@@ -1,1 +1,4 @@
 pub mod Cuts
+pub mod Signed
+pub mod WordLaws
+pub mod Tables

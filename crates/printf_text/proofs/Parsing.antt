@@ -3,7 +3,7 @@ use Rattle.std.proofs.Common.{◌≡◌, ℕ, zero, suc, ◌+◌, ◌-◌, ◌<�
 use Rattle.std.specs.List.{prefix_len}
 use Rattle.std.proofs.lemmas.Bool.Decides.{nat_tests}
 use Rattle.printf_text.specs.Pieces.{Part, Step, after, after_run, run, is_flag, is_digit, is_plain, flags_of, star_or_number, precision_after, once_or_twice, length_at, width_at, precision_at, lettered, specification_at, percent_or, conversion_at, counted, stepped, step_of, piece_before, followed, pieces_from}
-use Rattle.bit_words.specs.declared.width.Width.{Width}
+use Rattle.plain_data.specs.declared.width.Width.{Width}
 use Rattle.printf_text.specs.declared.piece.Flags.{Flags}
 use Rattle.printf_text.specs.declared.piece.Size.{Size}
 use Rattle.printf_text.specs.declared.piece.Piece.{Piece}

@@ -2,8 +2,8 @@
 use Rattle.std.specs.Prelude.{ℕ, ◌+◌, ◌-◌, ◌<◌, ◌^◌, ◌≢◌, Bool, not, ◌&&◌, ◌||◌, ◌==◌, nat_lt, if◌then◌else◌, ℤ, pos, negsuc, unsigned_abs, List, [], ◌∷◌, ◌++◌, length, take, drop, map, replicate, All}
 use Rattle.std.specs.Int.Digits.{digits_of}
 use Rattle.std.specs.Int.{is_negative}
-use Rattle.bit_words.specs.Words.{bits, word, signed}
-use Rattle.bit_words.specs.declared.width.Width.TheVariants.{W8, W32}
+use Rattle.plain_data.specs.Words.{bits, word, signed}
+use Rattle.plain_data.specs.declared.width.Width.TheVariants.{W8, W32}
 use Rattle.printf_text.specs.declared.piece.Flags.{Flags}
 use Rattle.printf_text.specs.declared.piece.Size.{Size}
 use Rattle.printf_text.specs.declared.piece.Size.TheVariants.{Omitted, Written, Star}

@@ -1,10 +1,9 @@
 ghost use Rattle.std.specs.Prelude.{◌≡◌, ◌++◌, ◌↔◌, ◌<◌, ◌^◌, IsTrue, IfOk, OnOk};
-ghost use Rattle.bit_words.specs.Words.{bits};
+ghost use Rattle.plain_data.specs.Words.{bits};
 ghost use Rattle.printf_text.specs.Texts.{HaveKinds, piece_kinds, kinds};
 
 use crate::piece::{Arg, Args, Form, Piece, Pieces, Size};
-use bit_words::Width;
-use plain_data::Items;
+use plain_data::{Items, Width};
 use std::alloc::{AllocError, Global};
 
 /// What a conversion asks of an argument.

@@ -4,7 +4,7 @@ ghost use Rattle.std.specs.List.{prefix_len};
 ghost use Rattle.printf_text.specs.Pieces.{taken, has_accepted_parts, number_or, star_or_number, precision_after, specified, run, after_run, after, is_flag, is_digit, is_plain, flags_of, decimal, width_at, precision_at, length_at, form_of, is_accepted, is_in_limit, conversion_at, specification_at, step_of, format_text, pieces_of};
 
 use crate::piece::{Conversion, Flags, Form, Piece, Pieces, Radix, Size};
-use bit_words::{Bytes, Width};
+use plain_data::{Bytes, Width};
 use std::alloc::Global;
 use thiserror::Error;
 

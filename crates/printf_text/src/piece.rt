@@ -1,5 +1,4 @@
-use bit_words::{Bytes, Width};
-use plain_data::Items;
+use plain_data::{Bytes, Items, Width};
 
 /// The flags of a conversion (C99 7.19.6.1p6).
 #[derive(Clone, Copy, Debug, PartialEq, Eq)]

@@ -1,13 +1,13 @@
 ghost use Rattle.std.specs.Prelude.{◌≡◌, ◌++◌, ◌≤◌, ◌<◌, ◌^◌, ◌||◌, ◌-◌, pos, negsuc, unsigned_abs, map, drop, replicate, length, Ok, IfOk, OnOk};
 ghost use Rattle.std.specs.Int.{is_negative};
-ghost use Rattle.bit_words.specs.Words.{bits, word, signed};
+ghost use Rattle.plain_data.specs.Words.{bits, word, signed};
 ghost use Rattle.std.specs.Int.Digits.{digits_of};
 ghost use Rattle.printf_text.specs.Written.{parts_of};
 ghost use Rattle.printf_text.specs.Texts.{piece_text, fills_zeros, HasNoLeadingZero, marked, in_field, digits_wanted, conversion_kinds, HasKind, HaveKinds, BeginsWithKinds, kinds, piece_kinds, size_kinds, form_kind, number_of, size_of, base, digit, sign_of, prefix_of, signed_parts, unsigned_parts, plain, pointer_parts, text_bytes, cut, formed, conversion_text, text_of};
 
 use crate::kind::Kind;
 use crate::piece::{Arg, Args, Conversion, Flags, Form, Piece, Pieces, Radix, Size};
-use bit_words::{Bytes, Width, to_signed, wrap};
+use plain_data::{Bytes, Width, to_signed, wrap};
 use std::alloc::{AllocError, Global};
 use thiserror::Error;
 

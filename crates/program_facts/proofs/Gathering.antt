@@ -1,11 +1,11 @@
 -- Facts put one behind the other.
 use Rattle.std.proofs.Common.{◌≡◌, ℕ, zero, suc, Option, Some, None, ◌+◌, ◌<◌, ◌≤◌, Bool, true, false, List, [], ◌∷◌, ◌++◌, length, get_or, take, map, refl, sym, ap, subst, ◌∙◌, append_assoc, add-one, arith}
 use Rattle.std.proofs.lemmas.List.{append-nil, take_more, take_all, map-append}
-use Rattle.bit_words.specs.declared.fact.Fact.{Fact}
+use Rattle.plain_data.specs.declared.fact.Fact.{Fact}
 use Rattle.std.specs.Prelude.{slice_get}
 use Rattle.std.proofs.lemmas.Option.{get_or_from_slice_get}
-use Rattle.bit_words.specs.declared.fact.Facts.{Facts}
-use Rattle.bit_words.specs.declared.fact.Watched.{Watched}
+use Rattle.plain_data.specs.declared.fact.Facts.{Facts}
+use Rattle.plain_data.specs.declared.fact.Watched.{Watched}
 use Rattle.core_tree.specs.declared.expr.Watched.{Watched as Variable}
 use Rattle.core_tree.specs.declared.program.Core.{Core}
 use Rattle.core_tree.specs.declared.program.Function.{Function}

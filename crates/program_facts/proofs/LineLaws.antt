@@ -5,7 +5,7 @@ use Rattle.std.proofs.Math.Nat.{eq-or-lt_of_le}
 use Rattle.std.proofs.lemmas.Bool.{or_cases, or_left, or_right, eqb-true, eq-eqb}
 use Rattle.std.proofs.lemmas.List.{length-append, get_or_append_left, get_or_push, take_all}
 use Rattle.std.proofs.lemmas.Option.{slice_get-get_or, slice_get_within}
-use Rattle.bit_words.specs.declared.fact.Facts.{Facts}
+use Rattle.plain_data.specs.declared.fact.Facts.{Facts}
 use Rattle.printf_text.specs.declared.piece.Piece.{Piece}
 use Rattle.log_text.specs.Lines.{line_of}
 use Rattle.positions.specs.Sets.{has, ascends}

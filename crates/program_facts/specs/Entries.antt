@@ -1,8 +1,8 @@
 -- Facts in order, each with the variables that it watches.
 use Rattle.std.specs.Prelude.{◌≡◌, ℕ, zero, suc, List, [], ◌∷◌, ◌++◌, length, map, Option, Some, None}
-use Rattle.bit_words.specs.declared.fact.Fact.{Fact}
-use Rattle.bit_words.specs.declared.fact.Facts.{Facts}
-use Rattle.bit_words.specs.declared.fact.Watched.{Watched}
+use Rattle.plain_data.specs.declared.fact.Fact.{Fact}
+use Rattle.plain_data.specs.declared.fact.Facts.{Facts}
+use Rattle.plain_data.specs.declared.fact.Watched.{Watched}
 use Rattle.core_tree.specs.declared.expr.Watched.{Watched as Variable}
 
 -- a fact, with the variables that it watches, in order: only a print fact watches some

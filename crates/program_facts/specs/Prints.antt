@@ -1,7 +1,7 @@
 -- In which lines of a log prints of a site can begin.
 use Rattle.std.specs.Prelude.{◌≡◌, ◌↔◌, ◌<◌, ◌||◌, ◌++◌, ◌∷◌, [], ℕ, zero, suc, nat_eq, true, List, map, slice_get, Option, Some, None}
-use Rattle.bit_words.specs.declared.fact.Fact.TheVariants as fact
-use Rattle.bit_words.specs.declared.fact.Facts.{Facts}
+use Rattle.plain_data.specs.declared.fact.Fact.TheVariants as fact
+use Rattle.plain_data.specs.declared.fact.Facts.{Facts}
 use Rattle.printf_text.specs.declared.piece.Piece.{Piece}
 use Rattle.log_text.specs.Lines.{line_of}
 use Rattle.positions.specs.Sets.{has, ascends}

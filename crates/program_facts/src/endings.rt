@@ -1,15 +1,15 @@
 //! The facts without a token: how a run ends. All fail for want of memory alone.
 ghost use Rattle.std.specs.Prelude.{◌≡◌, ◌∷◌, ◌||◌, OnOk};
 ghost use Rattle.std.specs.List.{list_any};
-ghost use Rattle.bit_words.specs.declared.fact.Fact.TheVariants as fact;
+ghost use Rattle.plain_data.specs.declared.fact.Fact.TheVariants as fact;
 ghost use Rattle.program_facts.specs.Entries as entries;
 ghost use Rattle.program_facts.specs.Listing as spec;
 
 use crate::entries::put_fact;
 use crate::marks::may_miss;
-use bit_words::{Fact, Facts, Undefined};
 use core_marks::{Mark, kind_number};
 use core_tree::Function;
+use plain_data::{Fact, Facts, Undefined};
 use std::alloc::AllocError;
 
 const KINDS: [Undefined; 9] = [

@@ -1,11 +1,10 @@
 //! Facts put one behind the other, with the variables that they watch. All fail for want of memory alone.
 ghost use Rattle.std.specs.Prelude.{◌≡◌, ◌++◌, ◌∷◌, [], slice_get, IfOk, OnOk};
-ghost use Rattle.bit_words.specs.declared.fact.Fact.TheVariants as fact;
+ghost use Rattle.plain_data.specs.declared.fact.Fact.TheVariants as fact;
 ghost use Rattle.program_facts.specs.Entries as entries;
 
-use bit_words::{Fact, Facts, Side, Watched};
 use core_tree::Watched as Variable;
-use plain_data::Items;
+use plain_data::{Fact, Facts, Items, Side, Watched};
 use std::alloc::AllocError;
 
 /// Puts a variable that the print fact of this number watches at the end, if there is one at the index.

@@ -8,11 +8,10 @@ use crate::entries::number_of;
 use crate::fault::FactFault;
 use crate::marks::{Listing, put_marks};
 use crate::prints::line_table;
-use bit_words::Facts;
 use core_marks::{in_order, library_marks, source_marks};
 use core_tree::Core;
 use log_text::LogText;
-use plain_data::Items;
+use plain_data::{Facts, Items};
 use std::alloc::{AllocError, Global};
 
 fn no_facts(alloc: Global) -> Facts

@@ -7,10 +7,10 @@ ghost use Rattle.program_facts.specs.Prints.{line_table};
 use crate::entries::{put_branch_lines, put_call_lines, put_fact};
 use crate::fault::FactFault;
 use crate::prints::put_prints;
-use bit_words::{Fact, Facts, Side, Undefined};
 use core_marks::{Mark, Site};
 use core_tree::Function;
 use log_text::LogText;
+use plain_data::{Fact, Facts, Side, Undefined};
 use std::alloc::{AllocError, Global};
 
 /// What facts are listed by: the functions by number, the log with the line of each position, and the last line in

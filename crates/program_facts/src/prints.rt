@@ -1,17 +1,16 @@
 //! The lines of a log in which prints of a site can begin, and their facts. All fail for want of memory alone.
 ghost use Rattle.std.specs.Prelude.{◌≡◌, ℕ, length, slice_get, IfOk, OnOk};
-ghost use Rattle.bit_words.specs.declared.fact.Fact.TheVariants as fact;
+ghost use Rattle.plain_data.specs.declared.fact.Fact.TheVariants as fact;
 ghost use Rattle.program_facts.specs.Entries as entries;
 ghost use Rattle.program_facts.specs.Prints as prints;
 
 use crate::entries::{number_of, put_entry};
 use crate::fault::FactFault;
-use bit_words::{Fact, Facts};
 use core_marks::Site;
 use core_tree::Watched as Variable;
 use format_match::starts;
 use log_text::LogText;
-use plain_data::Items;
+use plain_data::{Fact, Facts, Items};
 use positions::Positions;
 use std::alloc::{AllocError, Global};
 

@@ -7,7 +7,7 @@ use Rattle.std.proofs.lemmas.Bool.Decides.{Decides-int_eq, nat_tests}
 use Rattle.term_bank.specs.declared.shape.Shape.{Shape}
 use Rattle.term_bank.specs.Banks.{IsBank}
 use Rattle.term_bank.specs.Values.{Grows}
-use Rattle.bit_words.specs.declared.fact.Fact.{Fact}
+use Rattle.plain_data.specs.declared.fact.Fact.{Fact}
 use Rattle.term_bank.proofs.BankLemmas.{grows_on}
 use Rattle.path_states.proofs.Growth.{states_grown}
 use Rattle.bitvectors.specs.declared.blasting.Blasted.{Blasted}

@@ -4,8 +4,8 @@ use Rattle.std.specs.List.{slice_get}
 use Rattle.std.proofs.lemmas.Bool.{and_parts, and_from}
 use Rattle.std.proofs.lemmas.Option.{slice_get_within}
 use Rattle.std.proofs.lemmas.List.Folds.{list_all-append}
-use Rattle.bit_words.specs.declared.fact.Fact.{Fact}
-use Rattle.bit_words.specs.Worlds.{WorldTables}
+use Rattle.plain_data.specs.declared.fact.Fact.{Fact}
+use Rattle.plain_data.specs.Worlds.{WorldTables}
 use Rattle.cnf_core.specs.Literal.{Literal}
 use Rattle.cnf_core.specs.Truth.{Valuation, clause_holds, formula_holds}
 use Rattle.proof_check.specs.Steps.{Step}

@@ -1,8 +1,8 @@
 -- What the answers to questions mean.
 use Rattle.std.proofs.Common.{◌≡◌, ◌<◌, ◌≤◌, ◌+◌, ◌++◌, ◌∷◌, [], ℕ, zero, suc, List, Option, Some, None, Bool, true, false, not, length, refl, sym, ap, ◌∙◌, subst, arith}
 use Rattle.std.specs.List.{slice_get}
-use Rattle.bit_words.specs.declared.fact.Fact.{Fact}
-use Rattle.bit_words.specs.Worlds.{WorldTables}
+use Rattle.plain_data.specs.declared.fact.Fact.{Fact}
+use Rattle.plain_data.specs.Worlds.{WorldTables}
 use Rattle.cnf_core.specs.Literal.{Literal}
 use Rattle.cnf_core.specs.Truth.{Valuation, formula_holds}
 use Rattle.proof_check.specs.Steps.{Step}

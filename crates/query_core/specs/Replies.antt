@@ -1,7 +1,7 @@
 -- What the answers to questions mean.
 use Rattle.std.specs.Prelude.{◌≡◌, ◌++◌, ℕ, true, List, length}
-use Rattle.bit_words.specs.declared.fact.Fact.{Fact}
-use Rattle.bit_words.specs.Worlds.{WorldTables}
+use Rattle.plain_data.specs.declared.fact.Fact.{Fact}
+use Rattle.plain_data.specs.Worlds.{WorldTables}
 use Rattle.cnf_core.specs.Literal.{Literal}
 use Rattle.cnf_core.specs.Truth.{Valuation, formula_holds}
 use Rattle.proof_check.specs.Steps.{Step}

@@ -2,7 +2,7 @@
 ghost use Rattle.std.specs.Prelude.{◌≡◌, ◌++◌, List, Err, IfOk, IfSome};
 ghost use Rattle.query_core.specs.declared.fault.AskFault.TheVariants.{Unwalked};
 ghost use Rattle.query_core.specs.declared.target.Target.TheVariants.{Other as OtherTarget};
-ghost use Rattle.bit_words.specs.declared.fact.Fact.{Fact};
+ghost use Rattle.plain_data.specs.declared.fact.Fact.{Fact};
 ghost use Rattle.term_bank.specs.Banks.{IsBank};
 ghost use Rattle.term_bank.specs.Shapes.{Each, IsNode};
 ghost use Rattle.term_bank.specs.declared.shape.Shape.{Shape};

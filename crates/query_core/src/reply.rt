@@ -1,4 +1,4 @@
-use bit_words::World;
+use plain_data::World;
 use proof_check::{Refutation, Trail};
 
 /// What a question comes to.

@@ -1,11 +1,11 @@
 -- The run of the core of an accepted source is the run of the source, and so are its room and its size.
 use Rattle.std.proofs.Common.{◌≡◌, ℕ, List, Some, min, sym, ap, ◌∙◌}
-use Rattle.bit_words.specs.declared.bounds.Bounds.{Bounds}
-use Rattle.bit_words.specs.declared.run.Run.{Run}
-use Rattle.bit_words.specs.Worlds.{WorldTables}
+use Rattle.plain_data.specs.declared.bounds.Bounds.{Bounds}
+use Rattle.plain_data.specs.declared.run.Run.{Run}
+use Rattle.plain_data.specs.Worlds.{WorldTables}
 use Rattle.c_places.specs.Places.{MeetsItsPlacesOnce}
 use Rattle.c_places.proofs.Sources.{meets_its_places_once}
-use Rattle.c_runs.specs.Units.{limits_of, silent, source_room, source_run, source_size, world_of}
+use Rattle.c_means.specs.Units.{limits_of, silent, source_room, source_run, source_size, world_of}
 use Rattle.core_tree.specs.Programs.{machine, room_of, run_of, unrolled_size}
 use Rattle.core_tree.specs.States.{plain}
 use Rattle.accepted.specs.declared.program.Accepted.{Accepted}

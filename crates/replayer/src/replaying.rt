@@ -1,10 +1,10 @@
 //! Runs of accepted sources.
 ghost use Rattle.std.specs.Prelude.{◌≡◌, IfOk, min};
 ghost use Rattle.c_places.specs.Places.{MeetsItsPlacesOnce};
-ghost use Rattle.c_runs.specs.Units.{source_room, source_run, source_size};
+ghost use Rattle.c_means.specs.Units.{source_room, source_run, source_size};
 
 use accepted::Accepted;
-use bit_words::{Bounds, Run, World};
+use plain_data::{Bounds, Run, World};
 use std::alloc::{AllocError, Global};
 
 /// The run of an accepted source in a world, within bounds: what it prints, what happens, and how it ends (C99

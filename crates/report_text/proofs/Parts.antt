@@ -1,7 +1,7 @@
 -- Lines that are none.
 use Rattle.std.proofs.Common.{◌≡◌, ℕ, List, [], ◌∷◌, refl, ◌⊎◌, inl, inr}
-use Rattle.bit_words.specs.declared.fact.Fact.{Fact}
-use Rattle.c_tree.specs.PlaceTables.{PlaceTable}
+use Rattle.plain_data.specs.declared.fact.Fact.{Fact}
+use Rattle.c_language.specs.PlaceTables.{PlaceTable}
 use Rattle.diagnoses.specs.declared.verdict.Verdict.{Verdict}
 use Rattle.report_text.specs.VerdictLines.{fact_lines}
 

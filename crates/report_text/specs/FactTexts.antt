@@ -1,14 +1,14 @@
 -- The texts of facts.
 use Rattle.std.specs.Prelude.{ℕ, ◌++◌, codes}
 use Rattle.std.specs.Fmt.{decimal, signed_decimal}
-use Rattle.bit_words.specs.declared.run.Side.{Side}
-use Rattle.bit_words.specs.declared.run.Side.TheVariants as side
-use Rattle.bit_words.specs.declared.run.Undefined.{Undefined}
-use Rattle.bit_words.specs.declared.run.Undefined.TheVariants as undefined
-use Rattle.bit_words.specs.declared.fact.Fact.{Fact}
-use Rattle.bit_words.specs.declared.fact.Fact.TheVariants as fact
-use Rattle.c_tokens.specs.declared.token.Place.{Place}
-use Rattle.c_tree.specs.PlaceTables.{PlaceTable, place_at, file_at}
+use Rattle.plain_data.specs.declared.run.Side.{Side}
+use Rattle.plain_data.specs.declared.run.Side.TheVariants as side
+use Rattle.plain_data.specs.declared.run.Undefined.{Undefined}
+use Rattle.plain_data.specs.declared.run.Undefined.TheVariants as undefined
+use Rattle.plain_data.specs.declared.fact.Fact.{Fact}
+use Rattle.plain_data.specs.declared.fact.Fact.TheVariants as fact
+use Rattle.c_language.specs.declared.token.Place.{Place}
+use Rattle.c_language.specs.PlaceTables.{PlaceTable, place_at, file_at}
 use Rattle.report_text.specs.Numbers.{Text, count_text}
 
 -- FILE:LINE:COLUMN

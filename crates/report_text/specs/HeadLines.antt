@@ -1,6 +1,6 @@
 -- The lines on what a report rests on: bounds, assumptions, the log.
 use Rattle.std.specs.Prelude.{ℕ, [], ◌++◌, length, Bool, true, false, Option, Some, None, codes}
-use Rattle.bit_words.specs.declared.bounds.Bounds.{Bounds}
+use Rattle.plain_data.specs.declared.bounds.Bounds.{Bounds}
 use Rattle.log_text.specs.Lines.{line_count}
 use Rattle.diagnoses.specs.declared.assumption.Filling.{Filling}
 use Rattle.diagnoses.specs.declared.assumption.Assumption.{Assumption}

@@ -1,8 +1,8 @@
 -- The report, as a function from values to bytes.
 use Rattle.std.specs.Prelude.{ℕ, List, ◌++◌, codes}
 use Rattle.std.specs.List.{flat_map}
-use Rattle.bit_words.specs.declared.fact.Fact.{Fact}
-use Rattle.c_tree.specs.PlaceTables.{PlaceTable}
+use Rattle.plain_data.specs.declared.fact.Fact.{Fact}
+use Rattle.c_language.specs.PlaceTables.{PlaceTable}
 use Rattle.diagnoses.specs.declared.diagnosis.Findings.{Findings}
 use Rattle.diagnoses.specs.declared.diagnosis.Diagnosis.{Diagnosis}
 use Rattle.diagnoses.specs.declared.diagnosis.Diagnosis.TheVariants.{Found, Nothing, Undecided}

@@ -1,7 +1,7 @@
 -- The lines of facts with their verdicts, and how many of each there are.
 use Rattle.std.specs.Prelude.{ℕ, ◌+◌, List, [], ◌∷◌, ◌++◌, Bool, true, false, codes, count_by}
-use Rattle.bit_words.specs.declared.fact.Fact.{Fact}
-use Rattle.c_tree.specs.PlaceTables.{PlaceTable}
+use Rattle.plain_data.specs.declared.fact.Fact.{Fact}
+use Rattle.c_language.specs.PlaceTables.{PlaceTable}
 use Rattle.diagnoses.specs.declared.verdict.Open.{Open}
 use Rattle.diagnoses.specs.declared.verdict.Open.TheVariants.{Having, Lacking}
 use Rattle.diagnoses.specs.declared.verdict.Verdict.{Verdict}

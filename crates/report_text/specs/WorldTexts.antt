@@ -1,7 +1,7 @@
 -- The texts of worlds.
 use Rattle.std.specs.Prelude.{ℕ, ◌+◌, List, [], ◌∷◌, ◌++◌, codes}
 use Rattle.std.specs.List.{flat_map}
-use Rattle.bit_words.specs.Worlds.{WorldTables}
+use Rattle.plain_data.specs.Worlds.{WorldTables}
 use Rattle.report_text.specs.Numbers.{Text, count_text}
 
 abbrev pub entry_line : Text → ℕ × ℕ → Text

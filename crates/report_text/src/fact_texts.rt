@@ -3,8 +3,8 @@ ghost use Rattle.std.specs.Prelude.{◌≡◌, ◌++◌, IfOk};
 ghost use Rattle.report_text.specs.FactTexts as spec;
 
 use crate::numbers::{put_count, put_number, put_signed};
-use bit_words::{Bytes, Fact, Side, Undefined};
-use c_tree::Places;
+use c_language::Places;
+use plain_data::{Bytes, Fact, Side, Undefined};
 use std::alloc::AllocError;
 
 /// Puts FILE:LINE:COLUMN of the token at a byte offset at the end of a text. It fails for want of memory alone.

@@ -4,9 +4,9 @@ ghost use Rattle.std.specs.List.{flat_map};
 ghost use Rattle.report_text.specs.HeadLines as spec;
 
 use crate::numbers::put_count;
-use bit_words::{Bounds, Bytes};
 use diagnoses::{Assumption, Filling};
 use log_text::LogText;
+use plain_data::{Bounds, Bytes};
 use std::alloc::AllocError;
 
 #[tactic(auto, unfolding(crate::specs::HeadLines::run_bounds))]

@@ -3,7 +3,7 @@ ghost use Rattle.std.specs.Prelude.{◌≡◌, ◌++◌, IfOk};
 ghost use Rattle.std.specs.Fmt.{decimal, signed_decimal};
 ghost use Rattle.report_text.specs.Numbers.{count_text};
 
-use bit_words::Bytes;
+use plain_data::Bytes;
 use std::alloc::AllocError;
 
 /// Puts a number at the end of a text, in decimal. It fails for want of memory alone.

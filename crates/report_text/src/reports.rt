@@ -6,10 +6,10 @@ use crate::head_lines::{put_assumptions, put_bounds, put_log_line};
 use crate::numbers::put_count;
 use crate::verdict_lines::{put_fact_lines, put_total_line};
 use crate::world_texts::put_worlds;
-use bit_words::{Bounds, Bytes, Fact};
-use c_tree::Places;
+use c_language::Places;
 use diagnoses::{Assumption, Diagnosis, Findings};
 use log_text::LogText;
+use plain_data::{Bounds, Bytes, Fact};
 use std::alloc::{AllocError, Global};
 
 /// What a diagnosis is about: the places of the source's tokens, the log, the bounds in force, how many conflicts each

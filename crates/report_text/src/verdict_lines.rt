@@ -4,9 +4,9 @@ ghost use Rattle.report_text.specs.VerdictLines as spec;
 
 use crate::fact_texts::put_fact;
 use crate::numbers::put_count;
-use bit_words::{Bytes, Fact};
-use c_tree::Places;
+use c_language::Places;
 use diagnoses::{Open, Verdict};
+use plain_data::{Bytes, Fact};
 use std::alloc::AllocError;
 
 fn put_verdict(text: &mut Bytes, verdict: &Verdict) -> Result<(), AllocError>

@@ -4,7 +4,7 @@ ghost use Rattle.std.specs.List.{flat_map};
 ghost use Rattle.report_text.specs.WorldTexts as spec;
 
 use crate::numbers::put_count;
-use bit_words::{Bytes, World};
+use plain_data::{Bytes, World};
 use std::alloc::AllocError;
 
 fn put_entry(text: &mut Bytes, head: &[u8], key: u64, value: u64) -> Result<(), AllocError>

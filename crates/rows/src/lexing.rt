@@ -1,8 +1,8 @@
 //! Sources, answered by their tokens or by their first fault and where it stands. The table's head says how.
 use anyhow::{Result, anyhow};
-use bit_words::Bytes;
+use c_language::TokenKind;
 use c_lexer::{LexFault, lex, locate};
-use c_tokens::TokenKind;
+use plain_data::Bytes;
 use std::alloc::{AllocError, Global};
 
 /// The most bytes that a source may have.

@@ -1,5 +1,5 @@
-use bit_words::{Width, to_signed, wrap};
 use format_match::{Constraint, Split, SplitList};
+use plain_data::{Width, to_signed, wrap};
 use printf_text::{Arg, Args};
 
 /// An integer argument's bits, converted to a width.

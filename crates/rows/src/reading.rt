@@ -1,6 +1,6 @@
 //! What the rows of words, texts and splits have in common.
 use anyhow::{Result, anyhow};
-use bit_words::{Bytes, Width, wrap};
+use plain_data::{Bytes, Width, wrap};
 use printf_text::{Arg, Args};
 use std::alloc::Global;
 use std::str::SplitWhitespace;

@@ -1,7 +1,7 @@
 //! Rows `FORMAT ARG ..`, answered by the text.
 use crate::reading;
 use anyhow::{Result, anyhow};
-use bit_words::Bytes;
+use plain_data::Bytes;
 use printf_text::{Args, FormatFault, Kind, Kinds, Pieces, have_kinds, kinds, parse_format, text};
 use std::alloc::{AllocError, Global};
 

@@ -2,11 +2,11 @@
 //! answered by `fault NAME K`, where K is the number of a token, counted from 0, and one that isn't tokens by
 //! `lexical NAME AT`, where AT is an offset in bytes.
 use anyhow::{Result, anyhow};
-use bit_words::Bytes;
+use c_language::Tokens;
 use c_lexer::{LexFault, lex};
 use c_parser::ParseFault;
 use c_parser::unit::parse;
-use c_tokens::Tokens;
+use plain_data::Bytes;
 use std::alloc::{AllocError, Global};
 use tree_text::{placed_text, unit_text};
 

@@ -1,10 +1,10 @@
 //! Rows of operations on words, answered by the word that the operation gives for words of N bits.
 ghost use Rattle.std.specs.Prelude.{◌^◌, ◌<◌};
-ghost use Rattle.bit_words.specs.Words.{bits};
+ghost use Rattle.plain_data.specs.Words.{bits};
 
 use crate::reading::width_of;
 use anyhow::Result;
-use bit_words::{
+use plain_data::{
     Width, add, add_over, ashr, div_over, lshr, mul, mul_over, sdiv, shl, shl_over, slt, srem, sub,
     sub_over, udiv, ult, urem, wrap,
 };

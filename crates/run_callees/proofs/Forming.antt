@@ -1,6 +1,6 @@
 -- Arguments of a format, piece by piece.
 use Rattle.std.proofs.Common.{◌≡◌, ◌+◌, ℕ, ℤ, negsuc, List, ◌∷◌, ◌++◌, drop, Option, refl}
-use Rattle.c_runs.specs.Calls.{before_args, pointer_places}
+use Rattle.c_means.specs.Calls.{before_args, pointer_places}
 use Rattle.c_store.specs.Store.{Store}
 use Rattle.printf_text.specs.declared.piece.Arg.{Arg}
 use Rattle.printf_text.specs.declared.piece.Conversion.{Conversion}

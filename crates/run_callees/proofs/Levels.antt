@@ -1,7 +1,7 @@
 -- Log calls ask nothing of a level but the world.
 use Rattle.std.proofs.Common.{◌≡◌, ◌+◌, ◌%◌, ◌^◌, ℕ, ℤ, negsuc, cond, List, [], ◌∷◌, ◌++◌, drop}
 use Rattle.std.proofs.Common.{Option, Some, refl, ap, ap₂, ◌∙◌, sym}
-use Rattle.bit_words.specs.Worlds.{WorldTables}
+use Rattle.plain_data.specs.Worlds.{WorldTables}
 use Rattle.printf_text.specs.declared.piece.Arg.{Arg}
 use Rattle.printf_text.specs.declared.piece.Arg.TheVariants as arg
 use Rattle.printf_text.specs.declared.piece.Form.{Form}
@@ -9,11 +9,11 @@ use Rattle.printf_text.specs.declared.piece.Form.TheVariants as form
 use Rattle.printf_text.specs.declared.piece.Piece.{Piece}
 use Rattle.printf_text.specs.declared.piece.Piece.TheVariants as piece
 use Rattle.printf_text.specs.Texts.{size_of}
-use Rattle.c_type_terms.specs.Integers.{is_zero}
+use Rattle.c_language.specs.Integers.{is_zero}
 use Rattle.c_store.specs.Store.{Store}
 use Rattle.c_means.specs.Parts.{Env}
-use Rattle.c_runs.specs.Calls.{shown_number, before_args, pointer_places, pointers_in}
-use Rattle.c_runs.specs.Units.{world_of}
+use Rattle.c_means.specs.Calls.{shown_number, before_args, pointer_places, pointers_in}
+use Rattle.c_means.specs.Units.{world_of}
 use Rattle.core_tree.specs.declared.expr.Callee.{Callee}
 use Rattle.core_tree.specs.declared.expr.Callee.TheVariants as callee
 use Rattle.core_tree.specs.declared.expr.Watched.{Watched}

@@ -2,16 +2,16 @@
 use Rattle.std.proofs.Common.{◌≡◌, ◌+◌, ◌-◌, ℕ, zero, suc, ℤ, pos, List, [], ◌∷◌, ◌++◌, length, drop, Option, Some, None}
 use Rattle.std.proofs.Common.{refl, sym, ap, ap₂, ◌∙◌, arith, append_assoc}
 use Rattle.std.proofs.lemmas.List.{length-append, append-nil}
-use Rattle.bit_words.specs.declared.run.Happening.TheVariants.{Print}
+use Rattle.plain_data.specs.declared.run.Happening.TheVariants.{Print}
 use Rattle.printf_text.specs.declared.piece.Arg.{Arg}
 use Rattle.printf_text.specs.declared.piece.Piece.{Piece}
 use Rattle.printf_text.specs.Texts.{piece_text, piece_kinds, text_of}
 use Rattle.core_tree.specs.declared.types.ValueType.{ValueType}
-use Rattle.bit_words.specs.Worlds.{WorldTables}
-use Rattle.bit_words.specs.declared.run.Finish.TheVariants.{Stopped}
-use Rattle.bit_words.specs.declared.run.Undefined.TheVariants.{Dereference}
+use Rattle.plain_data.specs.Worlds.{WorldTables}
+use Rattle.plain_data.specs.declared.run.Finish.TheVariants.{Stopped}
+use Rattle.plain_data.specs.declared.run.Undefined.TheVariants.{Dereference}
 use Rattle.c_means.specs.Parts.{Env}
-use Rattle.c_runs.specs.Calls.{pointers_in}
+use Rattle.c_means.specs.Calls.{pointers_in}
 use Rattle.core_tree.specs.declared.expr.Watched.{Watched}
 use Rattle.core_tree.specs.declared.types.WordType.{WordType}
 use Rattle.core_tree.specs.Callees.{says_all, print_noted, printed, prints, answers_int, arguments_of, spoken}

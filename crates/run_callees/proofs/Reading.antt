@@ -2,7 +2,7 @@
 use Rattle.std.proofs.Common.{◌≡◌, ◌+◌, ◌-◌, ◌%◌, ℕ, zero, suc, false, List, [], ◌∷◌, ◌++◌, Option, Some, None}
 use Rattle.std.proofs.Common.{refl, sym, ap, ◌∙◌, arith, append_assoc}
 use Rattle.c_store.specs.Store.{Store}
-use Rattle.c_runs.specs.Calls.{text_from, with_byte}
+use Rattle.c_means.specs.Calls.{text_from, with_byte}
 use Rattle.run_callees.specs.Reading.{after, is_spent, fewer}
 
 behind : (t : List ℕ) (b : ℕ) (more : Option (List ℕ)) → after t (with_byte b more) ≡ after (t ++ b ∷ []) more

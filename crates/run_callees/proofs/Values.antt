@@ -2,10 +2,10 @@
 use Rattle.std.proofs.Common.{◌≡◌, ◌≤◌, ℕ, ℤ, pos, List, map, Option, Some, None, sym, ap, ◌∙◌, arith}
 use Rattle.std.specs.Prelude.{slice_get, unwrap_or, option_map}
 use Rattle.std.proofs.lemmas.Option.{slice_get-map}
-use Rattle.bit_words.specs.declared.width.Width.{Width}
-use Rattle.bit_words.specs.declared.width.Width.TheVariants as w
-use Rattle.bit_words.specs.Words.{word, bits}
-use Rattle.bit_words.proofs.WordLaws.{word-word}
+use Rattle.plain_data.specs.declared.width.Width.{Width}
+use Rattle.plain_data.specs.declared.width.Width.TheVariants as w
+use Rattle.plain_data.specs.Words.{word, bits}
+use Rattle.plain_data.proofs.WordLaws.{word-word}
 use Rattle.c_machine.specs.declared.value.Value.{Value}
 use Rattle.c_machine.specs.Worth.{worth}
 use Rattle.core_tree.specs.Callees.{value_or_zero}

@@ -1,11 +1,11 @@
 -- Types of the core whose values are numbers, as classes of C.
 use Rattle.std.proofs.Common.{◌≡◌, ℕ, pos, false, cond, refl, ap, ◌∙◌}
 use Rattle.std.specs.Prelude.{not, nat_eq}
-use Rattle.bit_words.specs.Words.{signed}
-use Rattle.c_type_terms.specs.declared.class.Class.TheVariants as class
-use Rattle.c_type_terms.specs.declared.ctype.IntegerKind.{IntegerKind}
-use Rattle.c_type_terms.specs.declared.ctype.IntegerKind.TheVariants as k
-use Rattle.c_type_terms.specs.Integers as integers
+use Rattle.plain_data.specs.Words.{signed}
+use Rattle.c_language.specs.declared.class.Class.TheVariants as class
+use Rattle.c_language.specs.declared.ctype.IntegerKind.{IntegerKind}
+use Rattle.c_language.specs.declared.ctype.IntegerKind.TheVariants as k
+use Rattle.c_language.specs.Integers as integers
 use Rattle.c_store.specs.Store.{read}
 use Rattle.core_tree.specs.declared.types.ValueType.TheVariants as v
 use Rattle.core_tree.specs.declared.types.WordType.{WordType}

@@ -1,7 +1,7 @@
 -- What calls by rule ask of the level in which they stand: the world, and the bounds on objects.
 use Rattle.std.specs.Prelude.{ℕ, None}
-use Rattle.bit_words.specs.Worlds.{WorldTables}
-use Rattle.c_runs.specs.Units.{world_of}
+use Rattle.plain_data.specs.Worlds.{WorldTables}
+use Rattle.c_means.specs.Units.{world_of}
 use Rattle.core_tree.specs.States.{Output, Level, plain}
 
 -- a level with this world, these bounds on the bytes of a heap object and of a string from outside, and no calls

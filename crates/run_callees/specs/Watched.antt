@@ -1,6 +1,6 @@
 -- The types of the core whose values are numbers, as classes of C.
 use Rattle.std.specs.Prelude.{◌≡◌, ℕ, None}
-use Rattle.c_type_terms.specs.declared.class.Class.{Class}
+use Rattle.c_language.specs.declared.class.Class.{Class}
 use Rattle.c_means.specs.Values.{bytes_as}
 use Rattle.c_means.specs.Objects.{value_at}
 use Rattle.c_store.specs.Store.{Store, read}

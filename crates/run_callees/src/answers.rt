@@ -7,9 +7,9 @@ ghost use Rattle.core_tree.specs.States.{plain, printing};
 ghost use Rattle.run_callees.specs.Printing.{with_out};
 
 use crate::numbers::{converted, int_type, wrapped};
-use bit_words::{Bytes, Finish, Happening, Numbers, Undefined};
 use c_machine::Machine;
 use core_tree::ValueType;
+use plain_data::{Bytes, Finish, Happening, Numbers, Undefined};
 use std::alloc::AllocError;
 
 /// Answers a number, converted to the type of the call.

@@ -2,7 +2,7 @@
 ghost use Rattle.std.specs.Prelude.{◌≡◌, [], ◌++◌, ◌+◌, ◌<◌, ◌≤◌, ◌^◌, map, length, IfOk};
 ghost use Rattle.c_machine.specs.States.{state};
 ghost use Rattle.c_machine.specs.Worth.{worth};
-ghost use Rattle.c_runs.specs.Calls as calls;
+ghost use Rattle.c_means.specs.Calls as calls;
 ghost use Rattle.core_tree.specs.Callees as callees;
 ghost use Rattle.core_tree.specs.Callees.{spoken, first_value};
 ghost use Rattle.run_callees.specs.Levels.{level_of};

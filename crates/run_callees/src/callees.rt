@@ -12,10 +12,10 @@ use crate::answers::finish;
 use crate::heap::{Heap, exit, free, identity};
 use crate::logs::LogCall;
 use crate::outside::Outside;
-use bit_words::Finish;
 use c_machine::{Machine, Value};
 use core_running::{Frame, Scene};
 use core_tree::{Callee, ValueType};
+use plain_data::Finish;
 use std::alloc::{AllocError, Global};
 
 /// A call by body where no level of depth is left: the run leaves the bounds at the callee's name.

@@ -10,10 +10,10 @@ ghost use Rattle.run_callees.specs.Levels.{level_in};
 
 use crate::answers::{answer, finish, meet, stop};
 use crate::numbers::{address_at, converted_at, number_at};
-use bit_words::{Finish, Undefined};
 use c_machine::{Machine, Value};
 use c_store::{Object, ObjectKind};
 use core_tree::ValueType;
+use plain_data::{Finish, Undefined};
 use std::alloc::AllocError;
 
 /// A call of a function that answers one of its arguments. It fails for want of memory alone: no structure is answered

@@ -1,7 +1,7 @@
 //! Log calls: the arguments are formed, the text is printed, and the answer is how many bytes it has.
 ghost use Rattle.std.specs.Prelude.{◌≡◌, ◌+◌, ◌<◌, ◌^◌, map, drop, Some, OnOk, IfOk};
 ghost use Rattle.c_machine.specs.Worth.{worth};
-ghost use Rattle.c_runs.specs.Calls.{pointers_in};
+ghost use Rattle.c_means.specs.Calls.{pointers_in};
 ghost use Rattle.core_running.specs.Frames.{env_of};
 ghost use Rattle.core_running.specs.Running.{done};
 ghost use Rattle.core_tree.specs.Callees as callees;
@@ -14,10 +14,10 @@ use crate::answers::{answer_count, meet_all, note_print, print, stop};
 use crate::arguments::{arguments, places_in};
 use crate::spoken::behind;
 use crate::watched::push_seen;
-use bit_words::{Bytes, Numbers, Undefined};
 use c_machine::{Machine, Value};
 use core_running::Frame;
 use core_tree::{ValueType, Watched, WordType};
+use plain_data::{Bytes, Numbers, Undefined};
 use printf_text::{Args, Pieces, have_kinds, kinds, text};
 use std::alloc::{AllocError, Global};
 

@@ -1,14 +1,14 @@
 //! Numbers by the types of the core (C99 6.3.1), and the values of arguments.
 ghost use Rattle.std.specs.Prelude.{◌≡◌, ◌<◌, ◌^◌, map, IsTrue, IfSome};
-ghost use Rattle.bit_words.specs.Words.{bits, word};
+ghost use Rattle.plain_data.specs.Words.{bits, word};
 ghost use Rattle.c_means.specs.Values.{address};
 ghost use Rattle.c_machine.specs.Worth.{worth, IsNumber};
 ghost use Rattle.core_tree.specs.Callees.{value_or_zero};
 ghost use Rattle.core_tree.specs.Numbers as numbers;
 
-use bit_words::{Width, to_signed, wrap};
 use c_machine::Value;
 use core_tree::{ValueType, WordType};
+use plain_data::{Width, to_signed, wrap};
 
 /// `int`.
 pub(crate) fn int_type() -> WordType

@@ -2,7 +2,7 @@
 ghost use Rattle.std.specs.Prelude.{◌≡◌, ◌<◌, ◌+◌, ◌^◌, map, true, false, OnOk, IfOk};
 ghost use Rattle.c_memory.specs.Memories.{Holds, initial_bytes};
 ghost use Rattle.c_machine.specs.Worth.{worth};
-ghost use Rattle.c_runs.specs.Units.{world_of};
+ghost use Rattle.c_means.specs.Units.{world_of};
 ghost use Rattle.c_store.specs.Store as store;
 ghost use Rattle.core_running.specs.Running.{done};
 ghost use Rattle.core_tree.specs.Callees as callees;
@@ -11,10 +11,10 @@ ghost use Rattle.run_callees.specs.Levels.{level_in};
 
 use crate::answers::{answer, meet, stop};
 use crate::numbers::address_at;
-use bit_words::{Bytes, Undefined, World};
 use c_machine::{Machine, Value};
 use c_store::{Object, ObjectKind};
 use core_tree::{Fill, OutsideAnswer, Pointee, ValueType};
+use plain_data::{Bytes, Undefined, World};
 use std::alloc::{AllocError, Global};
 
 /// Makes an object of so many bytes. It fails for want of memory alone.

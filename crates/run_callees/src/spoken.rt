@@ -7,9 +7,9 @@ ghost use Rattle.printf_text.specs.Texts as texts;
 ghost use Rattle.run_callees.specs.Spoken.{listed};
 
 use crate::numbers::{value_of_word, word_of};
-use bit_words::{Width, to_signed, wrap};
 use c_machine::Value;
 use core_tree::WordType;
+use plain_data::{Width, to_signed, wrap};
 use printf_text::{Arg, Size};
 
 /// What stands behind the first argument.

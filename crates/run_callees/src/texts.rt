@@ -1,11 +1,11 @@
 //! Texts in memory, as `%s` reads them (C99 7.19.6.1p8).
 ghost use Rattle.std.specs.Prelude.{◌≡◌, ◌<◌, ◌+◌, ◌^◌, IfOk};
 ghost use Rattle.c_machine.specs.States.{state};
-ghost use Rattle.c_runs.specs.Calls as calls;
+ghost use Rattle.c_means.specs.Calls as calls;
 ghost use Rattle.run_callees.specs.Reading as reading;
 
-use bit_words::Bytes;
 use c_machine::Machine;
+use plain_data::Bytes;
 use std::alloc::{AllocError, Global};
 
 fn is_spent(most: Option<u64>) -> bool

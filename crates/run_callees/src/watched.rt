@@ -1,6 +1,6 @@
 //! The values of watched variables.
 ghost use Rattle.std.specs.Prelude.{◌≡◌, ◌++◌, false, OnOk, IfOk, IfSome};
-ghost use Rattle.c_type_terms.specs.Integers as integers;
+ghost use Rattle.c_language.specs.Integers as integers;
 ghost use Rattle.c_machine.specs.States.{state};
 ghost use Rattle.c_store.specs.Store.{read};
 ghost use Rattle.core_running.specs.Frames.{env_of};
@@ -8,11 +8,11 @@ ghost use Rattle.core_tree.specs.Callees as callees;
 ghost use Rattle.core_tree.specs.Numbers.{size_of, value_of_bytes};
 ghost use Rattle.run_callees.specs.Watched.{ClassOf};
 
-use bit_words::{Numbers, Width};
+use c_language::{Class, IntegerKind};
 use c_machine::Machine;
-use c_type_terms::{Class, IntegerKind};
 use core_running::Frame;
 use core_tree::{Holder, ValueType, Watched, WordType};
+use plain_data::{Numbers, Width};
 use std::alloc::AllocError;
 
 /// The integer type of C with a width and sign.

@@ -1,11 +1,11 @@
 -- Selection: the value is found, and a side or a case is run.
 use Rattle.std.proofs.Common.{◌≡◌, ℕ, ◌+◌, ℤ, Bool, true, false, cond, List, Option, Some, Ok, refl, sym, ap, ◌∙◌}
-use Rattle.bit_words.specs.declared.run.Happening.TheVariants.{Branch}
-use Rattle.bit_words.specs.declared.run.Side.TheVariants as side
-use Rattle.c_type_terms.specs.Integers.{is_zero}
+use Rattle.plain_data.specs.declared.run.Happening.TheVariants.{Branch}
+use Rattle.plain_data.specs.declared.run.Side.TheVariants as side
+use Rattle.c_language.specs.Integers.{is_zero}
 use Rattle.c_means.specs.Parts.{Env}
 use Rattle.c_machine.specs.Kinds.{is_running}
-use Rattle.c_runs.specs.Items.{past_switch}
+use Rattle.c_means.specs.Items.{past_switch}
 use Rattle.core_tree.specs.declared.types.WordType.{WordType}
 use Rattle.core_tree.specs.Numbers.{wrapped}
 use Rattle.core_tree.specs.States.{Output, Done, Arrow, plain, note, onward, running, arrive, one_of, on_branch, with_value}

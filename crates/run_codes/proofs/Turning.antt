@@ -1,12 +1,12 @@
 -- One turn of a loop, and the turns that are left.
 use Rattle.std.proofs.Common.{◌≡◌, ℕ, zero, suc, ◌+◌, ◌-◌, ◌*◌, ◌<◌, ◌≤◌, Bool, true, false, Option, Some, refl, sym, ap, ◌∙◌}
 use Rattle.std.proofs.Common.{arith, Ok}
-use Rattle.bit_words.specs.declared.run.Finish.TheVariants.{Left}
+use Rattle.plain_data.specs.declared.run.Finish.TheVariants.{Left}
 use Rattle.c_means.specs.declared.kind.Kind.{Kind}
 use Rattle.c_means.specs.declared.kind.Kind.TheVariants as k
 use Rattle.c_means.specs.Parts.{Env}
 use Rattle.c_machine.specs.Kinds.{is_running}
-use Rattle.c_runs.specs.Items.{past_continue}
+use Rattle.c_means.specs.Items.{past_continue}
 use Rattle.core_tree.specs.States.{Output, Done, Arrow, Level, where_running, running, onward, arrive, finished, one_of, stay}
 use Rattle.core_tree.specs.Values.{Value}
 use Rattle.core_tree.specs.Codes.{Item, tested, test_needs, turn_needs, turns_from, rounds_from, left_at}

@@ -1,6 +1,6 @@
 //! Blocks (C99 6.8.2): their objects live from entry to exit (C99 6.2.4p5).
 ghost use Rattle.std.specs.Prelude.{◌≡◌, Some, map, OnOk, IfOk};
-ghost use Rattle.c_runs.specs.Items.{known};
+ghost use Rattle.c_means.specs.Items.{known};
 ghost use Rattle.core_tree.specs.Codes as form;
 ghost use Rattle.core_running.specs.Below.{ReachesCode};
 ghost use Rattle.core_running.specs.Frames.{env_of};

@@ -1,6 +1,6 @@
 //! Labeled statements (C99 6.8.1), at which a run on its way may arrive.
 ghost use Rattle.std.specs.Prelude.{◌≡◌, Some, OnOk};
-ghost use Rattle.c_runs.specs.Items as arriving;
+ghost use Rattle.c_means.specs.Items as arriving;
 ghost use Rattle.core_tree.specs.Codes as form;
 ghost use Rattle.core_running.specs.Below.{ReachesCode, code_room};
 ghost use Rattle.core_running.specs.Frames.{env_of};

@@ -2,10 +2,9 @@
 ghost use Rattle.std.specs.Prelude.{◌≡◌, cond};
 ghost use Rattle.run_core.specs.Scenes.{machine_of, setting_at, bare_setting, row_at, HoldsRooms};
 
-use bit_words::{Bounds, World};
 use core_running::Scene;
 use core_tree::{Core, Function};
-use plain_data::Rows;
+use plain_data::{Bounds, Rows, World};
 
 /// Where a function of a program runs: the program, a copy of the machine's world, the bounds, how many places each
 /// function takes by the levels of calls that are left, how many levels are left below this one, and the function.

@@ -2,9 +2,8 @@
 ghost use Rattle.std.specs.Prelude.{◌≡◌, suc, length, IfOk, OnOk};
 ghost use Rattle.run_core.specs.Scenes.{machine_of, all_rooms, HoldsRooms};
 
-use bit_words::{Bounds, World};
 use core_tree::Core;
-use plain_data::Rows;
+use plain_data::{Bounds, Rows, World};
 use std::alloc::{AllocError, Global};
 
 /// The table where no level is left: no function that is called takes a place. It fails for want of memory alone.

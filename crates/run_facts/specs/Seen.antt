@@ -1,6 +1,6 @@
 -- What a single event has to do with a value that is seen.
 use Rattle.std.specs.Prelude.{ℕ, ℤ, List}
-use Rattle.bit_words.specs.declared.run.Event.{Event}
+use Rattle.plain_data.specs.declared.run.Event.{Event}
 use Rattle.log_text.specs.Shown.{BeginsIn, IsPrint, Saw}
 
 -- where it is a print by the site that begins in the line, it saw the value

@@ -7,8 +7,8 @@ use crate::tests_of::{
     aborts, begins_in, exits, is_branch, is_call, is_print, returns, saw, stays_in, stops_at,
     stops_by,
 };
-use bit_words::{Event, Fact, Run, Side};
 use log_text::LogText;
+use plain_data::{Event, Fact, Run, Side};
 
 /// Whether a run fits a log: it prints exactly the log, and stays within its bounds.
 pub fn fits(run: &Run, log: &LogText) -> bool

@@ -1,11 +1,11 @@
 //! Tests of single happenings and ends.
 ghost use Rattle.std.specs.Prelude.{◌≡◌, ◌↔◌, true};
-ghost use Rattle.bit_words.specs.declared.run.Finish.{Finish as FinishType};
+ghost use Rattle.plain_data.specs.declared.run.Finish.{Finish as FinishType};
 ghost use Rattle.log_text.specs.Lines.{line_of};
 ghost use Rattle.log_text.specs.Shown as spec;
 
-use bit_words::{Event, Finish, Happening, Side, Undefined};
 use log_text::LogText;
+use plain_data::{Event, Finish, Happening, Side, Undefined};
 
 /// Whether two sides of a branch are the same.
 pub fn same_side(side: Side, wanted: Side) -> bool

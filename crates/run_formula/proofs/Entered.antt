@@ -2,7 +2,7 @@
 use Rattle.std.proofs.Common.{◌≡◌, ◌+◌, ◌-◌, ◌≤◌, ◌^◌, ℕ, suc, List, [], ◌∷◌, ◌++◌, Bool}
 use Rattle.std.proofs.Common.{true, false, cond, Option, Some, None, refl, sym, ap, subst, ◌∙◌, arith}
 use Rattle.std.specs.Prelude.{Ok}
-use Rattle.bit_words.specs.declared.width.Width.TheVariants.{W64}
+use Rattle.plain_data.specs.declared.width.Width.TheVariants.{W64}
 use Rattle.c_means.specs.declared.kind.Kind.{Kind}
 use Rattle.c_means.specs.declared.kind.Kind.TheVariants as k
 use Rattle.core_tree.specs.States.{Done, where_running}

@@ -2,8 +2,8 @@
 use Rattle.std.proofs.Common.{◌≡◌, ◌↔◌, ◌+◌, ℕ, ℤ, List, [], ◌∷◌, length, Bool, true, false}
 use Rattle.std.proofs.Common.{cond, ◌&&◌, nat_eq, Option, Some, None, refl, sym, ap, subst, ◌∙◌, arith}
 use Rattle.std.specs.List.{starts_with}
-use Rattle.bit_words.specs.declared.fact.Fact.{Fact}
-use Rattle.bit_words.specs.declared.fact.Fact.TheVariants as fact
+use Rattle.plain_data.specs.declared.fact.Fact.{Fact}
+use Rattle.plain_data.specs.declared.fact.Fact.TheVariants as fact
 use Rattle.log_text.specs.Shown.{StaysIn, Fits, Holds}
 use Rattle.core_tree.specs.States.{Done, Output, follows, plain}
 use Rattle.core_tree.specs.Programs.{machine, end_of, nothing_left, ran, maybe_ran}

@@ -1,13 +1,13 @@
 -- What is before `main` is called, from initializers that were walked over an entry's memory.
 use Rattle.std.proofs.Common.{◌≡◌, ◌+◌, ℕ, List, [], ◌∷◌, ◌++◌, true, cond, Option, Some, None, refl, sym, ap, subst, ◌∙◌, arith}
 use Rattle.std.specs.Prelude.{Ok}
-use Rattle.bit_words.specs.declared.bounds.Bounds.{Bounds}
-use Rattle.bit_words.specs.declared.run.Event.{Event}
-use Rattle.bit_words.specs.declared.width.Width.TheVariants.{W64}
+use Rattle.plain_data.specs.declared.bounds.Bounds.{Bounds}
+use Rattle.plain_data.specs.declared.run.Event.{Event}
+use Rattle.plain_data.specs.declared.width.Width.TheVariants.{W64}
 use Rattle.c_store.specs.Store.{Store, start, initial}
 use Rattle.c_means.specs.declared.kind.Kind.{Kind}
 use Rattle.c_means.specs.declared.kind.Kind.TheVariants as k
-use Rattle.c_runs.specs.Statements.{no_env}
+use Rattle.c_means.specs.Statements.{no_env}
 use Rattle.core_tree.specs.declared.program.Core.{Core}
 use Rattle.core_tree.specs.declared.program.LastingObject.{LastingObject}
 use Rattle.core_tree.specs.declared.program.LastingSetting.{LastingSetting}

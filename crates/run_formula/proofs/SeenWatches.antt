@@ -1,8 +1,8 @@
 -- The variables that are watched, one at a time.
 use Rattle.std.proofs.Common.{◌≡◌, ◌<◌, ◌≤◌, ◌+◌, ◌++◌, ◌∷◌, [], ℕ, zero, suc, List, cond, length, get_or, drop, nat_eq, refl, sym, ap, ◌∙◌, append-nil, append_assoc, arith}
 use Rattle.std.proofs.Math.Seq.{drop-cons}
-use Rattle.bit_words.specs.declared.fact.Fact.{Fact}
-use Rattle.bit_words.specs.declared.fact.Watched.{Watched}
+use Rattle.plain_data.specs.declared.fact.Fact.{Fact}
+use Rattle.plain_data.specs.declared.fact.Watched.{Watched}
 use Rattle.run_formula.specs.declared.watches.Watch.{Watch}
 use Rattle.run_formula.specs.Watched.{fact_of, watch_at, watches, watches_behind}
 

@@ -3,12 +3,12 @@ use Rattle.std.proofs.Common.{◌≡◌, ◌<◌, ◌≤◌, ◌+◌, ◌-◌, �
 use Rattle.std.proofs.Common.{Bool, true, false, cond, Some, refl, sym, ap, subst, ◌∙◌, arith, nat_eq, length, get_or}
 use Rattle.std.specs.Prelude.{Ok}
 use Rattle.std.proofs.lemmas.Bool.Decides.{nat_tests}
-use Rattle.bit_words.specs.declared.width.Width.TheVariants.{W8, W64}
+use Rattle.plain_data.specs.declared.width.Width.TheVariants.{W8, W64}
 use Rattle.c_store.specs.declared.object.Object.{Object}
 use Rattle.c_store.specs.declared.object.ObjectKind.{ObjectKind}
 use Rattle.c_store.specs.Store.{Store, start, make, lay, write, zero_range, initial, within, byte_of}
 use Rattle.c_store.proofs.Laws.{store_ext}
-use Rattle.c_runs.specs.Initials.{text_byte}
+use Rattle.c_means.specs.Initials.{text_byte}
 use Rattle.core_tree.specs.declared.program.LastingObject.{LastingObject}
 use Rattle.core_tree.specs.Programs.{filled_with}
 use Rattle.term_bank.specs.declared.sort.Sort.TheVariants.{Memory}

@@ -1,8 +1,8 @@
 -- What the formula of a program's runs says of each world.
 use Rattle.std.specs.Prelude.{◌≡◌, ◌↔◌, ℤ, List, [], ◌∷◌, true, nat_eq, Option, Some, None}
 use Rattle.std.specs.List.{starts_with}
-use Rattle.bit_words.specs.declared.fact.Fact.{Fact}
-use Rattle.bit_words.specs.declared.run.Run.{Run}
+use Rattle.plain_data.specs.declared.fact.Fact.{Fact}
+use Rattle.plain_data.specs.declared.run.Run.{Run}
 use Rattle.log_text.specs.Shown.{StaysIn, Fits, Holds}
 use Rattle.core_tree.specs.Programs.{run_of}
 use Rattle.term_bank.specs.declared.sort.Sort.TheVariants.{Truth}

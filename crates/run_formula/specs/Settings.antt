@@ -1,8 +1,8 @@
 -- Initializers of what lives throughout the run, in order, before `main` is called (C99 5.1.2, 6.7.8p4).
 use Rattle.std.specs.Prelude.{◌≡◌, ℕ, ◌+◌, List, [], ◌∷◌, Option, Some, None}
-use Rattle.bit_words.specs.declared.bounds.Bounds.{Bounds}
+use Rattle.plain_data.specs.declared.bounds.Bounds.{Bounds}
 use Rattle.c_store.specs.Store.{start, initial}
-use Rattle.c_runs.specs.Units.{limits_of}
+use Rattle.c_means.specs.Units.{limits_of}
 use Rattle.core_tree.specs.declared.program.LastingSetting.{LastingSetting}
 use Rattle.core_tree.specs.Codes.{sets}
 use Rattle.core_tree.specs.Programs.{prepared}

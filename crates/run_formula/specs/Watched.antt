@@ -1,10 +1,10 @@
 -- What prints see of the variables that are watched.
 use Rattle.std.specs.Prelude.{◌≡◌, ◌↔◌, ◌+◌, ◌++◌, ℕ, zero, suc, ℤ, List, [], ◌∷◌, true, cond, nat_eq, Option, Some, None, slice_get, Any}
-use Rattle.bit_words.specs.declared.fact.Fact.{Fact}
-use Rattle.bit_words.specs.declared.fact.Fact.TheVariants as fact
-use Rattle.bit_words.specs.declared.fact.Watched.{Watched}
-use Rattle.bit_words.specs.declared.run.Event.{Event}
-use Rattle.bit_words.specs.declared.run.Run.{Run}
+use Rattle.plain_data.specs.declared.fact.Fact.{Fact}
+use Rattle.plain_data.specs.declared.fact.Fact.TheVariants as fact
+use Rattle.plain_data.specs.declared.fact.Watched.{Watched}
+use Rattle.plain_data.specs.declared.run.Event.{Event}
+use Rattle.plain_data.specs.declared.run.Run.{Run}
 use Rattle.log_text.specs.Shown.{BeginsIn, IsPrint, Saw}
 use Rattle.term_bank.specs.declared.sort.Sort.TheVariants.{Truth, Word}
 use Rattle.term_bank.specs.declared.sort.Node.{Node}

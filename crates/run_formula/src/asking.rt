@@ -7,9 +7,9 @@ ghost use Rattle.run_formula.specs.declared.questions.Question.TheVariants as qu
 
 use crate::events::{any_event, tell_all};
 use crate::questions::{Question, ends_so, finish_of};
-use bit_words::Fact;
 use log_text::LogText;
 use path_states::State;
+use plain_data::Fact;
 use run_facts::stays_in;
 use std::alloc::Global;
 use std::collections::HashMap;

@@ -7,11 +7,10 @@ ghost use Rattle.path_arrows.specs.Arrows.{is_running as runs};
 ghost use Rattle.run_formula.specs.Whole.{Guards, EntersOne, EntersAll};
 
 use crate::banks::keeps_bank;
-use bit_words::Width;
 use c_means::Kind;
 use path_forms::WalkFault;
 use path_states::{State, alone};
-use plain_data::Items;
+use plain_data::{Items, Width};
 use std::alloc::{AllocError, Global};
 use summary_compose::{Summary, put_in};
 use term_bank::{Bank, BankFault, Binding, Connective, Node};

@@ -1,7 +1,7 @@
 //! Whether something happened that a question seeks, for each node of events.
 ghost use Rattle.std.specs.Prelude.{◌≡◌, ◌↔◌, ℕ, ℤ, List, Some, true, nat_eq, slice_get, IfOk};
 ghost use Rattle.std.specs.HashMap.{get};
-ghost use Rattle.bit_words.specs.declared.run.Happening.TheVariants as happening;
+ghost use Rattle.plain_data.specs.declared.run.Happening.TheVariants as happening;
 ghost use Rattle.log_text.specs.Lines.{line_of};
 ghost use Rattle.term_bank.specs.Banks.{IsBank};
 ghost use Rattle.term_bank.specs.Terms.{IsTerm};
@@ -13,10 +13,9 @@ ghost use Rattle.run_formula.specs.declared.questions.Question.TheVariants as qu
 use crate::questions::Question;
 use crate::seen::sees_other;
 use crate::watches::Watch;
-use bit_words::{Fact, Side};
 use log_text::LogText;
 use path_states::State;
-use plain_data::Items;
+use plain_data::{Fact, Items, Side};
 use run_facts::same_side;
 use std::alloc::{AllocError, Global};
 use std::collections::HashMap;

@@ -1,6 +1,6 @@
 //! The formula of a program's runs.
 ghost use Rattle.std.specs.Prelude.{◌≡◌, ◌+◌, IfOk};
-ghost use Rattle.c_runs.specs.Units.{limits_of};
+ghost use Rattle.c_means.specs.Units.{limits_of};
 ghost use Rattle.log_expr.specs.Sound.{IsSound};
 ghost use Rattle.path_states.specs.States.{AreStates};
 ghost use Rattle.path_summaries.specs.Levels.{keys_within};
@@ -13,13 +13,12 @@ use crate::events::events_under;
 use crate::questions::Question;
 use crate::watches::Watch;
 use crate::whole::run_states;
-use bit_words::{Bounds, Fact};
 use core_tree::Core;
 use log_expr::EndTable;
 use log_text::LogText;
 use path_forms::WalkFault;
 use path_states::State;
-use plain_data::Items;
+use plain_data::{Bounds, Fact, Items};
 use std::alloc::Global;
 use term_bank::{Bank, BankFault, Node};
 

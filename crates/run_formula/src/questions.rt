@@ -1,12 +1,12 @@
 //! What is asked of a run along a log.
 ghost use Rattle.std.specs.Prelude.{◌≡◌, ◌↔◌, ℤ, Option, true};
 ghost use Rattle.log_text.specs.Shown.{StaysIn};
-ghost use Rattle.c_runs.specs.Runs.{finish_of as end_of};
+ghost use Rattle.c_means.specs.Runs.{finish_of as end_of};
 ghost use Rattle.run_formula.specs.Questions.{EndsSo, SameEnd};
 
 use crate::watches::Watch;
-use bit_words::{Fact, Finish};
 use c_means::Kind;
+use plain_data::{Fact, Finish};
 use run_facts::{aborts, exits, returns, stops_at, stops_by};
 
 /// What is asked of a run along a log.

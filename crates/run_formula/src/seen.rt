@@ -1,14 +1,13 @@
 //! The numbers that prints see, one at a time.
 ghost use Rattle.std.specs.Prelude.{◌≡◌, ◌↔◌, ◌<◌, ◌≤◌, ◌-◌, ◌^◌, Some, true, slice_get, IfOk, IfSome, MatchOption};
-ghost use Rattle.bit_words.specs.Words.{bits as bits_of};
+ghost use Rattle.plain_data.specs.Words.{bits as bits_of};
 ghost use Rattle.term_bank.specs.Banks.{IsBank};
 ghost use Rattle.term_bank.specs.Values.{number};
 ghost use Rattle.term_bank.specs.declared.shape.Shape.TheVariants as shape;
 ghost use Rattle.run_formula.specs.Watched.{AreSeen, IsAt, IsSeen, SaysSo, seen_in};
 
 use crate::banks::keeps_bank;
-use bit_words::{Width, to_signed, wrap};
-use plain_data::Items;
+use plain_data::{Items, Width, to_signed, wrap};
 use std::alloc::Global;
 use term_bank::{Bank, BankFault, Node, Shape, Sort, WordTest};
 

@@ -7,14 +7,13 @@ ghost use Rattle.run_formula.specs.Settings.{still_around, Sets, Starts, Readies
 
 use crate::banks::keeps_bank;
 use crate::starts::start_memory;
-use bit_words::{Bounds, Width};
 use c_means::Kind;
 use core_tree::{Callee, Core, LastingSetting};
 use path_arrows::pass;
 use path_codes::Steps;
 use path_forms::{CallSite, Calls, Placed, WalkFault};
 use path_states::{State, Walked, alone};
-use plain_data::Items;
+use plain_data::{Bounds, Items, Width};
 use std::alloc::Global;
 use summary_compose::put_in;
 use term_bank::{Bank, BankFault, Binding};

@@ -7,10 +7,10 @@ ghost use Rattle.term_bank.specs.declared.sort.Sort.TheVariants.{Memory};
 ghost use Rattle.run_formula.specs.Starts.{Becomes, Begins, made_in, made_all};
 
 use crate::texts::{lay_text, zero_object};
-use bit_words::Width;
 use core_tree::{Contents, LastingObject};
 use mem_terms::{initial, made};
 use path_forms::WalkFault;
+use plain_data::Width;
 use term_bank::{Bank, BankFault, Node};
 
 /// The memory in which the object of a place has the bytes that it has before any initializer is evaluated.

@@ -1,13 +1,13 @@
 //! The bytes of objects that live throughout the run, before any initializer is evaluated (C99 6.4.5p5, 6.7.8p10).
 ghost use Rattle.std.specs.Prelude.{◌≡◌, ◌<◌, ◌^◌, IfOk};
 ghost use Rattle.c_store.specs.Store.{start, lay, write, zero_range as zeroes};
-ghost use Rattle.c_runs.specs.Initials.{text_byte};
+ghost use Rattle.c_means.specs.Initials.{text_byte};
 ghost use Rattle.term_bank.specs.Terms.{IsTerm};
 ghost use Rattle.term_bank.specs.declared.sort.Sort.TheVariants.{Memory};
 ghost use Rattle.run_formula.specs.Starts.{Becomes};
 
-use bit_words::Width;
 use mem_terms::{write, zero_range};
+use plain_data::Width;
 use term_bank::{Bank, BankFault, Node};
 
 /// The first address of the object of a place.

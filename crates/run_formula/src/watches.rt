@@ -2,8 +2,7 @@
 ghost use Rattle.std.specs.Prelude.{◌≡◌, ◌+◌, cond, IfOk};
 ghost use Rattle.run_formula.specs.Watched.{fact_of, watch_at, watches};
 
-use bit_words::{Fact, Facts, Watched};
-use plain_data::Items;
+use plain_data::{Fact, Facts, Items, Watched};
 use std::alloc::{AllocError, Global};
 
 /// A variable that is watched in a line: what prints by a site see of it that begin in the line.

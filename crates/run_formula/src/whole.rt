@@ -1,6 +1,6 @@
 //! All runs of a program along a log at once.
 ghost use Rattle.std.specs.Prelude.{◌≡◌, ◌+◌, Some, IfOk, slice_get};
-ghost use Rattle.c_runs.specs.Units.{limits_of};
+ghost use Rattle.c_means.specs.Units.{limits_of};
 ghost use Rattle.log_expr.specs.Sound.{IsSound};
 ghost use Rattle.path_summaries.specs.Levels.{keys_within};
 ghost use Rattle.log_expr.specs.Tours.{tour_of};
@@ -8,13 +8,12 @@ ghost use Rattle.run_formula.specs.Whole.{HasRoom, RunsAll};
 
 use crate::entering::enter_all;
 use crate::settings::ready;
-use bit_words::Bounds;
 use core_tree::Core;
 use log_expr::EndTable;
 use path_forms::WalkFault;
 use path_states::State;
 use path_summaries::{Levelled, summarize};
-use plain_data::Items;
+use plain_data::{Bounds, Items};
 use std::alloc::Global;
 use term_bank::Bank;
 

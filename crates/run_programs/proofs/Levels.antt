@@ -1,9 +1,9 @@
 -- Calls by how many levels are left.
 use Rattle.std.proofs.Common.{◌≡◌, ◌≤◌, ◌+◌, ℕ, suc, ℤ, List, Some, None, sym, ap, ◌∙◌, subst, arith}
 use Rattle.std.specs.Prelude.{slice_get}
-use Rattle.bit_words.specs.declared.bounds.Bounds.{Bounds}
-use Rattle.bit_words.specs.declared.run.Finish.TheVariants as finish
-use Rattle.bit_words.specs.Worlds.{WorldTables}
+use Rattle.plain_data.specs.declared.bounds.Bounds.{Bounds}
+use Rattle.plain_data.specs.declared.run.Finish.TheVariants as finish
+use Rattle.plain_data.specs.Worlds.{WorldTables}
 use Rattle.c_store.specs.Store.{Store}
 use Rattle.core_tree.specs.declared.program.Core.{Core}
 use Rattle.core_tree.specs.declared.program.Function.{Function}

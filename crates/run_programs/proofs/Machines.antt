@@ -1,15 +1,15 @@
 -- The machine before the program runs, around `main`, and at the end.
 use Rattle.std.proofs.Common.{◌≡◌, ℕ, ℤ, List, ◌++◌, Some, sym, ap, ◌∙◌}
-use Rattle.bit_words.specs.declared.run.Finish.{Finish}
-use Rattle.bit_words.specs.declared.run.Run.{Run}
-use Rattle.bit_words.specs.Worlds.{WorldTables}
+use Rattle.plain_data.specs.declared.run.Finish.{Finish}
+use Rattle.plain_data.specs.declared.run.Run.{Run}
+use Rattle.plain_data.specs.Worlds.{WorldTables}
 use Rattle.c_machine.specs.declared.calls.Caller.{Caller}
 use Rattle.c_machine.specs.Callers.{state_in}
 use Rattle.c_means.specs.Parts.{State}
 use Rattle.c_means.specs.Parts as c
 use Rattle.c_memory.specs.Memories.{initial_bytes}
-use Rattle.c_runs.specs.Runs.{finish_of}
-use Rattle.c_runs.specs.Units.{world_of}
+use Rattle.c_means.specs.Runs.{finish_of}
+use Rattle.c_means.specs.Units.{world_of}
 use Rattle.c_store.specs.Store.{initial}
 use Rattle.core_tree.specs.Programs.{by_body, body_of, behind, ran, maybe_ran, nothing_left}
 use Rattle.core_tree.specs.States.{Output, Done, plain, entered, onward}

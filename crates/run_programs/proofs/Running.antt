@@ -1,12 +1,12 @@
 -- What comes next of a run that is running, and of one that isn't.
 use Rattle.std.proofs.Common.{◌≡◌, true, false, Some, refl, sym, ap, ◌∙◌, arith}
-use Rattle.bit_words.specs.declared.bounds.Bounds.{Bounds}
-use Rattle.bit_words.specs.declared.run.Run.{Run}
-use Rattle.bit_words.specs.Worlds.{WorldTables}
+use Rattle.plain_data.specs.declared.bounds.Bounds.{Bounds}
+use Rattle.plain_data.specs.declared.run.Run.{Run}
+use Rattle.plain_data.specs.Worlds.{WorldTables}
 use Rattle.c_means.specs.declared.kind.Kind.{Kind}
 use Rattle.c_means.specs.declared.kind.Kind.TheVariants as k
 use Rattle.c_machine.specs.Kinds.{is_running}
-use Rattle.c_runs.specs.Units.{world_of, limits_of}
+use Rattle.c_means.specs.Units.{world_of, limits_of}
 use Rattle.c_store.specs.Store.{initial}
 use Rattle.core_tree.specs.declared.program.Core.{Core}
 use Rattle.core_tree.specs.Programs.{prepared, called_main, run_of, ran, maybe_ran, nothing_left, makes_all, meets_all, sets_all, bare}

@@ -1,10 +1,10 @@
 -- What the functions of a program run in, and what stands before them, by where they run; and the call of `main`.
 use Rattle.std.specs.Prelude.{ℕ, ℤ, pos, List, Option, Some, None}
-use Rattle.bit_words.specs.declared.bounds.Bounds.{Bounds}
-use Rattle.bit_words.specs.declared.run.Finish.{Finish}
-use Rattle.bit_words.specs.declared.run.Finish.TheVariants as finish
-use Rattle.bit_words.specs.declared.run.Run.{Run}
-use Rattle.c_runs.specs.Units.{limits_of, silent}
+use Rattle.plain_data.specs.declared.bounds.Bounds.{Bounds}
+use Rattle.plain_data.specs.declared.run.Finish.{Finish}
+use Rattle.plain_data.specs.declared.run.Finish.TheVariants as finish
+use Rattle.plain_data.specs.declared.run.Run.{Run}
+use Rattle.c_means.specs.Units.{limits_of, silent}
 use Rattle.core_running.specs.Settings.{Setting, level}
 use Rattle.core_tree.specs.declared.program.Core.{Core}
 use Rattle.core_tree.specs.Programs.{Machine, machine, body_of, by_body, behind, maybe_ran}

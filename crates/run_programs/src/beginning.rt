@@ -2,7 +2,7 @@
 //! (C99 5.1.2, 6.7.8p4).
 ghost use Rattle.std.specs.Prelude.{◌≡◌, map, Some, IfOk};
 ghost use Rattle.c_machine.specs.Worth.{worth};
-ghost use Rattle.c_runs.specs.Statements.{no_env};
+ghost use Rattle.c_means.specs.Statements.{no_env};
 ghost use Rattle.c_store.specs.Store.{start};
 ghost use Rattle.code_steps.specs.Below.{capped};
 ghost use Rattle.core_tree.specs.Callees as callees;

@@ -1,24 +1,23 @@
 //! `main` (C99 5.1.2.2.1): what it is given, its call, and the run that it leaves.
 ghost use Rattle.std.specs.Prelude.{◌≡◌, ◌+◌, ◌-◌, ◌<◌, ◌^◌, map, Some, IfOk, OnOk};
 ghost use Rattle.c_machine.specs.Worth.{worth};
-ghost use Rattle.c_runs.specs.Units.{world_of, limits_of};
+ghost use Rattle.c_means.specs.Units.{world_of, limits_of};
 ghost use Rattle.core_tree.specs.Programs as program;
 ghost use Rattle.core_tree.specs.States as states;
 ghost use Rattle.core_tree.specs.States.{plain};
 ghost use Rattle.core_running.specs.Running.{done};
 ghost use Rattle.core_running.specs.Settings.{HasWorld};
 ghost use Rattle.run_core.specs.Scenes.{machine_of};
-ghost use Rattle.c_runs.specs.Runs.{finish_of};
+ghost use Rattle.c_means.specs.Runs.{finish_of};
 ghost use Rattle.run_programs.specs.Places.{bare_of, scene_of, value_end, main_run};
 
 use crate::calls::{function_at, run_function};
 use crate::rooms::{function_room, rooms_below, sum_of};
-use bit_words::{Bounds, Finish, Run, World};
 use c_machine::{Machine, Value};
 use c_means::Kind;
 use code_steps::start_of;
 use core_tree::Core;
-use plain_data::Items;
+use plain_data::{Bounds, Finish, Items, Run, World};
 use run_core::{Bare, Place};
 use run_starts::{Arguments, argument_count};
 use std::alloc::{AllocError, Global};

@@ -6,8 +6,8 @@ ghost use Rattle.run_programs.specs.Places.{silent_machine};
 use crate::calls::function_at;
 use crate::entry::entry_room;
 use crate::rooms::{function_room, rooms_below, sum_of};
-use bit_words::{Bounds, World};
 use core_tree::Core;
+use plain_data::{Bounds, World};
 use run_core::Place;
 use std::alloc::{AllocError, Global};
 

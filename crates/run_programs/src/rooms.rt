@@ -3,10 +3,9 @@ ghost use Rattle.std.specs.Prelude.{◌≡◌, ◌+◌, ◌++◌, ◌<◌, ◌^�
 ghost use Rattle.run_core.specs.Scenes.{machine_of, room_over, all_rooms, HoldsRooms};
 
 use crate::calls::room_at;
-use bit_words::{Bounds, World};
 use code_steps::room_of_items;
 use core_tree::{Core, Function};
-use plain_data::{Items, Rows};
+use plain_data::{Bounds, Items, Rows, World};
 use run_core::{Place, add_rooms, no_rooms};
 use std::alloc::{AllocError, Global};
 

@@ -1,13 +1,13 @@
 //! Whole runs.
 ghost use Rattle.std.specs.Prelude.{◌≡◌, Some, IfOk};
-ghost use Rattle.c_runs.specs.Units.{world_of, limits_of};
+ghost use Rattle.c_means.specs.Units.{world_of, limits_of};
 ghost use Rattle.core_tree.specs.Programs as program;
 
 use crate::beginning::prepare;
 use crate::entry::{read_out, run_main};
-use bit_words::{Bounds, Run, World};
 use c_machine::Machine;
 use core_tree::Core;
+use plain_data::{Bounds, Run, World};
 use run_core::Bare;
 use std::alloc::{AllocError, Global};
 

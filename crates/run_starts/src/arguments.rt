@@ -1,6 +1,6 @@
 //! The arguments of `main` (C99 5.1.2.2.1): the count, the array of pointers, and its strings.
 ghost use Rattle.std.specs.Prelude.{◌≡◌, ◌<◌, ◌+◌, ◌*◌, suc, OnOk, pos};
-ghost use Rattle.c_runs.specs.Units.{world_of};
+ghost use Rattle.c_means.specs.Units.{world_of};
 ghost use Rattle.c_store.specs.Store.{start, make, write, zero_range};
 ghost use Rattle.c_store.specs.declared.object.ObjectKind.TheVariants.{Outside};
 ghost use Rattle.core_tree.specs.Programs as program;
@@ -10,11 +10,11 @@ ghost use Rattle.core_running.specs.Running.{done};
 ghost use Rattle.run_starts.specs.Bounds.{limits_in};
 
 use crate::objects::{make as make_object, meet_all, start_at};
-use bit_words::World;
 use c_machine::{Machine, Value};
 use c_store::ObjectKind;
 use code_steps::{address_behind, store, zero};
 use core_tree::ValueType;
+use plain_data::World;
 use std::alloc::AllocError;
 
 /// How many arguments there are, by the word of the place: from one to the bound.

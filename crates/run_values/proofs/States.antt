@@ -1,9 +1,9 @@
 -- What a step of the machine answers by C's states it answers by the core's.
 use Rattle.std.proofs.Common.{◌≡◌, ℕ, ℤ, pos, Bool, true, false, cond, Option, Result, Ok, Err, refl, sym, ap, ap₂, ◌∙◌}
 use Rattle.std.specs.Prelude.{not, ◌||◌, ◌-ℤ◌, ◌+ℤ◌, ◌*ℤ◌}
-use Rattle.bit_words.specs.declared.run.Undefined.TheVariants as undefined
-use Rattle.c_type_terms.specs.declared.class.Class.{Class}
-use Rattle.c_type_terms.specs.Integers.{number_of}
+use Rattle.plain_data.specs.declared.run.Undefined.TheVariants as undefined
+use Rattle.c_language.specs.declared.class.Class.{Class}
+use Rattle.c_language.specs.Integers.{number_of}
 use Rattle.c_store.specs.Store.{read, write}
 use Rattle.c_store.specs.Access.{can_access, can_write, in_one_object}
 use Rattle.c_means.specs.Objects as objects

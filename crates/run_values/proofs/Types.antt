@@ -1,14 +1,14 @@
 -- The machine works by types and operators of C as the core does by its own.
 use Rattle.std.proofs.Common.{◌≡◌, ℕ, ℤ, Bool, true, false, Some, refl, sym, ap, ◌∙◌}
 use Rattle.std.specs.Prelude.{unsigned_abs}
-use Rattle.bit_words.specs.declared.width.Width.{Width}
-use Rattle.bit_words.specs.declared.width.Width.TheVariants as w
-use Rattle.bit_words.specs.Words.{word}
-use Rattle.c_tree.specs.declared.expr.UnaryOperator.TheVariants as u
-use Rattle.c_type_terms.specs.declared.ctype.IntegerKind.TheVariants as k
-use Rattle.c_type_terms.specs.Integers as integers
-use Rattle.c_type_terms.specs.Integers.{is_bool}
-use Rattle.c_says.specs.Typing as says
+use Rattle.plain_data.specs.declared.width.Width.{Width}
+use Rattle.plain_data.specs.declared.width.Width.TheVariants as w
+use Rattle.plain_data.specs.Words.{word}
+use Rattle.c_language.specs.declared.expr.UnaryOperator.TheVariants as u
+use Rattle.c_language.specs.declared.ctype.IntegerKind.TheVariants as k
+use Rattle.c_language.specs.Integers as integers
+use Rattle.c_language.specs.Integers.{is_bool}
+use Rattle.c_language.specs.Typing as says
 use Rattle.c_means.specs.Values as values
 use Rattle.core_tree.specs.declared.types.Arithmetic.{Arithmetic}
 use Rattle.core_tree.specs.declared.types.Arithmetic.TheVariants as a

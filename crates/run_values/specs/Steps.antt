@@ -1,9 +1,9 @@
 -- What steps of the machine answer, by the core's states.
 use Rattle.std.specs.Prelude.{◌≡◌, ℕ, ℤ, Bool, true, false, Result, Ok, Err}
 use Rattle.std.specs.declared.alloc.AllocError.{AllocError}
-use Rattle.bit_words.specs.declared.run.Side.TheVariants as side
-use Rattle.bit_words.specs.declared.run.Happening.TheVariants.{Branch}
-use Rattle.c_type_terms.specs.Integers.{is_zero}
+use Rattle.plain_data.specs.declared.run.Side.TheVariants as side
+use Rattle.plain_data.specs.declared.run.Happening.TheVariants.{Branch}
+use Rattle.c_language.specs.Integers.{is_zero}
 use Rattle.c_machine.specs.declared.halt.Halt.{Halt}
 use Rattle.core_tree.specs.States.{Output, Done, Outcome, note, plain}
 use Rattle.core_running.specs.Running.{RunsTo}

@@ -5,7 +5,7 @@ ghost use Rattle.core_running.specs.Below.{ReachesValue};
 ghost use Rattle.core_running.specs.Settings.{HasWorld};
 ghost use Rattle.run_values.specs.Forms.{Fits, RunsAs, EndsAt};
 ghost use Rattle.std.specs.Prelude.{◌+◌, map, IfOk};
-ghost use Rattle.bit_words.specs.declared.run.Happening.TheVariants.{Call};
+ghost use Rattle.plain_data.specs.declared.run.Happening.TheVariants.{Call};
 ghost use Rattle.c_machine.specs.Worth.{worth};
 ghost use Rattle.core_tree.specs.Callees.{callee_room};
 ghost use Rattle.core_tree.specs.States as states;
@@ -20,11 +20,10 @@ ghost use Rattle.run_values.specs.Steps.{Runs};
 use crate::below::Below;
 use crate::rooms::callee_behind;
 use crate::steps::{needed, note};
-use bit_words::Happening;
 use c_machine::{Halt, Machine, Value};
 use core_running::{Found, Frame, Scene};
 use core_tree::{Callee, Expr, ValueType};
-use plain_data::{Items, Shared};
+use plain_data::{Happening, Items, Shared};
 use std::alloc::{AllocError, Global};
 
 /// The values of arguments, and the first place behind theirs.

@@ -1,17 +1,16 @@
 //! Values by their types, and operators on numbers (C99 6.3, 6.5.3.3, 6.5.5 to 6.5.12).
 ghost use Rattle.std.specs.Prelude.{◌≡◌, ℕ, IfOk, not, unsigned_abs};
-ghost use Rattle.c_type_terms.specs.Integers.{is_zero, number_of};
+ghost use Rattle.c_language.specs.Integers.{is_zero, number_of};
 ghost use Rattle.c_means.specs.Values.{bytes_within};
 ghost use Rattle.c_machine.specs.Worth.{worth};
 ghost use Rattle.core_tree.specs.Numbers as core;
 ghost use Rattle.run_values.specs.Types as types;
 
-use bit_words::{Undefined, Width};
+use c_language::{BinaryOperator, Class, IntegerKind, UnaryOperator};
 use c_machine::Value;
-use c_tree::{BinaryOperator, UnaryOperator};
 use c_type_forms as forms;
-use c_type_terms::{Class, IntegerKind};
 use core_tree::{Arithmetic, Turning, ValueType, WordType};
+use plain_data::{Undefined, Width};
 use std::alloc::{AllocError, Global};
 
 /// An integer type of this width and sign.

@@ -1,6 +1,6 @@
 //! How many places an expression takes, so that those behind it are known where it isn't evaluated.
 ghost use Rattle.std.specs.Prelude.{◌≡◌, ◌+◌};
-ghost use Rattle.c_runs.specs.Calls.{pointers_in, pointer_places};
+ghost use Rattle.c_means.specs.Calls.{pointers_in, pointer_places};
 ghost use Rattle.core_tree.specs.Callees as callees;
 ghost use Rattle.core_running.specs.Below as below;
 ghost use Rattle.core_running.specs.Running.{Low};

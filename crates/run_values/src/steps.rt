@@ -1,6 +1,6 @@
 //! Steps of the machine, by the core's states.
 ghost use Rattle.std.specs.Prelude.{◌≡◌, OnOk};
-ghost use Rattle.bit_words.specs.declared.run.Finish.TheVariants.{Stopped};
+ghost use Rattle.plain_data.specs.declared.run.Finish.TheVariants.{Stopped};
 ghost use Rattle.c_machine.specs.declared.halt.Halt.TheVariants.{Over};
 ghost use Rattle.c_machine.specs.Worth.{worth};
 ghost use Rattle.core_tree.specs.States as core;
@@ -8,9 +8,9 @@ ghost use Rattle.core_tree.specs.Values as values;
 ghost use Rattle.core_running.specs.Running.{done};
 ghost use Rattle.run_values.specs.Steps.{Runs, Branches};
 
-use bit_words::{Finish, Happening, Side, Undefined};
 use c_machine::{Halt, Machine, Value};
 use core_tree::ValueType;
+use plain_data::{Finish, Happening, Side, Undefined};
 use std::alloc::AllocError;
 
 /// Notes an event. It fails for want of memory alone.

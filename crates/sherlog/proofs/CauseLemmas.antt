@@ -1,6 +1,6 @@
 -- Causes of refusals over several gets.
 use Rattle.std.proofs.Common.{◌≡◌, ◌≤◌, ◌+◌, ◌∙◌, ℕ, Bool, true, List, Option, Ok, Err, min, arith, subst, sym, ap, refl}
-use Rattle.c_tree.specs.declared.unit.External.{External}
+use Rattle.c_language.specs.declared.unit.External.{External}
 use Rattle.config_text.specs.declared.config.Config.{Config as ConfigType}
 use Rattle.log_text.specs.Stripping.{stripped}
 use Rattle.sl_io.specs.ShelfStates.{Files, ShelfState, CountsOn}

@@ -2,17 +2,17 @@
 use Rattle.std.proofs.Common.{◌≡◌, ◌≤◌, ◌<◌, ◌+◌, ◌*◌, ◌∙◌, ◌⊎◌, inl, inr, ℕ, List, [], Bool, true, false, Option, Some, None, Result, Ok, Err, length}
 use Rattle.std.proofs.Common.{arith, ap, subst, refl, sym}
 use Rattle.std.specs.Prelude.{◌≢◌}
-use Rattle.bit_words.specs.declared.bounds.Bounds.{Bounds}
-use Rattle.bit_words.specs.Worlds.{WorldTables}
+use Rattle.plain_data.specs.declared.bounds.Bounds.{Bounds}
+use Rattle.plain_data.specs.Worlds.{WorldTables}
 use Rattle.acceptance.specs.Refusals.{IsFirstBroken, judged_in}
 use Rattle.c_grammar.specs.Units.{derives}
 use Rattle.c_lexer.specs.Reading.{lexed}
 use Rattle.c_lexer.specs.declared.fault.LexFault.{LexFault}
-use Rattle.c_tokens.specs.declared.token.Tokens.{Tokens}
-use Rattle.c_runs.specs.declared.profile.Profile.{Profile}
-use Rattle.c_runs.specs.Checks.{breaches_of, has_main}
-use Rattle.c_runs.specs.Units.{IsAcceptedSource, source_size}
-use Rattle.c_tree.specs.declared.unit.External.{External}
+use Rattle.c_language.specs.declared.token.Tokens.{Tokens}
+use Rattle.c_means.specs.declared.profile.Profile.{Profile}
+use Rattle.c_means.specs.Checks.{breaches_of, has_main}
+use Rattle.c_means.specs.Units.{IsAcceptedSource, source_size}
+use Rattle.c_language.specs.declared.unit.External.{External}
 use Rattle.cert_text.specs.WorldTexts.{ReadsWorld}
 use Rattle.cert_text.specs.declared.fault.CertFault.{CertFault}
 use Rattle.cert_text.specs.declared.fault.CertFault.TheVariants as cert

@@ -1,13 +1,13 @@
 -- From what was got and read to the output of a command, and why there is none.
 use Rattle.std.proofs.Common.{◌≡◌, ◌≤◌, ◌<◌, ◌+◌, ◌*◌, ◌∙◌, ℕ, true, List, [], Option, Some, None, Ok, Err, min, arith, ap, subst, sym, refl, inl, inr}
 use Rattle.std.specs.Prelude.{◌≢◌}
-use Rattle.bit_words.specs.declared.bounds.Bounds.{Bounds}
-use Rattle.bit_words.specs.declared.run.Run.{Run}
-use Rattle.bit_words.specs.Worlds.{WorldTables}
+use Rattle.plain_data.specs.declared.bounds.Bounds.{Bounds}
+use Rattle.plain_data.specs.declared.run.Run.{Run}
+use Rattle.plain_data.specs.Worlds.{WorldTables}
 use Rattle.accepted.specs.declared.program.Accepted.{Accepted}
-use Rattle.c_runs.specs.declared.profile.Profile.{Profile}
-use Rattle.c_runs.specs.Units.{IsAcceptedSource, source_run, source_size}
-use Rattle.c_tree.specs.declared.unit.External.{External}
+use Rattle.c_means.specs.declared.profile.Profile.{Profile}
+use Rattle.c_means.specs.Units.{IsAcceptedSource, source_run, source_size}
+use Rattle.c_language.specs.declared.unit.External.{External}
 use Rattle.cert_text.specs.WorldTexts.{ReadsWorld}
 use Rattle.config_text.specs.declared.config.Config.{Config as ConfigType}
 use Rattle.first_form.specs.Form.{program_of}

@@ -3,13 +3,13 @@ use Rattle.std.proofs.Common.{◌≡◌, List, ℕ, None, Result, Ok, Err}
 use Rattle.accepted.specs.declared.program.Accepted.{Accepted}
 use Rattle.c_grammar.specs.Units.{derives}
 use Rattle.c_lexer.specs.Reading.{lexed}
-use Rattle.c_tokens.specs.declared.token.Tokens.{Tokens}
+use Rattle.c_language.specs.declared.token.Tokens.{Tokens}
 use Rattle.c_parser.specs.Parsing.{IsOnly}
-use Rattle.c_runs.specs.declared.profile.Profile.{Profile}
-use Rattle.c_runs.specs.Units.{IsAcceptedSource}
-use Rattle.c_tree.specs.PlaceTables.{places_of}
-use Rattle.c_tree.specs.declared.unit.External.{External}
-use Rattle.c_tree.specs.declared.unit.Unit.{Unit}
+use Rattle.c_means.specs.declared.profile.Profile.{Profile}
+use Rattle.c_means.specs.Units.{IsAcceptedSource}
+use Rattle.c_language.specs.PlaceTables.{places_of}
+use Rattle.c_language.specs.declared.unit.External.{External}
+use Rattle.c_language.specs.declared.unit.Unit.{Unit}
 use Rattle.first_form.specs.Form.{program_of}
 use Rattle.sherlog.specs.Sources.{IsRefusedFor, IsUnit}
 use Rattle.sherlog.specs.Stages.{Accepts, IsNotServed, IsRule}

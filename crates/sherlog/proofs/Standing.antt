@@ -1,8 +1,8 @@
 -- Each token of a source begins within it.
 use Rattle.std.proofs.Common.{◌≡◌, ◌≤◌, ◌<◌, ℕ, zero, suc, List, [], ◌∷◌, length, Option, Some, None, arith, refl, subst}
 use Rattle.std.specs.Prelude.{slice_get}
-use Rattle.c_tokens.specs.declared.token.Token.{Token}
-use Rattle.c_tokens.specs.Standing.{StandInOrder}
+use Rattle.c_language.specs.declared.token.Token.{Token}
+use Rattle.c_language.specs.Standing.{StandInOrder}
 use Rattle.sherlog.specs.Sources.{start_at, start_or}
 
 token_within : (from end : ℕ) (ts : List Token) (k : ℕ) (t : Token) → StandInOrder from end ts → slice_get ts k ≡ Some t →

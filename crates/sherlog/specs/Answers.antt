@@ -1,12 +1,12 @@
 -- What a command line comes to.
 use Rattle.std.specs.Prelude.{◌≡◌, ◌≤◌, ◌⊎◌, ℕ, List, [], length, Bool, true, false, cond, Option, Some, Ok}
 use Rattle.std.specs.List.{list_any}
-use Rattle.bit_words.specs.declared.bounds.Bounds.{Bounds}
-use Rattle.bit_words.specs.Worlds.{WorldTables}
-use Rattle.c_runs.specs.declared.profile.Profile.{Profile}
-use Rattle.c_runs.specs.Units.{source_run, source_size}
-use Rattle.c_tree.specs.PlaceTables.{PlaceTable, places_of}
-use Rattle.c_tree.specs.declared.unit.External.{External}
+use Rattle.plain_data.specs.declared.bounds.Bounds.{Bounds}
+use Rattle.plain_data.specs.Worlds.{WorldTables}
+use Rattle.c_means.specs.declared.profile.Profile.{Profile}
+use Rattle.c_means.specs.Units.{source_run, source_size}
+use Rattle.c_language.specs.PlaceTables.{PlaceTable, places_of}
+use Rattle.c_language.specs.declared.unit.External.{External}
 use Rattle.accepted.specs.declared.program.Accepted.{Accepted}
 use Rattle.assumptions.specs.Assumed.{assumptions_of}
 use Rattle.config_text.specs.declared.config.Config.{Config as ConfigType}

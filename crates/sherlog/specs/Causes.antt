@@ -1,10 +1,10 @@
 -- Why a command line is not answered.
 use Rattle.std.specs.Prelude.{◌≡◌, ◌≢◌, ◌≤◌, ◌<◌, ◌+◌, ◌*◌, ◌⊎◌, ℕ, Bool, true, false, List, Option, Some, None, Result, Ok, Err, ⊤}
-use Rattle.bit_words.specs.declared.bounds.Bounds.{Bounds}
-use Rattle.bit_words.specs.Worlds.{WorldTables}
-use Rattle.c_tokens.specs.declared.token.Spot.{Spot}
-use Rattle.c_runs.specs.Units.{IsAcceptedSource, source_size}
-use Rattle.c_tree.specs.declared.unit.External.{External}
+use Rattle.plain_data.specs.declared.bounds.Bounds.{Bounds}
+use Rattle.plain_data.specs.Worlds.{WorldTables}
+use Rattle.c_language.specs.declared.token.Spot.{Spot}
+use Rattle.c_means.specs.Units.{IsAcceptedSource, source_size}
+use Rattle.c_language.specs.declared.unit.External.{External}
 use Rattle.cert_text.specs.WorldTexts.{ReadsWorld}
 use Rattle.cert_text.specs.declared.fault.CertFault.{CertFault}
 use Rattle.cert_text.specs.declared.fault.CertFault.TheVariants as cert

@@ -1,9 +1,9 @@
 -- What decides where files are told, and no configuration is named.
 use Rattle.std.specs.Prelude.{◌≡◌, ◌≤◌, ◌+◌, ◌*◌, ℕ, List, Some, None, Ok, false, length, ⊤}
-use Rattle.bit_words.specs.declared.bounds.Bounds.{Bounds}
-use Rattle.bit_words.specs.Worlds.{WorldTables}
-use Rattle.c_runs.specs.Units.{IsAcceptedSource, source_size}
-use Rattle.c_tree.specs.declared.unit.External.{External}
+use Rattle.plain_data.specs.declared.bounds.Bounds.{Bounds}
+use Rattle.plain_data.specs.Worlds.{WorldTables}
+use Rattle.c_means.specs.Units.{IsAcceptedSource, source_size}
+use Rattle.c_language.specs.declared.unit.External.{External}
 use Rattle.cert_text.specs.WorldTexts.{ReadsWorld}
 use Rattle.config_text.specs.Configs.{default_config}
 use Rattle.log_text.specs.Lines.{line_count}

@@ -1,11 +1,11 @@
 -- What is told of a command line.
 use Rattle.std.specs.Prelude.{◌≡◌, ◌++◌, ◌⊎◌, ℕ, List, codes}
 use Rattle.std.specs.Fmt.{decimal, signed_decimal}
-use Rattle.bit_words.specs.declared.run.Finish.{Finish}
-use Rattle.bit_words.specs.declared.run.Finish.TheVariants as finish
-use Rattle.bit_words.specs.declared.run.Undefined.{Undefined}
-use Rattle.bit_words.specs.declared.run.Undefined.TheVariants as undefined
-use Rattle.c_tokens.specs.declared.token.Spot.{Spot}
+use Rattle.plain_data.specs.declared.run.Finish.{Finish}
+use Rattle.plain_data.specs.declared.run.Finish.TheVariants as finish
+use Rattle.plain_data.specs.declared.run.Undefined.{Undefined}
+use Rattle.plain_data.specs.declared.run.Undefined.TheVariants as undefined
+use Rattle.c_language.specs.declared.token.Spot.{Spot}
 use Rattle.config_text.specs.declared.config.ConfigFault.{ConfigFault}
 use Rattle.config_text.specs.declared.config.ConfigFault.TheVariants as config
 use Rattle.sl_io.specs.SinkStates.{SinkState}

@@ -2,9 +2,9 @@
 use Rattle.std.specs.Prelude.{◌-◌, ◌++◌, ℕ, List, length, min, nat_lt, if◌then◌else◌, codes}
 use Rattle.std.specs.Fmt.{decimal}
 use Rattle.c_lexer.specs.Places.{located}
-use Rattle.c_tokens.specs.declared.token.Spot.{Spot}
+use Rattle.c_language.specs.declared.token.Spot.{Spot}
 
--- that text: the definitions of `c_runs` are the trees of these lines, by the offset in them and 2^31 more
+-- that text: the definitions of `c_means` are the trees of these lines, by the offset in them and 2^31 more
 unfoldable pub prelude_text : List ℕ
 prelude_text =
     codes "unsigned long strlen(const char *s) { unsigned long n = 0; while (s[n]) n++; return n; }\n"

@@ -4,24 +4,24 @@ use Rattle.acceptance.specs.Refusals.{IsFirstBroken, judged_in}
 use Rattle.c_lexer.specs.Places.{located}
 use Rattle.c_lexer.specs.Reading.{lexed}
 use Rattle.c_lexer.specs.declared.fault.LexFault.TheVariants as lexical
-use Rattle.c_tokens.specs.declared.token.Spot.{Spot}
-use Rattle.c_tokens.specs.declared.token.Token.{Token}
-use Rattle.c_tokens.specs.declared.token.Tokens.{Tokens}
-use Rattle.c_tree.specs.PlaceTables.{places_of}
-use Rattle.c_tree.specs.declared.unit.External.{External}
-use Rattle.c_tree.specs.declared.unit.Unit.{Unit}
+use Rattle.c_language.specs.declared.token.Spot.{Spot}
+use Rattle.c_language.specs.declared.token.Token.{Token}
+use Rattle.c_language.specs.declared.token.Tokens.{Tokens}
+use Rattle.c_language.specs.PlaceTables.{places_of}
+use Rattle.c_language.specs.declared.unit.External.{External}
+use Rattle.c_language.specs.declared.unit.Unit.{Unit}
 use Rattle.c_grammar.specs.Units.{derives}
 use Rattle.c_parser.specs.Parsing.{IsUnderivable, IsOnly}
-use Rattle.c_runs.specs.declared.breach.Breach.{Breach}
-use Rattle.c_runs.specs.declared.breach.BrokenRule.{BrokenRule}
-use Rattle.c_runs.specs.declared.breach.BrokenRule.TheVariants as broken
-use Rattle.c_runs.specs.declared.profile.Profile.{Profile}
-use Rattle.c_runs.specs.Checks.{has_main}
-use Rattle.c_runs.specs.Units.{IsAcceptedSource}
-use Rattle.c_says.specs.declared.scope.LayoutRule.{LayoutRule}
-use Rattle.c_says.specs.declared.scope.LayoutRule.TheVariants as layout
-use Rattle.c_says.specs.declared.scope.Rule.{Rule}
-use Rattle.c_says.specs.declared.scope.Rule.TheVariants as rule
+use Rattle.c_means.specs.declared.breach.Breach.{Breach}
+use Rattle.c_means.specs.declared.breach.BrokenRule.{BrokenRule}
+use Rattle.c_means.specs.declared.breach.BrokenRule.TheVariants as broken
+use Rattle.c_means.specs.declared.profile.Profile.{Profile}
+use Rattle.c_means.specs.Checks.{has_main}
+use Rattle.c_means.specs.Units.{IsAcceptedSource}
+use Rattle.c_language.specs.declared.scope.LayoutRule.{LayoutRule}
+use Rattle.c_language.specs.declared.scope.LayoutRule.TheVariants as layout
+use Rattle.c_language.specs.declared.scope.Rule.{Rule}
+use Rattle.c_language.specs.declared.scope.Rule.TheVariants as rule
 use Rattle.printf_text.specs.declared.parse.FormatFault.{FormatFault}
 use Rattle.printf_text.specs.declared.parse.FormatFault.TheVariants as format
 use Rattle.sherlog.specs.Places.{spot_at}

@@ -1,13 +1,13 @@
 -- The steps from a command line to its output, each as what it answers and why it doesn't.
 use Rattle.std.specs.Prelude.{◌≡◌, ◌≤◌, ◌<◌, ℕ, List, Bool, true, Option, None, Result, Ok, Err, IfOk, IfErr, ⊤}
-use Rattle.bit_words.specs.Worlds.{WorldTables}
+use Rattle.plain_data.specs.Worlds.{WorldTables}
 use Rattle.c_lexer.specs.Places.{located}
-use Rattle.c_tokens.specs.declared.token.Token.{Token}
+use Rattle.c_language.specs.declared.token.Token.{Token}
 use Rattle.c_reading.specs.declared.fault.ParseFault.{ParseFault}
 use Rattle.c_reading.specs.declared.fault.ParseFault.TheVariants as parser
-use Rattle.c_runs.specs.declared.profile.Profile.{Profile}
-use Rattle.c_tree.specs.declared.unit.External.{External}
-use Rattle.c_tree.specs.declared.unit.Unit.{Unit}
+use Rattle.c_means.specs.declared.profile.Profile.{Profile}
+use Rattle.c_language.specs.declared.unit.External.{External}
+use Rattle.c_language.specs.declared.unit.Unit.{Unit}
 use Rattle.cert_text.specs.WorldTexts.{ReadsWorld}
 use Rattle.cert_text.specs.declared.fault.CertFault.{CertFault}
 use Rattle.cert_text.specs.declared.fault.CertFault.TheVariants as cert

@@ -9,11 +9,11 @@ ghost use Rattle.sherlog.specs.Stages.{Configures, Fetches, GetsLog, Parses, Rea
 use crate::refusal::{InputFile, Refusal};
 use crate::request::Request;
 use crate::source::read_unit;
-use bit_words::{Bytes, World};
-use c_tree::Unit;
+use c_language::Unit;
 use cert_text::{CertFault, read_world};
 use config_text::{Config, ConfigFault, default_config, read_config};
 use log_text::{LogFault, LogText, Prefix, strip};
+use plain_data::{Bytes, World};
 use sl_config::Name;
 use sl_io::{GetFault, Shelf};
 use std::alloc::Global;

@@ -8,11 +8,10 @@ ghost use Rattle.sherlog.specs.Sources.{fault_name, format_name, layout_name, ru
 use crate::places::{MAX_SOURCE, put_spot, spot_at};
 use crate::refusal::{Refusal, SourceFault};
 use crate::request::Request;
-use bit_words::{Bytes, Finish, Undefined};
-use c_runs::BrokenRule;
-use c_says::{LayoutRule, Rule};
-use c_tokens::Spot;
+use c_language::{LayoutRule, Rule, Spot};
+use c_means::BrokenRule;
 use config_text::ConfigFault;
+use plain_data::{Bytes, Finish, Undefined};
 use printf_text::FormatFault;
 use sl_io::{Sink, tell};
 use std::alloc::{AllocError, Global};

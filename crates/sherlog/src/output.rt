@@ -1,7 +1,7 @@
 //! What a command writes.
 
-use bit_words::Bytes;
 use diagnoses::Kept;
+use plain_data::Bytes;
 
 /// What a command writes to its output, the line on how a run ended, the status once it is written, and the evidence of a
 /// diagnosis.

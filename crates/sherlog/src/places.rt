@@ -2,9 +2,9 @@
 ghost use Rattle.std.specs.Prelude.{◌≡◌, ◌≤◌, ◌++◌, length, IfOk};
 ghost use Rattle.sherlog.specs.Places as spec;
 
-use bit_words::Bytes;
+use c_language::Spot;
 use c_lexer::locate;
-use c_tokens::Spot;
+use plain_data::Bytes;
 use std::alloc::{AllocError, Global};
 
 /// The greatest source, in bytes.

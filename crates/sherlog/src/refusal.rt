@@ -5,8 +5,8 @@ ghost use Rattle.sherlog.specs.Lines.{status_of};
 
 use crate::places::MAX_SOURCE;
 use crate::request::Request;
-use c_runs::BrokenRule;
-use c_tokens::Spot;
+use c_language::Spot;
+use c_means::BrokenRule;
 use config_text::ConfigFault;
 use std::alloc::AllocError;
 

@@ -10,12 +10,12 @@ use crate::output::Output;
 use crate::request::Request;
 use accepted::Accepted;
 use assumptions::assumptions;
-use bit_words::{Bounds, Bytes};
 use c_item_notes::Source;
-use c_tree::Places;
+use c_language::Places;
 use diagnoses::{Diagnosis, Kept, Verdict};
 use log_text::LogText;
 use must_facts::{DiagnoseFault, diagnose_source};
+use plain_data::{Bounds, Bytes};
 use report_text::{Subject, report};
 use std::alloc::Global;
 

@@ -5,9 +5,9 @@ use Rattle.std.specs.Int.{int_rem_euclid, int_div_euclid}
 use Rattle.std.proofs.lemmas.Bool.{cases_lt, lt-ltb, le-ltb, le-leb, lt-leb, ne_eqb}
 use Rattle.std.proofs.lemmas.Int.{ints}
 use Rattle.std.proofs.Math.Nat.{mod-eq_of_lt, add-mul-mod_self_left, div-le_self, mul-div_cancel, mod_self, zero-mod, mul-lt-mul_of_pos_right, mul-le-mul_right}
-use Rattle.bit_words.specs.Words.{bits, signed, is_signed, word}
-use Rattle.bit_words.specs.declared.width.Width.{Width}
-use Rattle.bit_words.specs.declared.width.Width.TheVariants.{W8, W16, W32, W64}
+use Rattle.plain_data.specs.Words.{bits, signed, is_signed, word}
+use Rattle.plain_data.specs.declared.width.Width.{Width}
+use Rattle.plain_data.specs.declared.width.Width.TheVariants.{W8, W16, W32, W64}
 use Rattle.gates.specs.Nets.{exclusive, majority}
 use Rattle.word_gates.specs.Spelling.{number}
 use Rattle.signed_gates.specs.Signs.{with_sign}

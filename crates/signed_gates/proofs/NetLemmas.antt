@@ -10,10 +10,10 @@ use Rattle.gates.specs.declared.bit.Bit.{Bit}
 use Rattle.gates.specs.declared.bit.Bit.TheVariants.{Known}
 use Rattle.gates.specs.Nets.{Net, IsModel, Grows, IsBit, IsGate, bit_holds, opposite, exclusive, majority}
 use Rattle.gates.proofs.BitLemmas.{same-grows, then-grows, opposite-bit, opposite-holds}
-use Rattle.bit_words.specs.Words.{bits, signed, is_signed, sdiv, srem, slt, shl, lshr, ashr, add_over, sub_over, mul_over, shl_over}
-use Rattle.bit_words.specs.Words.{word as as_word}
-use Rattle.bit_words.specs.declared.width.Width.{Width}
-use Rattle.bit_words.specs.declared.width.Width.TheVariants.{W8, W16, W32, W64}
+use Rattle.plain_data.specs.Words.{bits, signed, is_signed, sdiv, srem, slt, shl, lshr, ashr, add_over, sub_over, mul_over, shl_over}
+use Rattle.plain_data.specs.Words.{word as as_word}
+use Rattle.plain_data.specs.declared.width.Width.{Width}
+use Rattle.plain_data.specs.declared.width.Width.TheVariants.{W8, W16, W32, W64}
 use Rattle.word_gates.specs.declared.quotients.Division.{Division}
 use Rattle.word_gates.specs.declared.sums.Sum.{Sum}
 use Rattle.word_gates.specs.Spelling.{number, truths, spelled, AreBits, HasTruths, IsWord, flipped}

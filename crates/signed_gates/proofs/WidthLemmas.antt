@@ -6,10 +6,10 @@ use Rattle.std.proofs.lemmas.Bool.{cases_lt, le-leb, lt-leb, le-ltb, lt-ltb}
 use Rattle.std.proofs.lemmas.Int.{ints}
 use Rattle.std.proofs.lemmas.Nat.{pow-add, mul-le, pow_pos}
 use Rattle.std.proofs.Math.Nat.{mod-eq_of_lt, zero-mod, pow-le-pow_right}
-use Rattle.bit_words.specs.Words.{bits, signed, is_signed, word, sdiv, srem, slt, add_over, sub_over, mul_over, shl_over}
-use Rattle.bit_words.specs.declared.width.Width.{Width}
-use Rattle.bit_words.specs.declared.width.Width.TheVariants.{W8, W16, W32, W64}
-use Rattle.bit_words.proofs.WordLaws.{word-signed, word-word}
+use Rattle.plain_data.specs.Words.{bits, signed, is_signed, word, sdiv, srem, slt, add_over, sub_over, mul_over, shl_over}
+use Rattle.plain_data.specs.declared.width.Width.{Width}
+use Rattle.plain_data.specs.declared.width.Width.TheVariants.{W8, W16, W32, W64}
+use Rattle.plain_data.proofs.WordLaws.{word-signed, word-word}
 use Rattle.gates.specs.Nets.{exclusive, majority}
 use Rattle.word_gates.specs.Spelling.{number, flipped}
 use Rattle.signed_gates.specs.Signs.{is_negative, magnitude, with_sign, divided}

@@ -1,7 +1,7 @@
 -- Signs and magnitudes of machine words (C99 6.2.6.2).
 use Rattle.std.specs.Prelude.{◌≡◌, ℕ, ◌-◌, ◌/◌, ◌%◌, ◌^◌, Bool, cond, nat_le, nat_lt, nat_eq, ℤ, pos, neg_ℤ, unsigned_abs, List, length}
-use Rattle.bit_words.specs.Words.{bits, signed}
-use Rattle.bit_words.specs.declared.width.Width.{Width}
+use Rattle.plain_data.specs.Words.{bits, signed}
+use Rattle.plain_data.specs.declared.width.Width.{Width}
 use Rattle.cnf_core.specs.Truth.{Valuation}
 use Rattle.gates.specs.declared.bit.Bit.{Bit}
 use Rattle.gates.specs.Nets.{Net, IsModel, Grows}

@@ -1,11 +1,10 @@
 ghost use Rattle.std.specs.Prelude.{◌≡◌, ◌%◌, ◌^◌, length, IfOk};
-ghost use Rattle.bit_words.specs.Words.{bits, word, signed};
+ghost use Rattle.plain_data.specs.Words.{bits, word, signed};
 ghost use Rattle.word_gates.specs.Spelling.{AreBits, IsWord, spelled};
 
 use crate::signs::sign;
-use bit_words::Width;
 use gates::{Bit, BlastFault, Gates};
-use plain_data::Items;
+use plain_data::{Items, Width};
 use word_gates::resize;
 
 /// An unsigned word in another width (C99 6.3.1.3).

@@ -1,12 +1,11 @@
 ghost use Rattle.std.specs.Prelude.{◌≡◌, length, IfOk};
-ghost use Rattle.bit_words.specs.Words.{bits, sdiv, srem};
+ghost use Rattle.plain_data.specs.Words.{bits, sdiv, srem};
 ghost use Rattle.word_gates.specs.Spelling.{AreBits, IsWord, spelled};
 ghost use Rattle.signed_gates.specs.Signs.{IsDivided, divided};
 
 use crate::signs::{magnitude, sign, signs_differ, with_sign};
-use bit_words::Width;
 use gates::{Bit, BlastFault, Gates};
-use plain_data::Items;
+use plain_data::{Items, Width};
 use word_gates::{Division, divide};
 
 /// The quotient and the remainder of two words' magnitudes.

@@ -1,14 +1,13 @@
 ghost use Rattle.std.specs.Prelude.{◌≡◌, ◌≤◌, ◌+◌, ◌-◌, ◌*◌, ◌^◌, ◌&&◌, not, cond, length, nat_eq, pos, ◌+ℤ◌, IfOk};
-ghost use Rattle.bit_words.specs.Words.{bits, signed, is_signed, add_over, sub_over, mul_over, shl_over};
+ghost use Rattle.plain_data.specs.Words.{bits, signed, is_signed, add_over, sub_over, mul_over, shl_over};
 ghost use Rattle.gates.specs.Nets.{IsBit, IsGate, bit_holds};
 ghost use Rattle.word_gates.specs.Spelling.{AreBits, IsWord, number, spelled, truths};
 ghost use Rattle.signed_gates.specs.Signs.{magnitude as magnitude_of};
 
 use crate::shifting::stages;
 use crate::signs::{magnitude, signs_differ};
-use bit_words::Width;
 use gates::{Bit, BlastFault, Gates};
-use plain_data::Items;
+use plain_data::{Items, Width};
 use word_gates::{
     add_with_carry, at_most, complement, constant, equal, multiply, repeated, resize, shift_right,
 };

@@ -1,12 +1,11 @@
 ghost use Rattle.std.specs.Prelude.{◌≡◌, ◌≤◌, ◌^◌, cond, length, nat_lt, IfOk};
-ghost use Rattle.bit_words.specs.Words.{bits, shl, lshr, ashr};
+ghost use Rattle.plain_data.specs.Words.{bits, shl, lshr, ashr};
 ghost use Rattle.word_gates.specs.Spelling.{AreBits, IsWord, spelled};
 ghost use Rattle.signed_gates.specs.Signs.{near};
 
 use crate::signs::sign;
-use bit_words::Width;
 use gates::{Bit, BlastFault, Gates};
-use plain_data::Items;
+use plain_data::{Items, Width};
 use word_gates::{shift_left, shift_right};
 
 /// How many bits a shift by less than the width has.

@@ -1,12 +1,11 @@
 ghost use Rattle.std.specs.Prelude.{◌≡◌, ◌+◌, ◌-◌, ◌%◌, ◌^◌, cond, length, nat_lt, nat_eq, IfOk};
-ghost use Rattle.bit_words.specs.Words.{bits, word, slt};
+ghost use Rattle.plain_data.specs.Words.{bits, word, slt};
 ghost use Rattle.gates.specs.Nets.{IsBit, IsGate, bit_holds, exclusive};
 ghost use Rattle.word_gates.specs.Spelling.{AreBits, IsWord, spelled, truths};
 ghost use Rattle.signed_gates.specs.Signs.{is_negative, magnitude as magnitude_of, with_sign as signed_by};
 
-use bit_words::Width;
 use gates::{Bit, BlastFault, Gates};
-use plain_data::Items;
+use plain_data::{Items, Width};
 use word_gates::{at_most, choose, repeated, subtract};
 
 /// A word's sign bit.

@@ -6,8 +6,8 @@ use Rattle.printf_text.specs.Pieces.{pieces_of}
 use Rattle.log_text.specs.Lines.{line_starts}
 use Rattle.positions.specs.Sets.{ascends}
 use Rattle.format_match.specs.Spelled.{EndsExactly}
-use Rattle.c_tree.specs.PlaceTables.{PlaceTable}
-use Rattle.c_runs.specs.Calls.{newline_if, pieces_or_none}
+use Rattle.c_language.specs.PlaceTables.{PlaceTable}
+use Rattle.c_means.specs.Calls.{newline_if, pieces_or_none}
 use Rattle.c_notes.specs.declared.calls.LogFormat.{LogFormat}
 use Rattle.report_text.specs.Numbers.{Text, count_text}
 use Rattle.report_text.specs.FactTexts.{at_text}

@@ -1,7 +1,7 @@
 -- The lines on log calls.
 use Rattle.std.specs.Prelude.{ℕ, List, ◌++◌, codes}
 use Rattle.std.specs.List.{flat_map}
-use Rattle.c_tree.specs.PlaceTables.{PlaceTable}
+use Rattle.c_language.specs.PlaceTables.{PlaceTable}
 use Rattle.report_text.specs.Numbers.{Text}
 use Rattle.report_text.specs.FactTexts.{at_text}
 use Rattle.source_sites.specs.declared.listing.Site.{Site}

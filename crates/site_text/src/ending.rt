@@ -4,11 +4,10 @@ ghost use Rattle.std.specs.List.{filter, flat_map};
 ghost use Rattle.site_text.specs.Ends as spec;
 
 use crate::formats::pieces_in;
-use bit_words::Bytes;
-use c_tree::Places;
+use c_language::Places;
 use format_match::ends;
 use log_text::LogText;
-use plain_data::Items;
+use plain_data::{Bytes, Items};
 use printf_text::Pieces;
 use report_text::{put_count, put_place};
 use source_sites::Site;

@@ -4,7 +4,7 @@ ghost use Rattle.std.specs.List.{flat_map};
 ghost use Rattle.printf_text.specs.Pieces.{format_text};
 ghost use Rattle.site_text.specs.Shown as spec;
 
-use bit_words::Bytes;
+use plain_data::Bytes;
 use source_sites::LogFormat;
 use std::alloc::AllocError;
 

@@ -1,10 +1,10 @@
 //! The pieces of a format. All fail for want of memory alone.
 ghost use Rattle.std.specs.Prelude.{◌≡◌, IfOk};
-ghost use Rattle.c_runs.specs.Calls.{pieces_or_none};
+ghost use Rattle.c_means.specs.Calls.{pieces_or_none};
 ghost use Rattle.printf_text.specs.Pieces.{pieces_of};
 ghost use Rattle.site_text.specs.Ends as spec;
 
-use bit_words::Bytes;
+use plain_data::Bytes;
 use printf_text::{FormatFault, Piece, Pieces, parse_format};
 use source_sites::LogFormat;
 use std::alloc::{AllocError, Global};

@@ -4,9 +4,9 @@ ghost use Rattle.site_text.specs.Lines as spec;
 
 use crate::ending::put_matches;
 use crate::escaping::put_format;
-use bit_words::Bytes;
-use c_tree::Places;
+use c_language::Places;
 use log_text::LogText;
+use plain_data::Bytes;
 use report_text::put_place;
 use source_sites::Site;
 use std::alloc::{AllocError, Global};

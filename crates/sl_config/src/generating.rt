@@ -1,8 +1,7 @@
 ghost use Rattle.std.specs.Prelude.{◌≡◌, ◌++◌, IfOk, IfErr, string_bytes};
 ghost use Rattle.sl_config.specs.Generated as spec;
 
-use bit_words::Bytes;
-use plain_data::Items;
+use plain_data::{Bytes, Items};
 use std::alloc::{AllocError, Global};
 use thiserror::Error;
 

@@ -9,8 +9,7 @@ ghost use Rattle.sl_io.specs.FailingShelves.{inner, listed, made, fails_next};
 use crate::faults::{GetFault, PutFault};
 use crate::mem_shelf::MemShelf;
 use crate::shelf::Shelf;
-use bit_words::Bytes;
-use plain_data::Items;
+use plain_data::{Bytes, Items};
 use std::alloc::Global;
 
 /// A shelf in memory whose listed calls fail and change no file. Gets and puts are counted together,

@@ -5,7 +5,7 @@ ghost use Rattle.sl_io.specs.Counts.{RoseBy, capped_sum};
 use crate::faults::{GetFault, PutFault};
 use crate::shelf::Shelf;
 use crate::streams::write_piece;
-use bit_words::Bytes;
+use plain_data::Bytes;
 use std::alloc::Global;
 use std::fs;
 use std::io::Read;

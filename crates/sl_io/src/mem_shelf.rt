@@ -7,7 +7,7 @@ ghost use Rattle.sl_io.specs.MemoryShelves.{held, counted, shelf_state, no_count
 
 use crate::faults::{GetFault, PutFault};
 use crate::shelf::Shelf;
-use bit_words::Bytes;
+use plain_data::Bytes;
 use std::alloc::{AllocError, Global};
 use std::collections::BTreeMap;
 

@@ -3,7 +3,7 @@ ghost use Rattle.sl_io.specs.Gets.{Gets};
 ghost use Rattle.sl_io.specs.Puts.{Puts};
 
 use crate::faults::{GetFault, PutFault};
-use bit_words::Bytes;
+use plain_data::Bytes;
 use std::alloc::Global;
 
 /// Where files are got and put by name.

@@ -3,8 +3,7 @@ use crate::{
     FailShelf, FailSink, FailedWrite, GetFault, MemShelf, MemSink, PutFault, Shelf, ShelfCounts,
     Sink, SinkFault, tell, write_pieces,
 };
-use bit_words::Bytes;
-use plain_data::Items;
+use plain_data::{Bytes, Items};
 use std::alloc::Global;
 use std::test::Fail;
 

@@ -1,13 +1,13 @@
--- The log calls that are noted are those of `c_runs`.
+-- The log calls that are noted are those of `c_means`.
 use Rattle.std.proofs.Common.{◌≡◌, ℕ, List, [], ◌∷◌, ◌++◌, Option, Some, None, map, refl, sym, ap, ◌∙◌}
 use Rattle.c_means.specs.Parts.{Level}
 use Rattle.c_means.specs.Parts as parts
-use Rattle.c_runs.specs.declared.profile.LogFunction.{LogFunction}
-use Rattle.c_runs.specs.Programs.{Function, function_named, functions_in, reached}
-use Rattle.c_runs.specs.Rules.{Library, body_or, callee_taking, identity_index, identity_or, library_of, library_or}
-use Rattle.c_runs.specs.Rules.{log_of, prelude_or_outside, rule_by}
-use Rattle.c_runs.specs.Runs.{Machine, bare, prelude_of, rule_of}
-use Rattle.c_runs.specs.Units.{least, machine_of, silent}
+use Rattle.c_means.specs.declared.profile.LogFunction.{LogFunction}
+use Rattle.c_means.specs.Programs.{Function, function_named, functions_in, reached}
+use Rattle.c_means.specs.Rules.{Library, body_or, callee_taking, identity_index, identity_or, library_of, library_or}
+use Rattle.c_means.specs.Rules.{log_of, prelude_or_outside, rule_by}
+use Rattle.c_means.specs.Runs.{Machine, bare, prelude_of, rule_of}
+use Rattle.c_means.specs.Units.{least, machine_of, silent}
 use Rattle.c_notes.specs.CallsTold.{told_calls, told_site}
 use Rattle.c_notes.specs.CallsTold as told
 use Rattle.c_item_notes.specs.Levels.{Judged, level_in}

@@ -1,15 +1,15 @@
--- The log calls of a source, as `c_runs` says which functions are reached and which rule a call follows.
+-- The log calls of a source, as `c_means` says which functions are reached and which rule a call follows.
 use Rattle.std.specs.Prelude.{ℕ, Bool, List, [], ◌∷◌, ◌++◌, Option, Some, None}
 use Rattle.std.specs.List.Sorted.{IsPermutation, IsSortedBy, IsStableBy}
 use Rattle.std.specs.Ordering.{is_lt, nat_cmp}
-use Rattle.c_tree.specs.declared.unit.External.{External}
+use Rattle.c_language.specs.declared.unit.External.{External}
 use Rattle.c_means.specs.Parts.{Level}
 use Rattle.c_means.specs.Parts as parts
-use Rattle.c_runs.specs.declared.profile.Profile.{Profile}
-use Rattle.c_runs.specs.Programs.{Function, reached}
-use Rattle.c_runs.specs.Rules.{Rules, LogCall, IdentityCall, BodyCall, LibraryCall, PreludeCall, OutsideCall}
-use Rattle.c_runs.specs.Runs.{Machine, bare, rule_of}
-use Rattle.c_runs.specs.Units.{least, machine_of, silent}
+use Rattle.c_means.specs.declared.profile.Profile.{Profile}
+use Rattle.c_means.specs.Programs.{Function, reached}
+use Rattle.c_means.specs.Rules.{Rules, LogCall, IdentityCall, BodyCall, LibraryCall, PreludeCall, OutsideCall}
+use Rattle.c_means.specs.Runs.{Machine, bare, rule_of}
+use Rattle.c_means.specs.Units.{least, machine_of, silent}
 use Rattle.c_notes.specs.declared.calls.CallNote.{CallNote}
 use Rattle.c_notes.specs.declared.calls.LogFormat.{LogFormat}
 use Rattle.c_notes.specs.CallsTold.{format_in}

@@ -4,12 +4,11 @@ ghost use Rattle.c_item_notes.specs.Levels.{judged};
 ghost use Rattle.c_program_notes.specs.Wholes.{overview as overview_in};
 ghost use Rattle.source_sites.specs.Sites as spec;
 
-use bit_words::Bytes;
 use c_item_notes::Source;
 use c_notes::{CallNote, LogFormat};
 use c_program_notes::Overview;
 use c_reach::FunctionNotes;
-use plain_data::{Items, Shared};
+use plain_data::{Bytes, Items, Shared};
 use std::alloc::{AllocError, Global};
 
 /// A log call: the byte offset of the callee's name, and the format.

@@ -1,6 +1,6 @@
 -- The caller's states behind a call, by the ends of the callee.
 use Rattle.std.specs.Prelude.{◌≡◌, ℕ, ℤ, List, [], ◌∷◌, ◌++◌, length, cond, Bool, true, false, ◌&&◌, Option, Result}
-use Rattle.bit_words.specs.declared.run.Happening.TheVariants as happening
+use Rattle.plain_data.specs.declared.run.Happening.TheVariants as happening
 use Rattle.c_means.specs.declared.kind.Kind.{Kind}
 use Rattle.core_tree.specs.declared.types.ValueType.{ValueType}
 use Rattle.core_tree.specs.declared.types.ValueType.TheVariants as vt

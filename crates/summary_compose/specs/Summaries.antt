@@ -1,7 +1,7 @@
 -- What a summary stands for: the ends of a function's body, for every entry memory, arguments, base and world at once.
 use Rattle.std.specs.Prelude.{◌≡◌, ℕ, suc, ◌+◌, ◌≤◌, ◌%◌, ◌^◌, ℤ, false, List, [], ◌∷◌, length, Some, slice_index}
-use Rattle.bit_words.specs.declared.width.Width.TheVariants.{W64}
-use Rattle.bit_words.specs.Words.{bits}
+use Rattle.plain_data.specs.declared.width.Width.TheVariants.{W64}
+use Rattle.plain_data.specs.Words.{bits}
 use Rattle.c_store.specs.Store.{Store}
 use Rattle.c_means.specs.Parts.{World}
 use Rattle.core_tree.specs.declared.types.ValueType.{ValueType}

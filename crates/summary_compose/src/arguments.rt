@@ -4,13 +4,12 @@ ghost use Rattle.path_states.specs.States.{IsState, IsNumber, AreNumbers};
 ghost use Rattle.summary_compose.specs.Summaries.{word_of};
 ghost use Rattle.summary_compose.specs.Composing.{Takes, PassesOne, PassesFirst, Passes};
 
-use bit_words::Width;
 use core_tree::{ValueType, WordType};
 use path_forms::WalkFault;
 use path_numbers::converted;
 use path_states::{Number, State};
 use path_steps::pop;
-use plain_data::Items;
+use plain_data::{Items, Width};
 use std::alloc::Global;
 use term_bank::{Bank, BankFault, Node};
 

@@ -16,14 +16,13 @@ use crate::arguments::{pass, take_operands};
 use crate::images::{state_images, table_of};
 use crate::nodes::nodes_of;
 use crate::summary::Summary;
-use bit_words::{Finish, Undefined};
 use c_means::Kind;
 use core_tree::ValueType;
 use path_arrows::place;
 use path_forms::{CallSite, WalkFault};
 use path_numbers::constant;
 use path_states::{Number, State, Walked, alone};
-use plain_data::Items;
+use plain_data::{Finish, Items, Undefined};
 use std::alloc::{AllocError, Global};
 use term_bank::{Bank, BankFault, Binding, Connective, Node};
 

@@ -1,6 +1,6 @@
 -- Questions, one behind the other.
 use Rattle.std.proofs.Common.{◌≡◌, ◌<◌, ◌≤◌, ◌+◌, ℕ, suc, ℤ, List, length, refl, sym, ap, ◌∙◌, subst, arith}
-use Rattle.bit_words.specs.declared.fact.Fact.{Fact}
+use Rattle.plain_data.specs.declared.fact.Fact.{Fact}
 use Rattle.log_expr.specs.Tours.{Tour}
 use Rattle.run_formula.specs.declared.watches.Watch.{Watch}
 use Rattle.query_core.specs.declared.query.Query.{Query}

@@ -1,6 +1,6 @@
 -- What may be asked of a query.
 use Rattle.std.specs.Prelude.{◌≡◌, ◌≤◌, ℕ, List, length}
-use Rattle.bit_words.specs.declared.fact.Fact.{Fact}
+use Rattle.plain_data.specs.declared.fact.Fact.{Fact}
 use Rattle.run_formula.specs.declared.watches.Watch.{Watch}
 use Rattle.query_core.specs.declared.query.Query.{Query}
 use Rattle.query_core.specs.declared.target.Target.TheVariants.{Having, Lacking}

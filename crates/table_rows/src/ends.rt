@@ -3,9 +3,9 @@
 //! which the run may end in it. Keys stand by their position, and at one position callees before their callers.
 
 use crate::text::{put, put_count, put_name, put_next};
-use bit_words::Bytes;
 use core_tree::Function;
 use log_expr::{EndTable, Entry};
+use plain_data::Bytes;
 use std::alloc::AllocError;
 
 fn put_positions(positions: &[usize], text: &mut Bytes) -> Result<(), AllocError> {

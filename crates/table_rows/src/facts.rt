@@ -1,7 +1,7 @@
 //! Facts, each by a line, and behind them the watched variables. Tokens are offsets in bytes.
 
 use crate::text::{put, put_count, put_next, put_value};
-use bit_words::{Bytes, Fact, Facts, Side, Undefined, Watched};
+use plain_data::{Bytes, Fact, Facts, Side, Undefined, Watched};
 use std::alloc::AllocError;
 
 fn kind_name(kind: Undefined) -> &'static str {

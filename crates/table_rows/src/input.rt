@@ -3,14 +3,13 @@
 use acceptance::{CheckFault, accept};
 use accepted::Accepted;
 use anyhow::{Result, anyhow, ensure};
-use bit_words::Bounds;
+use c_language::{Tokens, Unit};
 use c_lexer::lex;
+use c_means::Profile;
 use c_parser::parse;
-use c_runs::Profile;
-use c_tokens::Tokens;
-use c_tree::Unit;
 use config_text::default_config;
 use log_text::{LogText, strip};
+use plain_data::Bounds;
 use std::alloc::{AllocError, Global};
 
 /// The most bytes that a source may have.

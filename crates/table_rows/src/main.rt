@@ -23,11 +23,11 @@ mod walks;
 
 use accepted::Accepted;
 use anyhow::{Result, anyhow};
-use bit_words::{Bounds, Bytes};
 use ends::{put_sums, put_table};
 use facts::put_facts;
 use input::{bounds_of, log_of, program_of, split};
 use log_expr::end_table;
+use plain_data::{Bounds, Bytes};
 use program_facts::facts_of;
 use sites::put_sites;
 use std::alloc::Global;

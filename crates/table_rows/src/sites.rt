@@ -1,9 +1,9 @@
 //! Log calls, each by a line `site AT PIECES:` with the tokens of the variables that it shows behind it.
 
 use crate::text::{put, put_next};
-use bit_words::Bytes;
 use core_marks::Site;
 use core_tree::Watched;
+use plain_data::Bytes;
 use std::alloc::AllocError;
 
 fn put_shown(watched: &[Watched], text: &mut Bytes) -> Result<(), AllocError> {

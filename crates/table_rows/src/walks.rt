@@ -2,10 +2,10 @@
 
 use crate::text::{put, put_count, put_next};
 use anyhow::Result;
-use bit_words::{Bounds, Bytes};
 use core_tree::Core;
 use log_expr::end_table;
 use log_text::LogText;
+use plain_data::{Bounds, Bytes};
 use run_formula::run_formula;
 use std::alloc::Global;
 use term_bank::Bank;

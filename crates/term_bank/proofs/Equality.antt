@@ -1,13 +1,13 @@
 -- The derived `==` of shapes is equality.
 use Rattle.std.proofs.Common.{◌≡◌, true, arith}
-use Rattle.bit_words.specs.declared.width.Width.{Width}
-use Rattle.bit_words.specs.declared.width.Width.TheVariants as width
-use Rattle.bit_words.specs.declared.run.Side.{Side}
-use Rattle.bit_words.specs.declared.run.Side.TheVariants as side
+use Rattle.plain_data.specs.declared.width.Width.{Width}
+use Rattle.plain_data.specs.declared.width.Width.TheVariants as width
+use Rattle.plain_data.specs.declared.run.Side.{Side}
+use Rattle.plain_data.specs.declared.run.Side.TheVariants as side
 use Rattle.c_store.specs.declared.object.ObjectKind.{ObjectKind}
 use Rattle.c_store.specs.declared.object.ObjectKind.TheVariants as kind
-use Rattle.bit_words.specs.contracts.width.WidthPartialEq.TheImpl.{ghosts as width_ghosts}
-use Rattle.bit_words.specs.contracts.run.SidePartialEq.TheImpl.{ghosts as side_ghosts}
+use Rattle.plain_data.specs.contracts.width.WidthPartialEq.TheImpl.{ghosts as width_ghosts}
+use Rattle.plain_data.specs.contracts.run.SidePartialEq.TheImpl.{ghosts as side_ghosts}
 use Rattle.c_store.specs.contracts.object.ObjectKindPartialEq.TheImpl.{ghosts as kind_ghosts}
 use Rattle.term_bank.specs.contracts.sort.SortPartialEq.TheImpl.{ghosts as sort_ghosts}
 use Rattle.term_bank.specs.contracts.shape.WordOperatorPartialEq.TheImpl.{ghosts as operator_ghosts}

@@ -3,10 +3,10 @@ use Rattle.std.proofs.Common.{◌≡◌, ◌<◌, ◌/◌, ◌%◌, ◌^◌, [],
 use Rattle.std.proofs.Math.Nat.{mod-lt, div-le_self, mod-le}
 use Rattle.std.proofs.Math.Pow.{pow_pos}
 use Rattle.std.proofs.lemmas.Nat.{and_le_l, or_lt, xor_lt}
-use Rattle.bit_words.specs.Words.{bits}
-use Rattle.bit_words.proofs.WordLaws.{word_below}
-use Rattle.bit_words.specs.declared.width.Width.{Width}
-use Rattle.bit_words.specs.declared.width.Width.TheVariants.{W8, W16, W32, W64}
+use Rattle.plain_data.specs.Words.{bits}
+use Rattle.plain_data.proofs.WordLaws.{word_below}
+use Rattle.plain_data.specs.declared.width.Width.{Width}
+use Rattle.plain_data.specs.declared.width.Width.TheVariants.{W8, W16, W32, W64}
 use Rattle.c_store.specs.Store.{Store}
 use Rattle.c_store.proofs.Laws.{spelt_below}
 use Rattle.term_bank.specs.declared.sort.Sort.{Sort}

@@ -1,7 +1,7 @@
 -- What has a shape's value without being it.
 use Rattle.std.specs.Prelude.{◌≡◌, ◌<◌, ◌^◌, ℕ, List, Some, Bool, true, false, slice_get}
-use Rattle.bit_words.specs.Words.{bits}
-use Rattle.bit_words.specs.declared.width.Width.{Width}
+use Rattle.plain_data.specs.Words.{bits}
+use Rattle.plain_data.specs.declared.width.Width.{Width}
 use Rattle.term_bank.specs.declared.sort.Node.{Node}
 use Rattle.term_bank.specs.declared.shape.Connective.{Connective}
 use Rattle.term_bank.specs.declared.shape.Connective.TheVariants as connective

@@ -1,8 +1,8 @@
 -- What memory shapes do to a store (C99 6.2.6.1). Addresses are words of 64 bits, and go on at 0 behind the last one.
 -- Where a range doesn't cross that end, each is the operation of that name on stores.
 use Rattle.std.specs.Prelude.{ℕ, ◌+◌, ◌-◌, ◌%◌, ◌^◌, Bool, false, cond, nat_lt, nat_eq, Option, Some, None}
-use Rattle.bit_words.specs.declared.width.Width.{Width}
-use Rattle.bit_words.specs.declared.width.Width.TheVariants.{W8, W16, W32, W64}
+use Rattle.plain_data.specs.declared.width.Width.{Width}
+use Rattle.plain_data.specs.declared.width.Width.TheVariants.{W8, W16, W32, W64}
 use Rattle.c_store.specs.declared.object.Object.{Object}
 use Rattle.c_store.specs.declared.object.ObjectKind.{ObjectKind}
 use Rattle.c_store.specs.declared.object.ObjectKind.TheVariants as kind

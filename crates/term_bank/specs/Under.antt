@@ -4,7 +4,7 @@ use Rattle.std.specs.Ordering.{nat_cmp}
 use Rattle.std.specs.BTreeSet.{BTreeSet, contains}
 use Rattle.term_bank.specs.declared.sort.Node.{Node}
 use Rattle.term_bank.specs.declared.shape.Shape.{Shape}
-use Rattle.bit_words.specs.declared.width.Width.{Width}
+use Rattle.plain_data.specs.declared.width.Width.{Width}
 use Rattle.term_bank.specs.declared.shape.Shape.TheVariants.{Flag, Constant}
 use Rattle.term_bank.specs.Shapes.{Each, parts}
 use Rattle.term_bank.specs.Values.{Grows}

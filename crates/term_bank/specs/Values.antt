@@ -1,10 +1,10 @@
 -- What nodes are worth in an environment.
 use Rattle.std.specs.Prelude.{◌≡◌, ◌≤◌, ◌<◌, ◌/◌, ◌%◌, ◌^◌, ◌-◌, ◌++◌, [], ◌∷◌, ℕ, ℤ, pos, List, length, Some, Bool, true, false, not, cond, nat_eq, nat_lt, ◌&&◌, bit_and, bit_or, bit_xor, slice_get, slice_index}
-use Rattle.bit_words.specs.Words.{bits, word, signed, add, sub, mul, sdiv, srem, shl, lshr, ashr, add_over, sub_over, mul_over, shl_over, ult, slt}
-use Rattle.bit_words.specs.declared.width.Width.{Width}
-use Rattle.bit_words.specs.declared.width.Width.TheVariants.{W8, W64}
-use Rattle.bit_words.specs.declared.run.Event.{Event}
-use Rattle.bit_words.specs.declared.run.Happening.TheVariants as happening
+use Rattle.plain_data.specs.Words.{bits, word, signed, add, sub, mul, sdiv, srem, shl, lshr, ashr, add_over, sub_over, mul_over, shl_over, ult, slt}
+use Rattle.plain_data.specs.declared.width.Width.{Width}
+use Rattle.plain_data.specs.declared.width.Width.TheVariants.{W8, W64}
+use Rattle.plain_data.specs.declared.run.Event.{Event}
+use Rattle.plain_data.specs.declared.run.Happening.TheVariants as happening
 use Rattle.c_store.specs.Store.{Store, initial, make, end, object_size}
 use Rattle.c_store.specs.Access.{is_live}
 use Rattle.term_bank.specs.declared.sort.Sort.{Sort}

@@ -10,8 +10,7 @@ use crate::bank::{Bank, BankFault};
 use crate::shape::{Extension, Shape};
 use crate::sort::{Node, Sort};
 use crate::under::nodes_under;
-use bit_words::Width;
-use plain_data::Items;
+use plain_data::{Items, Width};
 use std::alloc::{AllocError, Global};
 use std::collections::HashMap;
 

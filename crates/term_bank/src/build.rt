@@ -1,6 +1,6 @@
 ghost use Rattle.std.specs.Prelude.{◌<◌, ◌^◌};
-ghost use Rattle.bit_words.specs.Words.{bits};
-ghost use Rattle.bit_words.specs.declared.width.Width.TheVariants.{W64};
+ghost use Rattle.plain_data.specs.Words.{bits};
+ghost use Rattle.plain_data.specs.declared.width.Width.TheVariants.{W64};
 ghost use Rattle.term_bank.specs.Terms.{IsTerm, Makes};
 ghost use Rattle.term_bank.specs.declared.sort.Sort.TheVariants.{Truth, Word, Events, Numbers};
 ghost use Rattle.term_bank.specs.declared.shape.Shape.TheVariants.{Flag, Constant, Parameter, Base, Entry, WorldWord};
@@ -11,7 +11,7 @@ ghost use Rattle.term_bank.specs.declared.shape.Shape.TheVariants.{EventsBehind,
 use crate::bank::{Bank, BankFault};
 use crate::shape::{Connective, Extension, Shape, WordOperator, WordTest};
 use crate::sort::{Node, Sort};
-use bit_words::{Side, Width};
+use plain_data::{Side, Width};
 
 // Terms by their parts' nodes.
 impl Bank {

@@ -1,10 +1,10 @@
 ghost use Rattle.std.specs.Prelude.{◌≡◌, ◌<◌, ◌^◌, IfSome};
-ghost use Rattle.bit_words.specs.Words.{bits};
+ghost use Rattle.plain_data.specs.Words.{bits};
 ghost use Rattle.term_bank.specs.Values.{result_of, outcome_of, converted, divided, shifted};
-ghost use Rattle.bit_words.specs.Words.{sdiv as signed_quotient, srem as signed_remainder};
+ghost use Rattle.plain_data.specs.Words.{sdiv as signed_quotient, srem as signed_remainder};
 
 use crate::shape::{Extension, WordOperator, WordTest};
-use bit_words::{
+use plain_data::{
     Width, add, add_over, ashr, div_over, lshr, mul, mul_over, sdiv, shl, shl_over, slt, srem, sub,
     sub_over, to_signed, udiv, ult, urem, wrap,
 };

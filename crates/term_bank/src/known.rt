@@ -8,7 +8,7 @@ use crate::bank::Bank;
 use crate::fold::{conversion, outcome, result};
 use crate::shape::{Connective, Shape};
 use crate::sort::{Node, Sort};
-use bit_words::Width;
+use plain_data::Width;
 
 /// The truth of one side that decides a connective.
 fn deciding(connective: Connective) -> bool

@@ -2,8 +2,8 @@ ghost use Rattle.std.specs.Prelude.{◌≡◌};
 ghost use Rattle.term_bank.specs.Shapes.{sort_of};
 
 use crate::sort::Sort;
-use bit_words::{Side, Width};
 use c_store::ObjectKind;
+use plain_data::{Side, Width};
 
 /// An operator on two words of one width. Division by 0 and a shift by the width or more give 0.
 #[derive(Clone, Copy, Debug, PartialEq, Eq, Hash)]

@@ -1,4 +1,4 @@
-use bit_words::Width;
+use plain_data::Width;
 
 /// What a node's value is.
 #[derive(Clone, Copy, Debug, PartialEq, Eq, Hash)]

@@ -7,12 +7,11 @@ use crate::blasting::blast_nodes;
 use crate::solving::{model_of, push, solver_of};
 use crate::terms::{Terms, Wish, read_terms};
 use anyhow::Result;
-use bit_words::World;
 use bitvectors::Blasted;
 use cdcl::Solver;
 use cnf_core::{Assignment, Formula, Lit};
 use gates::Bit;
-use plain_data::Rows;
+use plain_data::{Rows, World};
 use std::alloc::Global;
 
 /// The bit of a value at a place.

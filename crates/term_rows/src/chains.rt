@@ -8,8 +8,8 @@ use crate::blasting::blast_nodes;
 use crate::solving::{model_of, solver_of};
 use crate::terms::node_of;
 use anyhow::{Result, anyhow};
-use bit_words::Width;
 use bitvectors::Blasted;
+use plain_data::Width;
 use std::alloc::Global;
 use term_bank::{Bank, Connective, Node, Sort, WordTest};
 

@@ -1,6 +1,6 @@
 //! The names of what statements make.
 
-use bit_words::Width;
+use plain_data::Width;
 use term_bank::{Connective, Extension, WordOperator, WordTest};
 
 /// What a statement makes. Behind its name stand numbers: bits of words, values, and statements.

@@ -4,8 +4,8 @@ ghost use Rattle.term_bank.specs.Terms.{IsTerm};
 
 use crate::names::{Form, form_named, width_of};
 use anyhow::{Result, anyhow};
-use bit_words::{Width, wrap};
 use mem_terms::{initial, read};
+use plain_data::{Width, wrap};
 use std::alloc::Global;
 use std::str::SplitWhitespace;
 use term_bank::{Bank, Connective, Extension, Node, Sort, WordOperator, WordTest};

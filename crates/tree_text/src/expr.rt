@@ -1,10 +1,9 @@
 //! Expressions, and the types that stand in them. Each function goes down the tree by one node.
 use crate::spelling;
 use crate::text::Text;
-use c_tokens::IntegerConstant;
-use c_tree::{
-    ArrayWord, Declarator, Enumerator, Expr, Field, MemberDeclaration, Parameter, Qualifier,
-    Specifier, TypeName,
+use c_language::{
+    ArrayWord, Declarator, Enumerator, Expr, Field, IntegerConstant, MemberDeclaration, Parameter,
+    Qualifier, Specifier, TypeName,
 };
 use plain_data::Shared;
 use std::alloc::AllocError;

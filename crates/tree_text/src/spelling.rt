@@ -1,8 +1,7 @@
 //! How the words and operators of the tree are spelled.
-use c_tokens::IntegerType;
-use c_tree::{
-    AggregateKind, ArrayWord, BinaryOperator, PostfixOperator, Qualifier, StorageClass, TypeWord,
-    UnaryOperator,
+use c_language::{
+    AggregateKind, ArrayWord, BinaryOperator, IntegerType, PostfixOperator, Qualifier,
+    StorageClass, TypeWord, UnaryOperator,
 };
 
 pub fn unary(operator: UnaryOperator) -> &'static str {

@@ -1,7 +1,5 @@
-use bit_words::Bytes;
-use c_tokens::Name;
-use c_tree::TagName;
-use plain_data::Shared;
+use c_language::{Name, TagName};
+use plain_data::{Bytes, Shared};
 use std::alloc::{AllocError, Global};
 
 /// A text that grows by nodes, with or without their offsets.

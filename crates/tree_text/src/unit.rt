@@ -1,12 +1,11 @@
 //! Initializers, declarations, statements and units.
 use crate::expr::{declarator, expr, specifiers};
 use crate::text::Text;
-use bit_words::Bytes;
-use c_tree::{
+use c_language::{
     Body, Declaration, Designator, Expr, External, ForStart, InitDeclarator, Initializer,
     InitializerItem, Stmt,
 };
-use plain_data::Shared;
+use plain_data::{Bytes, Shared};
 use std::alloc::{AllocError, Global};
 
 fn designators(text: &mut Text, items: &[Designator]) -> Result<(), AllocError> {

@@ -5,10 +5,9 @@ use crate::faults::put_faults;
 use crate::naming::{put_meaning, put_value_of};
 use crate::sizing::{put_extent, put_value_line};
 use crate::text::put;
-use bit_words::Bytes;
-use c_tree::{Declaration, Declarator, Expr, External, InitDeclarator, Initializer, Specifier};
+use c_language::{Declaration, Declarator, Expr, External, InitDeclarator, Initializer, Specifier};
 use c_types::{DeclarationSaid, Entry, FunctionSaid, Means, Names, Scope};
-use plain_data::Shared;
+use plain_data::{Bytes, Shared};
 use std::alloc::{AllocError, Global};
 
 /// What is answered of each name.

@@ -1,8 +1,8 @@
 //! Broken rules, one a line.
 
 use crate::text::{put, put_next};
-use bit_words::Bytes;
 use c_types::{Fault, LayoutRule, Rule};
+use plain_data::Bytes;
 use std::alloc::AllocError;
 
 fn rule_name(rule: Rule) -> &'static str {

@@ -15,12 +15,11 @@ mod spelling;
 mod text;
 
 use anyhow::{Result, anyhow};
-use bit_words::Bytes;
+use c_language::{Tokens, Unit};
 use c_lexer::lex;
 use c_parser::parse;
-use c_tokens::Tokens;
-use c_tree::Unit;
 use declaring::{Answer, put_unit};
+use plain_data::Bytes;
 use std::alloc::Global;
 use std::env;
 use std::io::{self, Read, Write};

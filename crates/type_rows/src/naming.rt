@@ -5,9 +5,9 @@
 
 use crate::spelling::put_type;
 use crate::text::{put, put_name, put_value};
-use bit_words::Bytes;
-use c_tree::{Expr, TypeName};
+use c_language::{Expr, TypeName};
 use c_types::{CType, Entry, Means, Names, Shown, Tables, Told, TypeFault, layout, typed};
+use plain_data::Bytes;
 use std::alloc::{AllocError, Global};
 
 fn put_typed_name(

@@ -4,13 +4,12 @@
 //! where an object's initializer is a constant expression.
 
 use crate::text::{put, put_name, put_next, put_value};
-use bit_words::Bytes;
-use c_tokens::Name;
-use c_tree::Expr;
+use c_language::{Expr, Name};
 use c_types::{
     CType, Content, Entry, Layout, Means, Member, Names, Tables, TypeFault, align_of, const_value,
     size_of,
 };
+use plain_data::Bytes;
 use std::alloc::{AllocError, Global};
 
 fn put_sizes(tables: &Tables, ctype: &CType, text: &mut Bytes) -> Result<(), AllocError> {

@@ -2,11 +2,11 @@
 //! returning void`. A structure, union or enumeration is shown by its number in the tables.
 
 use crate::text::{put, put_count, put_next};
-use bit_words::Bytes;
 use c_types::{
     AggregateForm, Base, CType, Derivation, Domain, FloatingKind, IntegerKind, Prototype,
     Qualifiers, RealKind, Signature, Tables,
 };
+use plain_data::Bytes;
 use std::alloc::AllocError;
 
 fn integer_name(kind: IntegerKind) -> &'static str {

@@ -1,7 +1,7 @@
 //! Words and numbers at the end of a text. Each call fails for want of memory alone.
 
-use bit_words::Bytes;
-use c_tokens::Name;
+use c_language::Name;
+use plain_data::Bytes;
 use std::alloc::AllocError;
 
 /// Puts words at the end.

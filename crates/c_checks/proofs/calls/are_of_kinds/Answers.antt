@@ -3,7 +3,7 @@ use Rattle.std.proofs.Math.Seq.{drop-cons}
 use Rattle.std.proofs.lemmas.List.{nil_from_length}
 use Rattle.printf_text.specs.declared.kind.Kind.{Kind}
 use Rattle.printf_text.specs.declared.kind.Kind.TheVariants as kind
-use Rattle.c_runs.specs.Checks.{are_of_kinds}
+use Rattle.c_means.specs.Checks.{are_of_kinds}
 use Rattle.c_checks.proofs.calls.are_of_kinds.Goals as goal
 
 short : (ks : List Kind) (i : ℕ) → i < length ks → are_of_kinds (drop i ks) [] ≡ false

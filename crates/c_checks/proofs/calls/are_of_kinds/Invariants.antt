@@ -1,5 +1,5 @@
 use Rattle.std.proofs.Common.{◌≡◌, drop}
-use Rattle.c_runs.specs.Checks.{are_of_kinds}
+use Rattle.c_means.specs.Checks.{are_of_kinds}
 use Rattle.c_checks.proofs.calls.are_of_kinds.Given as goal
 
 abbrev pub invariant-loop-kind : goal.invariant-loop-kind

@@ -1,5 +1,5 @@
 use Rattle.std.proofs.Common.{◌≡◌, drop}
-use Rattle.c_runs.specs.Statements.{is_among}
+use Rattle.c_means.specs.Statements.{is_among}
 use Rattle.c_checks.proofs.cases.is_among.Given as goal
 
 abbrev pub invariant-loop-case : goal.invariant-loop-case

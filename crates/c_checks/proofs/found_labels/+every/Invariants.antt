@@ -1,6 +1,6 @@
 use Rattle.std.proofs.Common.{◌≡◌, ◌++◌, map, drop}
-use Rattle.c_runs.specs.Items.{every_of}
-use Rattle.c_runs.specs.Statements.{stmt}
+use Rattle.c_means.specs.Items.{every_of}
+use Rattle.c_means.specs.Statements.{stmt}
 use Rattle.c_checks.proofs.found_labels.+every.Given as goal
 
 abbrev pub invariant-every_among-loop-stmt : goal.invariant-every_among-loop-stmt

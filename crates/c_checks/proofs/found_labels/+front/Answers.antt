@@ -1,8 +1,8 @@
 use Rattle.std.proofs.Common.{List, refl}
 use Rattle.std.proofs.lemmas.Result.{on_ok_weaker}
-use Rattle.c_tree.specs.declared.unit.Stmt.{Stmt}
-use Rattle.c_runs.specs.Items.{Label}
-use Rattle.c_runs.specs.Statements.{stmt}
+use Rattle.c_language.specs.declared.unit.Stmt.{Stmt}
+use Rattle.c_means.specs.Items.{Label}
+use Rattle.c_means.specs.Statements.{stmt}
 use Rattle.c_checks.proofs.Labeling as labeling
 use Rattle.c_checks.proofs.found_labels.+front.Goals as goal
 

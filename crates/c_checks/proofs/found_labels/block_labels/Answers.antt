@@ -1,8 +1,8 @@
 use Rattle.std.proofs.Common.{List, map, sym, ◌∙◌}
 use Rattle.std.proofs.lemmas.Result.{on_ok_weaker}
-use Rattle.c_tree.specs.declared.unit.Stmt.{Stmt}
-use Rattle.c_runs.specs.Items.{labels_of}
-use Rattle.c_runs.specs.Statements.{stmt}
+use Rattle.c_language.specs.declared.unit.Stmt.{Stmt}
+use Rattle.c_means.specs.Items.{labels_of}
+use Rattle.c_means.specs.Statements.{stmt}
 use Rattle.c_checks.proofs.Labeling as labeling
 use Rattle.c_checks.proofs.found_labels.block_labels.Goals as goal
 

@@ -1,5 +1,5 @@
 use Rattle.std.proofs.Common.{◌≡◌, drop}
-use Rattle.c_runs.specs.Statements.{stood_before}
+use Rattle.c_means.specs.Statements.{stood_before}
 use Rattle.c_checks.proofs.labels.stood_before.Given as goal
 
 abbrev pub invariant-loop-label : goal.invariant-loop-label

@@ -1,7 +1,7 @@
 use Rattle.std.proofs.Common.{◌≡◌, None, drop}
 use Rattle.std.specs.Option.{option_copied}
 use Rattle.std.specs.Str.{bytes_eq}
-use Rattle.c_says.specs.Scopes.{last_where}
+use Rattle.c_language.specs.Scopes.{last_where}
 use Rattle.c_checks.proofs.profile.log_function.Given as goal
 
 abbrev pub invariant-loop-function : goal.invariant-loop-function

@@ -1,5 +1,5 @@
 use Rattle.std.proofs.Common.{◌≡◌, drop}
-use Rattle.c_runs.specs.Rules.{all_same, plain_all}
+use Rattle.c_means.specs.Rules.{all_same, plain_all}
 use Rattle.c_checks.specs.Takings.{all_plain}
 use Rattle.c_checks.proofs.takings.are_plain.Given as goal
 

@@ -1,9 +1,9 @@
 use Rattle.std.proofs.Common.{◌≡◌, [], IfOk, map, ap, subst, ◌∙◌}
-use Rattle.c_says.specs.Scopes.{empty}
-use Rattle.c_says.specs.Declares.{said_by}
-use Rattle.c_says.specs.Declarations.{Declares, is_alone}
-use Rattle.c_says.specs.Trees.{specifier_says}
-use Rattle.c_says.specs.Units.{declaration_says}
+use Rattle.c_language.specs.Scopes.{empty}
+use Rattle.c_language.specs.Declares.{said_by}
+use Rattle.c_language.specs.Declarations.{Declares, is_alone}
+use Rattle.c_language.specs.Trees.{specifier_says}
+use Rattle.c_language.specs.Units.{declaration_says}
 use Rattle.c_declarations.specs.Views.{declares_in, each_as, item_of}
 use Rattle.c_declarations.proofs.Wholes.{specified_free, whole_is}
 use Rattle.c_declarations.proofs.declarations.declaration_says.Goals as goal

@@ -1,10 +1,10 @@
 use Rattle.std.proofs.Common.{Option, sym, ap, ◌∙◌}
 use Rattle.std.proofs.lemmas.Result.{IfOk-weaker}
-use Rattle.c_tree.specs.declared.unit.Initializer.{Initializer}
-use Rattle.c_says.specs.Declares.{derived_from, formed_type}
-use Rattle.c_says.specs.Declarations.{declared_formed}
-use Rattle.c_says.specs.Trees.{typed}
-use Rattle.c_says.specs.Units.{initial_if, initial_says, initialises}
+use Rattle.c_language.specs.declared.unit.Initializer.{Initializer}
+use Rattle.c_language.specs.Declares.{derived_from, formed_type}
+use Rattle.c_language.specs.Declarations.{declared_formed}
+use Rattle.c_language.specs.Trees.{typed}
+use Rattle.c_language.specs.Units.{initial_if, initial_says, initialises}
 use Rattle.c_declarations.specs.Beginnings.{Begins, filled_by, plainly}
 use Rattle.c_declarations.proofs.BegunLaws.{filled_is, plainly_is}
 use Rattle.c_declarations.proofs.declarators.declares.Goals as goal

@@ -1,5 +1,5 @@
 use Rattle.std.proofs.Common.{◌≡◌, ◌++◌, drop}
-use Rattle.c_says.specs.Declarations.{parameters_faults}
+use Rattle.c_language.specs.Declarations.{parameters_faults}
 use Rattle.c_declarations.proofs.functions.parameters_faults.Given as goal
 
 abbrev pub invariant-loop-entry : goal.invariant-loop-entry

@@ -1,6 +1,6 @@
 use Rattle.std.proofs.Common.{◌≡◌, drop}
-use Rattle.c_type_terms.specs.Types.{with_both}
-use Rattle.c_says.specs.Declares.{all_qualifiers}
+use Rattle.c_language.specs.Types.{with_both}
+use Rattle.c_language.specs.Declares.{all_qualifiers}
 use Rattle.c_declares.proofs.declarators.all_qualifiers.Given as goal
 
 abbrev pub invariant-loop-qualifier : goal.invariant-loop-qualifier

@@ -1,6 +1,6 @@
 use Rattle.std.proofs.Common.{◌≡◌, drop}
-use Rattle.c_type_terms.specs.Types.{with_both}
-use Rattle.c_says.specs.Declares.{qualifiers_among}
+use Rattle.c_language.specs.Types.{with_both}
+use Rattle.c_language.specs.Declares.{qualifiers_among}
 use Rattle.c_declares.proofs.declarators.qualifiers_among.Given as goal
 
 abbrev pub invariant-loop-word : goal.invariant-loop-word

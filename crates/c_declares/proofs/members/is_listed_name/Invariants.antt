@@ -1,5 +1,5 @@
 use Rattle.std.proofs.Common.{◌≡◌, drop}
-use Rattle.c_says.specs.Declares.{is_listed_name}
+use Rattle.c_language.specs.Declares.{is_listed_name}
 use Rattle.c_declares.proofs.members.is_listed_name.Given as goal
 
 abbrev pub invariant-loop-listed : goal.invariant-loop-listed

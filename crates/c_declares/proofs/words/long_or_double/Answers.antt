@@ -1,5 +1,5 @@
 use Rattle.std.proofs.Common.{◌∙◌, ap, sym}
-use Rattle.c_says.specs.Declares.{double_kind, is_long}
+use Rattle.c_language.specs.Declares.{double_kind, is_long}
 use Rattle.c_declares.proofs.Counts.{has_any}
 use Rattle.c_declares.proofs.words.long_or_double.Goals as goal
 

@@ -1,5 +1,5 @@
 use Rattle.std.proofs.Common.{◌≡◌, drop}
-use Rattle.c_says.specs.Declares.{type_by}
+use Rattle.c_language.specs.Declares.{type_by}
 use Rattle.c_declares.proofs.words.type_of_words.Given as goal
 
 abbrev pub invariant-loop-word : goal.invariant-loop-word

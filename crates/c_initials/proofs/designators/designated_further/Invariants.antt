@@ -1,8 +1,8 @@
 use Rattle.std.proofs.Common.{◌≡◌, drop, map}
-use Rattle.c_tree.specs.declared.expr.Expr.{Expr}
-use Rattle.c_says.specs.Initials.{designated_further}
-use Rattle.c_says.specs.Trees.{typed}
-use Rattle.c_says.specs.Units.{designated}
+use Rattle.c_language.specs.declared.expr.Expr.{Expr}
+use Rattle.c_language.specs.Initials.{designated_further}
+use Rattle.c_language.specs.Trees.{typed}
+use Rattle.c_language.specs.Units.{designated}
 use Rattle.c_initials.specs.Filled.{filling_in}
 use Rattle.c_initials.proofs.designators.designated_further.Given as goal
 

@@ -1,5 +1,5 @@
 use Rattle.std.proofs.Common.{◌≡◌, drop}
-use Rattle.c_says.specs.Initials.{member_number}
+use Rattle.c_language.specs.Initials.{member_number}
 use Rattle.c_initials.proofs.designators.number_among.Given as goal
 
 abbrev pub invariant-loop-i : goal.invariant-loop-i

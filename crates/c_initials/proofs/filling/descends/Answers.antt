@@ -1,6 +1,6 @@
 use Rattle.std.proofs.Common.{◌≡◌, suc, ◌-◌, ap, sym, ◌∙◌, arith}
-use Rattle.c_says.specs.Typing.{typed_in}
-use Rattle.c_says.specs.Initials.{descends, with_part_left}
+use Rattle.c_language.specs.Typing.{typed_in}
+use Rattle.c_language.specs.Initials.{descends, with_part_left}
 use Rattle.c_initials.proofs.Descending.{deeper, found}
 use Rattle.c_initials.proofs.filling.descends.Goals as goal
 

@@ -1,6 +1,6 @@
 use Rattle.std.proofs.Common.{◌≡◌}
-use Rattle.c_says.specs.Typing.{typed_in}
-use Rattle.c_says.specs.Initials.{descends, most_levels}
+use Rattle.c_language.specs.Typing.{typed_in}
+use Rattle.c_language.specs.Initials.{descends, most_levels}
 use Rattle.c_initials.proofs.filling.descends.Given as goal
 
 abbrev pub invariant-levels : goal.invariant-levels

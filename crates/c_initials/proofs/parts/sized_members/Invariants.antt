@@ -1,5 +1,5 @@
 use Rattle.std.proofs.Common.{◌≡◌, ◌++◌, take, drop}
-use Rattle.c_says.specs.Initials.{sized_members}
+use Rattle.c_language.specs.Initials.{sized_members}
 use Rattle.c_initials.proofs.parts.sized_members.Given as goal
 
 abbrev pub invariant-loop-i : goal.invariant-loop-i

@@ -1,9 +1,9 @@
 use Rattle.std.proofs.Common.{◌≡◌, IfOk, map, ap, sym, subst, ◌∙◌}
-use Rattle.c_says.specs.Scopes.{empty}
-use Rattle.c_says.specs.Typing.{typed_in}
-use Rattle.c_says.specs.Initials.{Filling, fills_value, fills_list, with_part_left}
-use Rattle.c_says.specs.Trees.{typed}
-use Rattle.c_says.specs.Units.{initial_says}
+use Rattle.c_language.specs.Scopes.{empty}
+use Rattle.c_language.specs.Typing.{typed_in}
+use Rattle.c_language.specs.Initials.{Filling, fills_value, fills_list, with_part_left}
+use Rattle.c_language.specs.Trees.{typed}
+use Rattle.c_language.specs.Units.{initial_says}
 use Rattle.c_initials.specs.Filled.{Filled, filling_in}
 use Rattle.c_initials.specs.Said.{item_fills}
 use Rattle.c_initials.proofs.Listed.{value_fills, list_fills, scope_free, frames_free}

@@ -1,5 +1,5 @@
 use Rattle.std.proofs.Common.{◌≡◌, drop, map}
-use Rattle.c_says.specs.Initials.{fills_all}
+use Rattle.c_language.specs.Initials.{fills_all}
 use Rattle.c_initials.specs.Filled.{filling_in}
 use Rattle.c_initials.specs.Said.{item_fills}
 use Rattle.c_initials.proofs.trees.+initial.Given as goal

@@ -1,6 +1,6 @@
 use Rattle.std.proofs.Common.{◌≡◌, [], ◌∷◌, IfOk, map, ap, sym, subst, ◌∙◌}
-use Rattle.c_says.specs.Initials.{Part, Filling, started, filling_of, fills_all}
-use Rattle.c_says.specs.Units.{initial_says}
+use Rattle.c_language.specs.Initials.{Part, Filling, started, filling_of, fills_all}
+use Rattle.c_language.specs.Units.{initial_says}
 use Rattle.c_initials.specs.Filled.{Filled, filling_in, no_filling}
 use Rattle.c_initials.specs.Said.{item_fills}
 use Rattle.c_initials.proofs.Listed.{list_of}

@@ -1,7 +1,7 @@
 use Rattle.std.proofs.Common.{sym, ap, ◌∙◌}
 use Rattle.std.proofs.lemmas.Result.{IfOk-weaker}
-use Rattle.c_says.specs.Declares.{DeclaratorSays, Formed}
-use Rattle.c_runs.specs.Statements.{declaring}
+use Rattle.c_language.specs.Declares.{DeclaratorSays, Formed}
+use Rattle.c_means.specs.Statements.{declaring}
 use Rattle.c_item_notes.specs.Levels.{judged}
 use Rattle.c_item_notes.specs.ItemTellings.{item_as, summed}
 use Rattle.c_item_notes.proofs.Declaring.{declarator_is}

@@ -1,9 +1,9 @@
 use Rattle.std.proofs.Common.{◌≡◌, [], IfOk, Option, map, ap, subst, ◌∙◌}
-use Rattle.c_type_terms.specs.declared.ctype.CType.{CType}
-use Rattle.c_says.specs.Declares.{said_by}
-use Rattle.c_says.specs.Trees.{specifier_says}
-use Rattle.c_runs.specs.Items.{typing}
-use Rattle.c_runs.specs.Statements.{declaration, declaring, is_alone}
+use Rattle.c_language.specs.declared.ctype.CType.{CType}
+use Rattle.c_language.specs.Declares.{said_by}
+use Rattle.c_language.specs.Trees.{specifier_says}
+use Rattle.c_means.specs.Items.{typing}
+use Rattle.c_means.specs.Statements.{declaration, declaring, is_alone}
 use Rattle.c_checks.specs.Refusals.{least_of}
 use Rattle.c_item_notes.specs.declared.items.ItemNotes.{ItemNotes}
 use Rattle.c_item_notes.specs.Levels.{judged}

@@ -1,12 +1,12 @@
 use Rattle.std.proofs.Common.{ℕ, Option, not, sym, ap, ◌∙◌}
 use Rattle.std.proofs.lemmas.Result.{IfOk-weaker}
 use Rattle.std.specs.Prelude.{option_map}
-use Rattle.c_tree.specs.declared.unit.Initializer.{Initializer}
-use Rattle.c_says.specs.Declarations.{is_extern}
+use Rattle.c_language.specs.declared.unit.Initializer.{Initializer}
+use Rattle.c_language.specs.Declarations.{is_extern}
 use Rattle.c_declares.specs.Views.{formed_in}
 use Rattle.c_declarations.specs.Beginnings.{Begins, begins_in, plainly}
-use Rattle.c_runs.specs.Initials.{initially}
-use Rattle.c_runs.specs.Statements.{name_offset}
+use Rattle.c_means.specs.Initials.{initially}
+use Rattle.c_means.specs.Statements.{name_offset}
 use Rattle.c_item_notes.specs.Levels.{judged}
 use Rattle.c_item_notes.specs.InitialTellings.{no_notes}
 use Rattle.c_item_notes.specs.ItemTellings.{begun_item, declared_notes, item_as, summed}

@@ -1,5 +1,5 @@
 use Rattle.std.proofs.Common.{◌≡◌, drop, map}
-use Rattle.c_runs.specs.Statements.{declaring}
+use Rattle.c_means.specs.Statements.{declaring}
 use Rattle.c_item_notes.specs.Levels.{judged}
 use Rattle.c_item_notes.specs.ItemTellings.{items_from, summed_in}
 use Rattle.c_item_notes.proofs.declarations.each_declarator.Given as goal

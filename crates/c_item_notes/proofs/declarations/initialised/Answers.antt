@@ -1,8 +1,8 @@
 use Rattle.std.proofs.Common.{[], None, sym, ap, ◌∙◌, true}
 use Rattle.std.proofs.lemmas.Result.{IfOk-weaker}
-use Rattle.c_says.specs.Declarations.{Declared}
+use Rattle.c_language.specs.Declarations.{Declared}
 use Rattle.c_declarations.specs.Beginnings.{begins_in, filled}
-use Rattle.c_runs.specs.Initials.{initially}
+use Rattle.c_means.specs.Initials.{initially}
 use Rattle.c_item_notes.specs.declared.initials.InitialNotes.{InitialNotes}
 use Rattle.c_item_notes.specs.Levels.{judged}
 use Rattle.c_item_notes.specs.ItemTellings.{declared_notes}

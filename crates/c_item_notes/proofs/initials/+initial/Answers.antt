@@ -1,12 +1,12 @@
 use Rattle.std.proofs.Common.{List, map, refl, ap, ◌∙◌}
 use Rattle.std.proofs.lemmas.Result.{IfOk-weaker}
-use Rattle.c_tree.specs.declared.expr.Expr.{Expr}
-use Rattle.c_tree.specs.declared.unit.InitializerItem.{InitializerItem}
-use Rattle.c_says.specs.Initials.{Filling, fills_all, list_says}
+use Rattle.c_language.specs.declared.expr.Expr.{Expr}
+use Rattle.c_language.specs.declared.unit.InitializerItem.{InitializerItem}
+use Rattle.c_language.specs.Initials.{Filling, fills_all, list_says}
 use Rattle.c_typing.proofs.Declares as parts
 use Rattle.c_initials.specs.Filled.{filling_in}
-use Rattle.c_runs.specs.Initials.{all_elements, all_fills, initially, listed_item}
-use Rattle.c_runs.specs.Notes.{noted}
+use Rattle.c_means.specs.Initials.{all_elements, all_fills, initially, listed_item}
+use Rattle.c_means.specs.Notes.{noted}
 use Rattle.c_item_notes.specs.declared.initials.InitialNotes.{InitialNotes}
 use Rattle.c_item_notes.specs.Levels.{judged, heard}
 use Rattle.c_item_notes.specs.InitialTellings.{Seen, see, seen_in}

@@ -1,10 +1,10 @@
 use Rattle.std.proofs.Common.{map, ap, ◌∙◌}
 use Rattle.std.proofs.lemmas.Result.{IfOk-weaker}
-use Rattle.c_tree.specs.declared.expr.Expr.{Expr}
-use Rattle.c_says.specs.Initials.{fills_all}
+use Rattle.c_language.specs.declared.expr.Expr.{Expr}
+use Rattle.c_language.specs.Initials.{fills_all}
 use Rattle.c_initials.specs.Filled.{filling_in}
-use Rattle.c_runs.specs.Initials.{all_elements, all_fills, listed_item}
-use Rattle.c_runs.specs.Notes.{noted}
+use Rattle.c_means.specs.Initials.{all_elements, all_fills, listed_item}
+use Rattle.c_means.specs.Notes.{noted}
 use Rattle.c_item_notes.specs.declared.initials.InitialNotes.{InitialNotes}
 use Rattle.c_item_notes.specs.Levels.{judged, heard}
 use Rattle.c_item_notes.specs.InitialTellings.{and_value, no_notes, see, seen_in}

@@ -1,6 +1,6 @@
 use Rattle.std.proofs.Common.{◌≡◌, ◌≤◌, drop, length, pos}
-use Rattle.bit_words.specs.Words.{from_bytes}
-use Rattle.c_type_terms.specs.Integers.{is_zero}
+use Rattle.plain_data.specs.Words.{from_bytes}
+use Rattle.c_language.specs.Integers.{is_zero}
 use Rattle.c_machine.proofs.value.are_zero.Given as goal
 
 abbrev pub invariant-bytes : goal.invariant-bytes

@@ -1,5 +1,5 @@
 use Rattle.std.proofs.Common.{arith, ap, ◌∙◌}
-use Rattle.bit_words.specs.Words.{from_bytes}
+use Rattle.plain_data.specs.Words.{from_bytes}
 use Rattle.c_machine.proofs.Spelling.{from_drop, past_the_end}
 use Rattle.c_machine.proofs.value.behind.Goals as goal
 

@@ -1,5 +1,5 @@
 use Rattle.std.proofs.Common.{arith, rules}
-use Rattle.bit_words.specs.Words.{to_bytes, from_bytes}
+use Rattle.plain_data.specs.Words.{to_bytes, from_bytes}
 use Rattle.c_machine.proofs.Spelling.{one_more}
 use Rattle.c_machine.proofs.value.first.Goals as goal
 

@@ -1,5 +1,5 @@
 use Rattle.std.proofs.Common.{◌≡◌, ◌++◌}
-use Rattle.bit_words.specs.Words.{to_bytes, from_bytes}
+use Rattle.plain_data.specs.Words.{to_bytes, from_bytes}
 use Rattle.c_machine.proofs.value.first.Given as goal
 
 abbrev pub invariant-bytes : goal.invariant-bytes

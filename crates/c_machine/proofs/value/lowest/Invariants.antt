@@ -1,5 +1,5 @@
 use Rattle.std.proofs.Common.{◌≡◌, ◌≤◌, ◌%◌, ◌^◌, drop, length}
-use Rattle.bit_words.specs.Words.{from_bytes}
+use Rattle.plain_data.specs.Words.{from_bytes}
 use Rattle.c_machine.proofs.value.lowest.Given as goal
 
 abbrev pub invariant-bytes : goal.invariant-bytes

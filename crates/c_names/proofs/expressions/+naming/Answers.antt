@@ -1,7 +1,7 @@
 use Rattle.std.proofs.Common.{ℕ, List, ◌∷◌, Some, map, ap, ◌∙◌}
 use Rattle.c_means.specs.Expressions.{joined}
-use Rattle.c_runs.specs.Names.{literal, all, settled, derived, function_names, with_name, names_of}
-use Rattle.c_runs.specs.Names.{declarator_names, specifier_of}
+use Rattle.c_means.specs.Names.{literal, all, settled, derived, function_names, with_name, names_of}
+use Rattle.c_means.specs.Names.{declarator_names, specifier_of}
 use Rattle.c_names.specs.Trees.{field_names, enumerator_names, member_names, parameter_names, type_name_names}
 use Rattle.c_names.proofs.Arms as arms
 use Rattle.c_names.proofs.NamesOf as names

@@ -1,5 +1,5 @@
 use Rattle.std.proofs.Common.{◌≡◌, drop}
-use Rattle.c_runs.specs.Names.{names_of, specifier_of}
+use Rattle.c_means.specs.Names.{names_of, specifier_of}
 use Rattle.c_names.specs.Trees.{member_names, field_names, enumerator_names, parameter_names}
 use Rattle.c_names.specs.Working.{put_each}
 use Rattle.c_names.proofs.expressions.+naming.Given as goal

@@ -1,5 +1,5 @@
 use Rattle.std.proofs.Common.{◌≡◌, drop}
-use Rattle.c_runs.specs.Programs.{declares_some}
+use Rattle.c_means.specs.Programs.{declares_some}
 use Rattle.c_names.proofs.needs.is_needed.Given as goal
 
 abbrev pub invariant-loop-binding : goal.invariant-loop-binding

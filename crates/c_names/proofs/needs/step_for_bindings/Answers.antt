@@ -1,5 +1,5 @@
 use Rattle.std.proofs.Common.{◌*◌, List, length, refl}
-use Rattle.c_runs.specs.Names.{Binding}
+use Rattle.c_means.specs.Names.{Binding}
 use Rattle.c_names.specs.declared.needs.Needing.{Needing}
 use Rattle.c_names.specs.Needs.{steps}
 use Rattle.c_names.proofs.Loops.{goes-on}

@@ -1,5 +1,5 @@
 use Rattle.std.proofs.Common.{◌≡◌, drop}
-use Rattle.c_runs.specs.Names.{is_among}
+use Rattle.c_means.specs.Names.{is_among}
 use Rattle.c_names.proofs.parting.is_among.Given as goal
 
 abbrev pub invariant-loop-binding : goal.invariant-loop-binding

@@ -1,5 +1,5 @@
 use Rattle.std.proofs.Common.{◌∷◌, map, ap, ◌∙◌}
-use Rattle.c_runs.specs.Names.{all, scoped, names_of, stmt_names}
+use Rattle.c_means.specs.Names.{all, scoped, names_of, stmt_names}
 use Rattle.c_names.proofs.Arms as arms
 use Rattle.c_names.proofs.NamesOf as names
 use Rattle.c_names.proofs.statements.+statement.Goals as goal

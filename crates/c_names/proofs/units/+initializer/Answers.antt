@@ -1,5 +1,5 @@
 use Rattle.std.proofs.Common.{◌∷◌, map, ap, ◌∙◌}
-use Rattle.c_runs.specs.Names.{all, all_of, names_of, designator_names, initializer_names}
+use Rattle.c_means.specs.Names.{all, all_of, names_of, designator_names, initializer_names}
 use Rattle.c_names.specs.Trees.{item_names}
 use Rattle.c_names.proofs.Arms as arms
 use Rattle.c_names.proofs.NamesOf as names

@@ -1,5 +1,5 @@
 use Rattle.std.proofs.Common.{◌≡◌, drop}
-use Rattle.c_runs.specs.Names.{declared_names}
+use Rattle.c_means.specs.Names.{declared_names}
 use Rattle.c_names.specs.Working.{put_each}
 use Rattle.c_names.proofs.units.put_all_declared.Given as goal
 

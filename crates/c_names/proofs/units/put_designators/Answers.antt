@@ -1,4 +1,4 @@
-use Rattle.c_runs.specs.Names.{designator_names}
+use Rattle.c_means.specs.Names.{designator_names}
 use Rattle.c_names.proofs.Arms as arms
 use Rattle.c_names.proofs.units.put_designators.Goals as goal
 

@@ -1,5 +1,5 @@
 use Rattle.std.proofs.Common.{◌≡◌, drop}
-use Rattle.c_runs.specs.Programs.{has_word}
+use Rattle.c_means.specs.Programs.{has_word}
 use Rattle.c_names.proofs.words.has_word.Given as goal
 
 abbrev pub invariant-loop-other : goal.invariant-loop-other

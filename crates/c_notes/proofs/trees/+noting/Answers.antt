@@ -1,10 +1,10 @@
 use Rattle.std.proofs.Common.{List, [], refl, ap, ◌∙◌}
 use Rattle.std.proofs.lemmas.Result.{IfOk-weaker}
-use Rattle.c_tree.specs.declared.expr.Expr.{Expr}
-use Rattle.c_says.specs.Typing as spec
+use Rattle.c_language.specs.declared.expr.Expr.{Expr}
+use Rattle.c_language.specs.Typing as spec
 use Rattle.c_typing.proofs.Declares as parts
 use Rattle.c_typing.proofs.Says as says
-use Rattle.c_runs.specs.Notes.{noted}
+use Rattle.c_means.specs.Notes.{noted}
 use Rattle.c_notes.specs.declared.arguments.ArgumentNotes.{ArgumentNotes}
 use Rattle.c_notes.specs.Tellings as tell
 use Rattle.c_notes.specs.Relations.{IsNoted, Passed, with_argument, with_arguments, behind}

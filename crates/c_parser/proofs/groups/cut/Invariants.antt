@@ -1,5 +1,5 @@
 use Rattle.std.proofs.Common.{◌≡◌, ◌≤◌, ◌-◌, ◌∷◌, [], length, take, drop}
-use Rattle.c_tokens.specs.declared.token.Punctuator.TheVariants as mark
+use Rattle.c_language.specs.declared.token.Punctuator.TheVariants as mark
 use Rattle.c_grammar.specs.UnitReading as spec
 use Rattle.c_parser.specs.Groups.{fronted}
 use Rattle.c_parser.proofs.groups.cut.Given as goal

@@ -1,5 +1,5 @@
 use Rattle.std.proofs.Common.{refl}
-use Rattle.c_runs.specs.Prelude as texts
+use Rattle.c_means.specs.Prelude as texts
 use Rattle.c_prelude.proofs.Made.{made_is}
 use Rattle.c_prelude.proofs.functions.memset.Goals as goal
 

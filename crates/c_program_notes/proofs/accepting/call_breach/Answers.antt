@@ -1,5 +1,5 @@
 use Rattle.std.proofs.Common.{sym, ap, ◌∙◌}
-use Rattle.c_says.specs.Scopes.{Name}
+use Rattle.c_language.specs.Scopes.{Name}
 use Rattle.c_reach.specs.Reaching.{named_in}
 use Rattle.c_program_notes.specs.Refused.{call_by, counted_call}
 use Rattle.c_program_notes.proofs.accepting.call_breach.Goals as goal

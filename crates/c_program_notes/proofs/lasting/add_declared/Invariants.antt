@@ -1,5 +1,5 @@
 use Rattle.std.proofs.Common.{◌≡◌, ◌++◌, drop}
-use Rattle.c_runs.specs.Runs.{place_in}
+use Rattle.c_means.specs.Runs.{place_in}
 use Rattle.c_program_notes.specs.Placed.{declared_objects}
 use Rattle.c_program_notes.proofs.lasting.add_declared.Given as goal
 

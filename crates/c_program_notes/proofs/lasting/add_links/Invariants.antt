@@ -1,5 +1,5 @@
 use Rattle.std.proofs.Common.{◌≡◌, ◌++◌, drop}
-use Rattle.c_runs.specs.Runs.{place_in}
+use Rattle.c_means.specs.Runs.{place_in}
 use Rattle.core_programs.specs.Programs.{link_objects}
 use Rattle.c_program_notes.proofs.lasting.add_links.Given as goal
 

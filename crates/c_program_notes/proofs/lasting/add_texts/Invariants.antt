@@ -1,5 +1,5 @@
 use Rattle.std.proofs.Common.{◌≡◌, ◌++◌, drop, map}
-use Rattle.c_runs.specs.Runs.{place_in}
+use Rattle.c_means.specs.Runs.{place_in}
 use Rattle.core_programs.specs.Programs.{text_object}
 use Rattle.c_program_notes.proofs.lasting.add_texts.Given as goal
 

@@ -1,5 +1,5 @@
 use Rattle.std.proofs.lemmas.Result.{IfOk-weaker}
-use Rattle.c_says.specs.Units.{function_says}
+use Rattle.c_language.specs.Units.{function_says}
 use Rattle.c_item_notes.specs.Levels.{judged}
 use Rattle.c_program_notes.specs.Summaries.{defined_outer}
 use Rattle.c_program_notes.proofs.EachOuter.{assembled}

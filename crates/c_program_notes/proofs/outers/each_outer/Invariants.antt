@@ -1,5 +1,5 @@
 use Rattle.std.proofs.Common.{◌≡◌, drop, map}
-use Rattle.c_runs.specs.Programs.{in_order, outer, program_of}
+use Rattle.c_means.specs.Programs.{in_order, outer, program_of}
 use Rattle.c_item_notes.specs.Levels.{judged}
 use Rattle.c_program_notes.specs.Summaries.{goes_on, program_notes}
 use Rattle.c_program_notes.proofs.outers.each_outer.Given as goal

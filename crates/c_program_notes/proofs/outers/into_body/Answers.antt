@@ -1,7 +1,7 @@
 use Rattle.std.proofs.Common.{◌≡◌, OnOk, ap, subst, ◌∙◌}
 use Rattle.std.proofs.lemmas.Result.{IfOk-weaker}
-use Rattle.c_says.specs.Scopes.{Scope}
-use Rattle.c_says.specs.Declarations.{FunctionSaid}
+use Rattle.c_language.specs.Scopes.{Scope}
+use Rattle.c_language.specs.Declarations.{FunctionSaid}
 use Rattle.c_program_notes.specs.Summaries.{head_of}
 use Rattle.c_program_notes.proofs.outers.into_body.Goals as goal
 

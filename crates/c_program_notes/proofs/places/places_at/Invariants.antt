@@ -1,5 +1,5 @@
 use Rattle.std.proofs.Common.{◌≡◌, ◌++◌, drop, map}
-use Rattle.c_runs.specs.Runs.{place_in}
+use Rattle.c_means.specs.Runs.{place_in}
 use Rattle.c_program_notes.proofs.places.places_at.Given as goal
 
 abbrev pub invariant-loop-offset : goal.invariant-loop-offset

@@ -1,5 +1,5 @@
 use Rattle.std.proofs.Common.{◌≡◌, ◌≤◌, drop, length}
-use Rattle.c_runs.specs.Programs.{in_file}
+use Rattle.c_means.specs.Programs.{in_file}
 use Rattle.c_program_notes.proofs.watched.in_file.Given as goal
 
 abbrev pub invariant-words : goal.invariant-words

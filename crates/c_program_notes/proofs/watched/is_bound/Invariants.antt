@@ -1,5 +1,5 @@
 use Rattle.std.proofs.Common.{◌≡◌, drop}
-use Rattle.c_runs.specs.Programs.{is_bound}
+use Rattle.c_means.specs.Programs.{is_bound}
 use Rattle.c_program_notes.proofs.watched.is_bound.Given as goal
 
 abbrev pub invariant-loop-offset : goal.invariant-loop-offset

@@ -1,5 +1,5 @@
 use Rattle.std.proofs.Common.{List, length, ap, ◌∙◌}
-use Rattle.c_says.specs.Scopes.{Name}
+use Rattle.c_language.specs.Scopes.{Name}
 use Rattle.c_names.proofs.Loops as parts
 use Rattle.c_reach.specs.declared.search.Reaching.{Reaching}
 use Rattle.c_reach.specs.declared.summaries.FunctionNotes.{FunctionNotes}

@@ -1,7 +1,7 @@
 use Rattle.std.proofs.Common.{List, None, false, ap₂, ◌∙◌}
 use Rattle.std.proofs.lemmas.Result.{IfOk-weaker}
-use Rattle.c_runs.specs.Items.{Label}
-use Rattle.c_runs.specs.Statements.{stmt}
+use Rattle.c_means.specs.Items.{Label}
+use Rattle.c_means.specs.Statements.{stmt}
 use Rattle.c_item_notes.specs.Levels.{judged}
 use Rattle.c_item_notes.specs.ItemTellings.{summed}
 use Rattle.c_stmt_notes.proofs.bodies.block_notes.Goals as goal

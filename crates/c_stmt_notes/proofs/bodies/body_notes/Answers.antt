@@ -1,9 +1,9 @@
 use Rattle.std.proofs.Common.{sym, ap, ◌∙◌}
 use Rattle.std.proofs.lemmas.Result.{IfOk-weaker}
-use Rattle.c_tree.specs.declared.unit.Body.{Body}
-use Rattle.c_tree.specs.declared.unit.Stmt.{Stmt}
-use Rattle.c_runs.specs.Programs.{body_context, body_item, code_in}
-use Rattle.c_runs.specs.Statements.{stmt}
+use Rattle.c_language.specs.declared.unit.Body.{Body}
+use Rattle.c_language.specs.declared.unit.Stmt.{Stmt}
+use Rattle.c_means.specs.Programs.{body_context, body_item, code_in}
+use Rattle.c_means.specs.Statements.{stmt}
 use Rattle.c_item_notes.specs.Levels.{judged}
 use Rattle.c_item_notes.specs.ItemTellings.{summed, summed_in}
 use Rattle.c_stmt_notes.specs.StatementTellings.{body_head}

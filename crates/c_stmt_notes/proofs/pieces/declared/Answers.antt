@@ -1,4 +1,4 @@
-use Rattle.c_runs.specs.Statements.{declaration}
+use Rattle.c_means.specs.Statements.{declaration}
 use Rattle.c_item_notes.specs.Levels.{judged}
 use Rattle.c_stmt_notes.proofs.Together.{adds}
 use Rattle.c_stmt_notes.proofs.pieces.declared.Goals as goal

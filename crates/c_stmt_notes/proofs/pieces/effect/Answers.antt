@@ -1,6 +1,6 @@
 use Rattle.std.proofs.Common.{ap, ◌∙◌}
-use Rattle.c_runs.specs.Notes.{noted}
-use Rattle.c_runs.specs.Items.{typing}
+use Rattle.c_means.specs.Notes.{noted}
+use Rattle.c_means.specs.Items.{typing}
 use Rattle.c_checks.specs.Refusals.{least_of}
 use Rattle.c_item_notes.specs.Levels.{judged}
 use Rattle.c_stmt_notes.proofs.Expressions.{effect_is}

@@ -1,6 +1,6 @@
 use Rattle.std.proofs.Common.{sym, ap, ◌∙◌}
-use Rattle.c_tree.specs.declared.unit.ForStart.{ForStart}
-use Rattle.c_runs.specs.Statements.{begun_by}
+use Rattle.c_language.specs.declared.unit.ForStart.{ForStart}
+use Rattle.c_means.specs.Statements.{begun_by}
 use Rattle.c_item_notes.specs.Levels.{judged}
 use Rattle.c_stmt_notes.specs.StatementTellings.{gathered}
 use Rattle.c_stmt_notes.proofs.pieces.for_begun.Goals as goal

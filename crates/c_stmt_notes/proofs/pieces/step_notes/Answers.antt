@@ -1,6 +1,6 @@
 use Rattle.std.specs.Prelude.{option_map}
-use Rattle.c_runs.specs.Notes.{noted}
-use Rattle.c_runs.specs.Statements.{maybe_value}
+use Rattle.c_means.specs.Notes.{noted}
+use Rattle.c_means.specs.Statements.{maybe_value}
 use Rattle.c_item_notes.specs.Levels.{judged}
 use Rattle.c_stmt_notes.proofs.Together.{fresh}
 use Rattle.c_stmt_notes.proofs.pieces.step_notes.Goals as goal

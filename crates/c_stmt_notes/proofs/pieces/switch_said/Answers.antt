@@ -1,5 +1,5 @@
 use Rattle.std.proofs.Common.{ap, ◌∙◌}
-use Rattle.c_runs.specs.Notes.{noted}
+use Rattle.c_means.specs.Notes.{noted}
 use Rattle.c_checks.specs.Refusals.{least_of}
 use Rattle.c_checks.specs.Rules.{switch_breaches, switch_kind}
 use Rattle.c_item_notes.specs.Levels.{judged}

@@ -1,4 +1,4 @@
-use Rattle.c_runs.specs.Notes.{noted}
+use Rattle.c_means.specs.Notes.{noted}
 use Rattle.c_item_notes.specs.Levels.{judged}
 use Rattle.c_stmt_notes.proofs.Expressions.{tested_is}
 use Rattle.c_stmt_notes.proofs.pieces.tested.Goals as goal

@@ -1,8 +1,8 @@
 use Rattle.std.proofs.Common.{List, map, refl, ap, ◌∙◌}
-use Rattle.c_tree.specs.declared.unit.Stmt.{Stmt}
+use Rattle.c_language.specs.declared.unit.Stmt.{Stmt}
 use Rattle.c_typing.proofs.Declares as parts
-use Rattle.c_runs.specs.Items.{Case, in_scope}
-use Rattle.c_runs.specs.Statements.{stmt}
+use Rattle.c_means.specs.Items.{Case, in_scope}
+use Rattle.c_means.specs.Statements.{stmt}
 use Rattle.c_item_notes.specs.Levels.{judged}
 use Rattle.c_item_notes.specs.ItemTellings.{Summed, and_item, summed_in}
 use Rattle.c_stmt_notes.specs.StatementTellings.{context_in}

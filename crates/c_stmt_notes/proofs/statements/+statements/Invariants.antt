@@ -1,5 +1,5 @@
 use Rattle.std.proofs.Common.{◌≡◌, drop, map}
-use Rattle.c_runs.specs.Statements.{stmt}
+use Rattle.c_means.specs.Statements.{stmt}
 use Rattle.c_item_notes.specs.Levels.{judged}
 use Rattle.c_item_notes.specs.ItemTellings.{summed_in}
 use Rattle.c_stmt_notes.specs.StatementTellings.{context_in}

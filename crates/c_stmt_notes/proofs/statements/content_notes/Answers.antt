@@ -1,4 +1,4 @@
-use Rattle.c_runs.specs.Statements.{stmt}
+use Rattle.c_means.specs.Statements.{stmt}
 use Rattle.c_item_notes.specs.Levels.{judged}
 use Rattle.c_stmt_notes.specs.StatementTellings.{context_in}
 use Rattle.c_stmt_notes.proofs.Together.{fresh}

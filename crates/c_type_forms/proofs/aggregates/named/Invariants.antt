@@ -1,5 +1,5 @@
 use Rattle.std.proofs.Common.{◌≡◌, drop}
-use Rattle.c_type_terms.specs.Layouts.{member_named}
+use Rattle.c_language.specs.Layouts.{member_named}
 use Rattle.c_type_forms.proofs.aggregates.named.Given as goal
 
 abbrev pub invariant-loop-member : goal.invariant-loop-member

@@ -1,17 +1,17 @@
 use Rattle.std.proofs.Common.{◌≡◌, pos, List, Option, Some, [], map, refl, sym, ap, ◌∙◌}
 use Rattle.std.proofs.lemmas.Result.{IfOk-weaker, on_ok_weaker}
-use Rattle.c_tree.specs.declared.expr.Enumerator.{Enumerator}
-use Rattle.c_tree.specs.declared.expr.Field.{Field}
-use Rattle.c_tree.specs.declared.expr.MemberDeclaration.{MemberDeclaration}
-use Rattle.c_tree.specs.declared.expr.Parameter.{Parameter}
-use Rattle.c_tree.specs.declared.expr.Specifier.{Specifier}
-use Rattle.c_tree.specs.declared.expr.Expr.{Expr}
-use Rattle.c_says.specs.Scopes.{Name, look_up}
-use Rattle.c_says.specs.Typing as spec
-use Rattle.c_says.specs.Typing.{typed_in}
-use Rattle.c_says.specs.Declares as spec_
-use Rattle.c_says.specs.Declares.{named, none_laid, none_listed, form_of}
-use Rattle.c_says.specs.Trees.{
+use Rattle.c_language.specs.declared.expr.Enumerator.{Enumerator}
+use Rattle.c_language.specs.declared.expr.Field.{Field}
+use Rattle.c_language.specs.declared.expr.MemberDeclaration.{MemberDeclaration}
+use Rattle.c_language.specs.declared.expr.Parameter.{Parameter}
+use Rattle.c_language.specs.declared.expr.Specifier.{Specifier}
+use Rattle.c_language.specs.declared.expr.Expr.{Expr}
+use Rattle.c_language.specs.Scopes.{Name, look_up}
+use Rattle.c_language.specs.Typing as spec
+use Rattle.c_language.specs.Typing.{typed_in}
+use Rattle.c_language.specs.Declares as spec_
+use Rattle.c_language.specs.Declares.{named, none_laid, none_listed, form_of}
+use Rattle.c_language.specs.Trees.{
   Through,
   through,
   through_one,

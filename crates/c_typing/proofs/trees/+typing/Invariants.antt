@@ -1,7 +1,7 @@
 use Rattle.std.proofs.Common.{◌≡◌, pos, Some, map, drop}
-use Rattle.c_says.specs.Typing.{no_arguments}
-use Rattle.c_says.specs.Declares.{in_order, said_by, none_laid, form_of, each_field, listed, none_listed}
-use Rattle.c_says.specs.Trees.{
+use Rattle.c_language.specs.Typing.{no_arguments}
+use Rattle.c_language.specs.Declares.{in_order, said_by, none_laid, form_of, each_field, listed, none_listed}
+use Rattle.c_language.specs.Trees.{
   through,
   typed,
   specifier_says,

@@ -1,5 +1,5 @@
 use Rattle.std.proofs.Common.{◌≡◌, drop}
-use Rattle.c_runs.specs.Calls.{automatic_of}
+use Rattle.c_means.specs.Calls.{automatic_of}
 use Rattle.core_callees.proofs.automatic.insert_automatic.Given as goal
 
 abbrev pub invariant-loop-entry : goal.invariant-loop-entry

@@ -1,5 +1,5 @@
 use Rattle.std.proofs.Common.{◌≡◌, drop}
-use Rattle.c_runs.specs.Rules.{is_among}
+use Rattle.c_means.specs.Rules.{is_among}
 use Rattle.core_callees.proofs.choosing.is_among.Given as goal
 
 abbrev pub invariant-loop-other : goal.invariant-loop-other

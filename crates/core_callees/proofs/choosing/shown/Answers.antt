@@ -1,6 +1,6 @@
 use Rattle.std.proofs.Common.{sym, ap, ◌∙◌}
-use Rattle.c_runs.specs.Calls.{automatic_in}
-use Rattle.c_runs.specs.Runs.{place_in}
+use Rattle.c_means.specs.Calls.{automatic_in}
+use Rattle.c_means.specs.Runs.{place_in}
 use Rattle.core_callees.proofs.WatchingLaws.{both_from}
 use Rattle.core_callees.proofs.choosing.shown.Goals as goal
 

@@ -1,5 +1,5 @@
 use Rattle.std.proofs.Common.{◌≡◌, ◌++◌, drop, map}
-use Rattle.c_runs.specs.Runs.{place_in}
+use Rattle.c_means.specs.Runs.{place_in}
 use Rattle.core_callees.specs.Watching.{watched_of}
 use Rattle.core_callees.proofs.WatchingLaws.{the_watched}
 use Rattle.core_callees.proofs.watching.watch.Given as goal

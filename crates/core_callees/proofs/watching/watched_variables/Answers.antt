@@ -1,4 +1,4 @@
-use Rattle.c_runs.specs.Runs.{place_in}
+use Rattle.c_means.specs.Runs.{place_in}
 use Rattle.core_callees.proofs.WatchingLaws.{all_from}
 use Rattle.core_callees.proofs.watching.watched_variables.Goals as goal
 

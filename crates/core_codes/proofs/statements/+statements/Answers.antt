@@ -1,8 +1,8 @@
 use Rattle.std.proofs.Common.{ℕ, None, map, refl}
 use Rattle.std.proofs.lemmas.Result.{IfOk-weaker}
-use Rattle.c_runs.specs.Notes.{noted}
-use Rattle.c_runs.specs.Statements.{stmt}
-use Rattle.c_runs.specs.Statements as form
+use Rattle.c_means.specs.Notes.{noted}
+use Rattle.c_means.specs.Statements.{stmt}
+use Rattle.c_means.specs.Statements as form
 use Rattle.core_codes.specs.Made.{IsMade}
 use Rattle.core_codes.proofs.Arms as arm
 use Rattle.core_codes.proofs.InTurn as turn

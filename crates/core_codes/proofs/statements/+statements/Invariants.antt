@@ -1,5 +1,5 @@
 use Rattle.std.proofs.Common.{map, drop}
-use Rattle.c_runs.specs.Statements.{stmt}
+use Rattle.c_means.specs.Statements.{stmt}
 use Rattle.core_codes.proofs.InTurn.{Leads}
 use Rattle.core_codes.proofs.statements.+statements.Given as goal
 

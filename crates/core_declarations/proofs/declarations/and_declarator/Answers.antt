@@ -1,6 +1,6 @@
 use Rattle.std.proofs.Common.{sym, ap, ◌∙◌, subst}
-use Rattle.c_says.specs.Declares.{DeclaratorSays, Formed}
-use Rattle.c_runs.specs.Statements.{declaring}
+use Rattle.c_language.specs.Declares.{DeclaratorSays, Formed}
+use Rattle.c_means.specs.Statements.{declaring}
 use Rattle.c_item_notes.specs.ItemTellings.{item_as}
 use Rattle.c_item_notes.proofs.Declaring.{declarator_is}
 use Rattle.core_objects.specs.Begun.{IsBegun}

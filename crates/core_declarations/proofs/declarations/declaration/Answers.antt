@@ -1,10 +1,10 @@
 use Rattle.std.proofs.Common.{[], Option, map, ap, subst, ◌∙◌}
 use Rattle.std.proofs.lemmas.Result.{IfOk-weaker}
-use Rattle.c_type_terms.specs.declared.ctype.CType.{CType}
-use Rattle.c_says.specs.Declares.{said_by}
-use Rattle.c_says.specs.Trees.{specifier_says}
-use Rattle.c_runs.specs.Items.{Item}
-use Rattle.c_runs.specs.Statements.{declaring, is_alone}
+use Rattle.c_language.specs.declared.ctype.CType.{CType}
+use Rattle.c_language.specs.Declares.{said_by}
+use Rattle.c_language.specs.Trees.{specifier_says}
+use Rattle.c_means.specs.Items.{Item}
+use Rattle.c_means.specs.Statements.{declaring, is_alone}
 use Rattle.core_objects.specs.Begun.{IsBegun}
 use Rattle.core_declarations.specs.Items.{items_by}
 use Rattle.core_declarations.proofs.Declarators.{whole_begun}

@@ -1,7 +1,7 @@
 use Rattle.std.proofs.Common.{subst}
 use Rattle.std.proofs.lemmas.Result.{IfOk-weaker}
-use Rattle.c_runs.specs.Items.{typing}
-use Rattle.c_runs.specs.Statements.{declared_means}
+use Rattle.c_means.specs.Items.{typing}
+use Rattle.c_means.specs.Statements.{declared_means}
 use Rattle.core_objects.specs.Begun.{IsBegun}
 use Rattle.core_objects.proofs.DeclaredObjects.{entry_begun, none_begun}
 use Rattle.core_declarations.proofs.declarations.declared_name.Goals as goal

@@ -1,4 +1,4 @@
-use Rattle.c_runs.specs.Statements.{declaring}
+use Rattle.c_means.specs.Statements.{declaring}
 use Rattle.std.proofs.Common.{map}
 use Rattle.core_declarations.proofs.InOrder.{begins, a_declarator, all_declarators}
 use Rattle.core_declarations.proofs.declarations.each_declarator.Goals as goal

@@ -1,5 +1,5 @@
 use Rattle.std.proofs.Common.{drop, map}
-use Rattle.c_runs.specs.Statements.{declaring}
+use Rattle.c_means.specs.Statements.{declaring}
 use Rattle.core_declarations.proofs.InOrder.{Leads}
 use Rattle.core_declarations.proofs.declarations.each_declarator.Given as goal
 

@@ -1,10 +1,10 @@
 use Rattle.std.proofs.Common.{Option, option_map, sym, subst}
 use Rattle.std.proofs.lemmas.Result.{IfOk-weaker}
-use Rattle.c_tree.specs.declared.unit.Initializer.{Initializer}
+use Rattle.c_language.specs.declared.unit.Initializer.{Initializer}
 use Rattle.c_declares.specs.Views.{formed_in}
 use Rattle.c_declarations.specs.Beginnings.{begins_in}
-use Rattle.c_runs.specs.Initials.{initially}
-use Rattle.c_runs.specs.Statements.{name_offset}
+use Rattle.c_means.specs.Initials.{initially}
+use Rattle.c_means.specs.Statements.{name_offset}
 use Rattle.c_item_notes.specs.ItemTellings.{item_as}
 use Rattle.core_objects.specs.Begun.{IsBegun}
 use Rattle.core_declarations.proofs.Declarators.{filled_begun, plain_begun}

@@ -2,7 +2,7 @@ use Rattle.std.proofs.Common.{sym, ◌∙◌}
 use Rattle.std.proofs.lemmas.Result.{IfOk-weaker}
 use Rattle.c_declarations.specs.Beginnings.{begins_in}
 use Rattle.c_declarations.specs.Views.{declared_in}
-use Rattle.c_runs.specs.Initials.{initially, initialising}
+use Rattle.c_means.specs.Initials.{initially, initialising}
 use Rattle.core_declarations.proofs.Declarators.{object_begun}
 use Rattle.core_declarations.proofs.declarations.with_initializer.Goals as goal
 

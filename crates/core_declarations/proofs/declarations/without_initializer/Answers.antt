@@ -1,9 +1,9 @@
 use Rattle.std.proofs.Common.{IfOk, Bool, not, ap, ◌∙◌, subst}
-use Rattle.c_says.specs.Declarations.{Declared}
+use Rattle.c_language.specs.Declarations.{Declared}
 use Rattle.c_declarations.specs.Beginnings.{begins_in, plainly}
 use Rattle.c_declarations.specs.Views.{declared_in}
-use Rattle.c_runs.specs.Initials.{uninitialised}
-use Rattle.c_runs.specs.Items.{Item}
+use Rattle.c_means.specs.Initials.{uninitialised}
+use Rattle.c_means.specs.Items.{Item}
 use Rattle.core_objects.specs.Begun.{IsBegun}
 use Rattle.core_declarations.specs.Items.{declared_as}
 use Rattle.core_declarations.proofs.declarations.without_initializer.Goals as goal

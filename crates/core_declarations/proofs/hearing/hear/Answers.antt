@@ -1,6 +1,6 @@
 use Rattle.std.proofs.Common.{IfOk, sym, subst}
 use Rattle.c_means.specs.Trees.{part}
-use Rattle.c_runs.proofs.Fusion.{part_noted}
+use Rattle.c_means.proofs.RunFusion.{part_noted}
 use Rattle.core_declarations.specs.Hearing.{IsHeardOf}
 use Rattle.core_declarations.proofs.hearing.hear.Goals as goal
 

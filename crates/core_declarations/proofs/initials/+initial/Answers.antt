@@ -1,14 +1,14 @@
 use Rattle.std.proofs.Common.{List, map, refl, ap, ◌∙◌, subst}
 use Rattle.std.proofs.lemmas.Result.{IfOk-weaker}
-use Rattle.c_tree.specs.declared.unit.InitializerItem.{InitializerItem}
-use Rattle.c_says.specs.Initials.{Filling, fills_all, list_says, with_part_left}
+use Rattle.c_language.specs.declared.unit.InitializerItem.{InitializerItem}
+use Rattle.c_language.specs.Initials.{Filling, fills_all, list_says, with_part_left}
 use Rattle.c_typing.proofs.Declares as parts
 use Rattle.c_initials.specs.Filled.{Filled, filling_in}
 use Rattle.c_initials.specs.Said.{opened}
 use Rattle.c_item_notes.proofs.Filling.{list_fills, item_says}
 use Rattle.c_item_notes.proofs.Designating.{by_tree}
-use Rattle.c_runs.specs.Initials.{all_elements, all_fills, initially, listed_item}
-use Rattle.c_runs.specs.Notes.{noted}
+use Rattle.c_means.specs.Initials.{all_elements, all_fills, initially, listed_item}
+use Rattle.c_means.specs.Notes.{noted}
 use Rattle.core_declarations.specs.Hearing.{IsHeard}
 use Rattle.core_declarations.specs.Walked.{Walks}
 use Rattle.core_declarations.proofs.Fillings as fillings

@@ -1,7 +1,7 @@
 use Rattle.std.proofs.Common.{◌≡◌, drop, map}
-use Rattle.c_says.specs.Initials.{fills_all}
+use Rattle.c_language.specs.Initials.{fills_all}
 use Rattle.c_initials.specs.Filled.{filling_in}
-use Rattle.c_runs.specs.Initials.{all_fills, listed_item}
+use Rattle.c_means.specs.Initials.{all_fills, listed_item}
 use Rattle.core_declarations.proofs.Fillings.{Leads}
 use Rattle.core_declarations.proofs.initials.+initial.Given as goal
 

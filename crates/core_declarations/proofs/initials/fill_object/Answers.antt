@@ -1,10 +1,10 @@
 use Rattle.std.proofs.Common.{map, ap, ◌∙◌, subst}
 use Rattle.std.proofs.lemmas.Result.{IfOk-weaker}
-use Rattle.c_says.specs.Initials.{fills_all}
+use Rattle.c_language.specs.Initials.{fills_all}
 use Rattle.c_initials.specs.Filled.{Filled, filling_in}
 use Rattle.c_item_notes.proofs.Filling.{list_whole}
-use Rattle.c_runs.specs.Initials.{all_elements, all_fills, listed_item}
-use Rattle.c_runs.specs.Notes.{noted}
+use Rattle.c_means.specs.Initials.{all_elements, all_fills, listed_item}
+use Rattle.c_means.specs.Notes.{noted}
 use Rattle.core_declarations.specs.declared.initials.Walked.{Walked}
 use Rattle.core_declarations.specs.Hearing.{IsHeard}
 use Rattle.core_declarations.specs.Walked.{Walks}

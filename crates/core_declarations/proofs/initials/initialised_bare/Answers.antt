@@ -1,5 +1,5 @@
 use Rattle.std.proofs.Common.{sym, subst}
-use Rattle.c_runs.specs.Initials.{initially, initialising}
+use Rattle.c_means.specs.Initials.{initially, initialising}
 use Rattle.core_objects.specs.Begun.{bare}
 use Rattle.core_objects.specs.Given.{IsGiven, IsInitial}
 use Rattle.core_declarations.specs.declared.initials.Filled.{Filled}

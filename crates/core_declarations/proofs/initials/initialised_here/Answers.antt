@@ -1,5 +1,5 @@
 use Rattle.std.proofs.Common.{sym, subst}
-use Rattle.c_runs.specs.Initials.{initially, initialising}
+use Rattle.c_means.specs.Initials.{initially, initialising}
 use Rattle.core_objects.specs.Given.{IsGiven, IsInitial}
 use Rattle.core_declarations.specs.declared.initials.Filled.{Filled}
 use Rattle.core_declarations.proofs.initials.initialised_here.Goals as goal

@@ -1,8 +1,8 @@
 use Rattle.std.proofs.Common.{true, sym, subst, ap, ◌∙◌}
 use Rattle.std.proofs.lemmas.Result.{IfOk-weaker}
-use Rattle.c_type_terms.specs.Types.{element_of}
-use Rattle.c_type_terms.specs.declared.ctype.CType.{CType}
-use Rattle.c_says.specs.Initials.{Part, is_byte_type}
+use Rattle.c_language.specs.Types.{element_of}
+use Rattle.c_language.specs.declared.ctype.CType.{CType}
+use Rattle.c_language.specs.Initials.{Part, is_byte_type}
 use Rattle.std.specs.Prelude.{◌&&◌}
 use Rattle.core_declarations.specs.Walked.{IsSource}
 use Rattle.core_declarations.proofs.Sources.{both_true, value_is_set}

@@ -1,7 +1,7 @@
 use Rattle.std.proofs.Common.{true, ap, ◌∙◌, subst}
 use Rattle.std.proofs.lemmas.Result.{IfOk-weaker}
-use Rattle.c_says.specs.Initials.{Part}
-use Rattle.c_runs.specs.Initials.{text_room}
+use Rattle.c_language.specs.Initials.{Part}
+use Rattle.c_means.specs.Initials.{text_room}
 use Rattle.core_tree.specs.declared.code.Setting.TheVariants as setting
 use Rattle.core_declarations.specs.Walked.{IsSource}
 use Rattle.core_declarations.proofs.Sources.{text_is_set}

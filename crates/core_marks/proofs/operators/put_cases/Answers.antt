@@ -1,6 +1,6 @@
 use Rattle.std.proofs.Common.{get_or, pos}
 use Rattle.std.proofs.lemmas.List.{get_or_default}
-use Rattle.bit_words.specs.declared.run.Side.TheVariants.{Case}
+use Rattle.plain_data.specs.declared.run.Side.TheVariants.{Case}
 use Rattle.core_marks.specs.Marks.{one_side}
 use Rattle.core_marks.proofs.Loops as loops
 use Rattle.core_marks.proofs.operators.put_cases.Goals as goal

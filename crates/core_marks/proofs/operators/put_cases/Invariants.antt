@@ -1,5 +1,5 @@
 use Rattle.core_marks.specs.Marks.{one_side}
-use Rattle.bit_words.specs.declared.run.Side.TheVariants.{Case}
+use Rattle.plain_data.specs.declared.run.Side.TheVariants.{Case}
 use Rattle.core_marks.proofs.Loops.{Leads}
 use Rattle.core_marks.proofs.operators.put_cases.Given as goal
 

@@ -1,8 +1,8 @@
 use Rattle.std.proofs.Common.{[], ◌∷◌, Some, ap, ◌∙◌, subst}
-use Rattle.c_says.specs.declared.scope.Duration.TheVariants as duration
-use Rattle.c_says.specs.declared.scope.Means.TheVariants as means
+use Rattle.c_language.specs.declared.scope.Duration.TheVariants as duration
+use Rattle.c_language.specs.declared.scope.Means.TheVariants as means
 use Rattle.c_means.specs.Values.{bytes_of}
-use Rattle.c_runs.specs.Statements as statements
+use Rattle.c_means.specs.Statements as statements
 use Rattle.core_objects.specs.Begun.{IsBegun}
 use Rattle.core_objects.proofs.DeclaredObjects.{means_begun, nothing_is}
 use Rattle.core_objects.proofs.objects.declared_object.Goals as goal

@@ -1,6 +1,6 @@
 use Rattle.std.proofs.Common.{sym, ap, ◌∙◌, subst}
 use Rattle.c_means.specs.Parts.{Part}
-use Rattle.c_runs.proofs.Fusion.{part_noted}
+use Rattle.c_means.proofs.RunFusion.{part_noted}
 use Rattle.elaborate.specs.Means.{IsEffectOf}
 use Rattle.core_parts.proofs.whole.unused_value.Goals as goal
 

@@ -1,5 +1,5 @@
 use Rattle.std.proofs.Common.{[], ◌∙◌, subst, sym}
-use Rattle.c_runs.specs.Prelude.{prelude_functions}
+use Rattle.c_means.specs.Prelude.{prelude_functions}
 use Rattle.core_callees.specs.Known.{numbering_in}
 use Rattle.core_callees.specs.Knows.{known_by}
 use Rattle.core_functions.specs.Definitions.{ArePrelude}

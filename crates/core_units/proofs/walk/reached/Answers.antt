@@ -1,5 +1,5 @@
 use Rattle.std.proofs.Common.{[], ◌∷◌, ◌++◌, sym, ap, ◌∙◌}
-use Rattle.c_tree.specs.declared.unit.Body.TheVariants as body_
+use Rattle.c_language.specs.declared.unit.Body.TheVariants as body_
 use Rattle.core_callees.specs.Knows.{known_by}
 use Rattle.core_units.proofs.Making.{reached_whole}
 use Rattle.core_units.proofs.walk.reached.Goals as goal

@@ -1,5 +1,5 @@
 use Rattle.std.proofs.Common.{◌∙◌, sym, ap, Some}
-use Rattle.bit_words.specs.declared.width.Width.TheVariants.{W8}
+use Rattle.plain_data.specs.declared.width.Width.TheVariants.{W8}
 use Rattle.term_bank.specs.declared.shape.Shape.TheVariants.{Choose, Made, Ended, Read}
 use Rattle.flat_reads.proofs.ChoiceLemmas.{arms, choice_chosen, leads_made, leads_ended, sort_memory}
 use Rattle.flat_reads.proofs.choices.byte_choice.Goals as goal

@@ -1,4 +1,4 @@
-use Rattle.bit_words.specs.declared.width.Width.TheVariants.{W8}
+use Rattle.plain_data.specs.declared.width.Width.TheVariants.{W8}
 use Rattle.term_bank.specs.declared.shape.Shape.TheVariants.{Read}
 use Rattle.flat_reads.proofs.ChoiceLemmas.{leads_entry}
 use Rattle.flat_reads.proofs.choices.entry.Goals as goal

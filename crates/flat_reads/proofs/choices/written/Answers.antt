@@ -1,5 +1,5 @@
 use Rattle.std.proofs.Common.{◌∷◌, [], ◌∙◌}
-use Rattle.bit_words.specs.declared.width.Width.TheVariants.{W64}
+use Rattle.plain_data.specs.declared.width.Width.TheVariants.{W64}
 use Rattle.c_store.specs.Store.{byte_of}
 use Rattle.term_bank.specs.declared.sort.Sort.TheVariants.{Truth, Word}
 use Rattle.term_bank.specs.declared.shape.Shape.TheVariants.{Write}

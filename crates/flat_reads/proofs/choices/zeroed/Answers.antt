@@ -1,5 +1,5 @@
 use Rattle.std.proofs.Common.{◌∷◌, [], refl}
-use Rattle.bit_words.specs.declared.width.Width.TheVariants.{W64}
+use Rattle.plain_data.specs.declared.width.Width.TheVariants.{W64}
 use Rattle.term_bank.specs.declared.sort.Sort.TheVariants.{Truth}
 use Rattle.term_bank.specs.declared.shape.Shape.TheVariants.{ZeroRange}
 use Rattle.term_bank.specs.Memories.{distance}

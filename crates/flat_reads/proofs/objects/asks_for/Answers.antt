@@ -1,6 +1,6 @@
 use Rattle.std.proofs.Common.{◌∷◌, ap, refl}
 use Rattle.std.specs.Prelude.{nat_eq}
-use Rattle.bit_words.specs.declared.width.Width.TheVariants.{W64}
+use Rattle.plain_data.specs.declared.width.Width.TheVariants.{W64}
 use Rattle.term_bank.specs.declared.shape.Shape.TheVariants.{Test}
 use Rattle.term_bank.specs.declared.shape.WordTest.TheVariants as test
 use Rattle.term_bank.specs.Shapes.{word}

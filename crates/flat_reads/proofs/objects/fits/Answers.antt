@@ -1,6 +1,6 @@
 use Rattle.std.proofs.Common.{◌∷◌, [], ◌+◌}
 use Rattle.std.specs.Prelude.{not, nat_le, nat_lt, ◌||◌}
-use Rattle.bit_words.specs.declared.width.Width.TheVariants.{W64}
+use Rattle.plain_data.specs.declared.width.Width.TheVariants.{W64}
 use Rattle.term_bank.specs.declared.sort.Sort.TheVariants.{Truth}
 use Rattle.term_bank.specs.Memories.{distance}
 use Rattle.term_bank.specs.Shapes.{truth, word}

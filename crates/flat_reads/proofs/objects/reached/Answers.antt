@@ -1,6 +1,6 @@
 use Rattle.std.proofs.Common.{◌∷◌, [], ap, ◌+◌}
 use Rattle.std.specs.Prelude.{nat_le}
-use Rattle.bit_words.specs.declared.width.Width.TheVariants.{W64}
+use Rattle.plain_data.specs.declared.width.Width.TheVariants.{W64}
 use Rattle.c_store.specs.Store.{offset_of}
 use Rattle.term_bank.specs.declared.sort.Sort.TheVariants.{Truth}
 use Rattle.term_bank.specs.Shapes.{word}

@@ -1,5 +1,5 @@
 use Rattle.std.proofs.Common.{◌∷◌, ap, refl, subst, sym, Some}
-use Rattle.bit_words.specs.declared.width.Width.TheVariants.{W64}
+use Rattle.plain_data.specs.declared.width.Width.TheVariants.{W64}
 use Rattle.term_bank.specs.declared.shape.Shape.TheVariants.{Flag}
 use Rattle.term_bank.specs.Shapes.{word}
 use Rattle.term_bank.specs.Values.{of_truth}

@@ -1,7 +1,7 @@
 use Rattle.term_bank.specs.Memories.{behind}
 use Rattle.flat_reads.proofs.PartLemmas.{behind_added}
 use Rattle.std.proofs.Common.{◌∷◌, [], refl}
-use Rattle.bit_words.specs.declared.width.Width.TheVariants.{W64}
+use Rattle.plain_data.specs.declared.width.Width.TheVariants.{W64}
 use Rattle.term_bank.specs.declared.shape.Shape.TheVariants.{Binary}
 use Rattle.term_bank.specs.declared.shape.WordOperator.TheVariants as operator
 use Rattle.term_bank.specs.Shapes.{word}

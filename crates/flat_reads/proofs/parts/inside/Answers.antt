@@ -1,7 +1,7 @@
 use Rattle.std.specs.Prelude.{nat_lt}
 use Rattle.flat_reads.proofs.PartLemmas.{inside_tested}
 use Rattle.std.proofs.Common.{◌∷◌, [], refl}
-use Rattle.bit_words.specs.declared.width.Width.TheVariants.{W64}
+use Rattle.plain_data.specs.declared.width.Width.TheVariants.{W64}
 use Rattle.term_bank.specs.declared.shape.Shape.TheVariants.{Test}
 use Rattle.term_bank.specs.declared.shape.WordTest.TheVariants as test
 use Rattle.term_bank.specs.Shapes.{word}

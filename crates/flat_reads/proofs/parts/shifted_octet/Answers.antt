@@ -1,7 +1,7 @@
 use Rattle.flat_reads.proofs.WordLemmas.{gives_failed}
 use Rattle.std.proofs.lemmas.Result.{err_from_is_err_and}
 use Rattle.std.proofs.Common.{◌∷◌, []}
-use Rattle.bit_words.specs.declared.width.Width.TheVariants.{W8, W64}
+use Rattle.plain_data.specs.declared.width.Width.TheVariants.{W8, W64}
 use Rattle.term_bank.specs.declared.shape.WordOperator.TheVariants as operator
 use Rattle.term_bank.specs.declared.shape.Extension.TheVariants as extension
 use Rattle.term_bank.specs.declared.sort.Sort.TheVariants.{Word}

@@ -1,6 +1,6 @@
 use Rattle.term_bank.proofs.BankLemmas.{node_grown}
 use Rattle.std.proofs.Common.{subst}
-use Rattle.bit_words.specs.declared.width.Width.TheVariants.{W64}
+use Rattle.plain_data.specs.declared.width.Width.TheVariants.{W64}
 use Rattle.term_bank.specs.Shapes.{word, memory as memory_node}
 use Rattle.flat_reads.specs.Choices.{Asks}
 use Rattle.flat_reads.proofs.AnswerLemmas.{answers_grown}

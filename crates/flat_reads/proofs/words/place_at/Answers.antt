@@ -1,6 +1,6 @@
 use Rattle.std.proofs.Common.{◌≡◌, ◌∷◌, [], arith, ap}
 use Rattle.std.proofs.lemmas.Bool.Decides.{nat_tests}
-use Rattle.bit_words.specs.declared.width.Width.TheVariants.{W64}
+use Rattle.plain_data.specs.declared.width.Width.TheVariants.{W64}
 use Rattle.term_bank.specs.declared.sort.Sort.TheVariants.{Word}
 use Rattle.term_bank.specs.Memories.{behind}
 use Rattle.term_bank.specs.Shapes.{word}

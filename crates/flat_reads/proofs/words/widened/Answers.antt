@@ -1,5 +1,5 @@
 use Rattle.std.proofs.Common.{◌∷◌, []}
-use Rattle.bit_words.specs.declared.width.Width.TheVariants.{W8}
+use Rattle.plain_data.specs.declared.width.Width.TheVariants.{W8}
 use Rattle.term_bank.specs.declared.sort.Sort.TheVariants.{Word}
 use Rattle.term_bank.specs.declared.shape.Extension.TheVariants as extension
 use Rattle.term_bank.specs.Shapes.{word}

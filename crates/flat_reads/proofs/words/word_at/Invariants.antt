@@ -1,5 +1,5 @@
 use Rattle.std.proofs.Common.{◌<◌, ◌-◌}
-use Rattle.bit_words.specs.declared.width.Width.TheVariants.{W64}
+use Rattle.plain_data.specs.declared.width.Width.TheVariants.{W64}
 use Rattle.c_store.specs.Store.{spelt}
 use Rattle.term_bank.specs.declared.sort.Sort.TheVariants.{Word}
 use Rattle.std.proofs.Common.{◌∷◌, []}

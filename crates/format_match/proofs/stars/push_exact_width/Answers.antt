@@ -1,6 +1,6 @@
 use Rattle.std.proofs.Common.{◌≡◌, ◌∙◌, rules, ap, w64, to_z, of_z}
-use Rattle.bit_words.specs.Words.{is_signed}
-use Rattle.bit_words.specs.declared.width.Width.TheVariants.{W32}
+use Rattle.plain_data.specs.Words.{is_signed}
+use Rattle.plain_data.specs.declared.width.Width.TheVariants.{W32}
 use Rattle.format_match.proofs.StarLaws.{held_exact}
 use Rattle.format_match.proofs.stars.push_exact_width.Goals as goal
 

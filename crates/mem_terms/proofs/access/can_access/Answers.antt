@@ -1,5 +1,5 @@
 use Rattle.std.proofs.Common.{nat_eq}
-use Rattle.bit_words.specs.declared.width.Width.TheVariants.{W64}
+use Rattle.plain_data.specs.declared.width.Width.TheVariants.{W64}
 use Rattle.c_store.specs.Access.{is_live}
 use Rattle.term_bank.specs.declared.sort.Sort.TheVariants.{Truth, Word, Memory}
 use Rattle.term_bank.proofs.BankLemmas.{grows_on, stays}

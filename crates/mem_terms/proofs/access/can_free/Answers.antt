@@ -1,6 +1,6 @@
 use Rattle.std.proofs.Common.{nat_eq}
 use Rattle.std.specs.Prelude.{◌&&◌}
-use Rattle.bit_words.specs.declared.width.Width.TheVariants.{W64}
+use Rattle.plain_data.specs.declared.width.Width.TheVariants.{W64}
 use Rattle.c_store.specs.Store.{object_of, offset_of}
 use Rattle.c_store.specs.Access.{is_heap}
 use Rattle.term_bank.specs.declared.sort.Sort.TheVariants.{Truth, Word, Memory}

@@ -1,8 +1,8 @@
 use Rattle.std.proofs.Common.{◌≡◌, ◌+◌, ◌++◌, ◌∷◌, [], subst, take, get_or, ◌∙◌, sym, ap, suc, length}
 use Rattle.std.proofs.lemmas.List.{take_all, take_more}
-use Rattle.bit_words.specs.declared.fact.Fact.{Fact}
-use Rattle.bit_words.specs.declared.fact.Fact.TheVariants as fact
-use Rattle.bit_words.specs.declared.run.Side.TheVariants.{Yes}
+use Rattle.plain_data.specs.declared.fact.Fact.{Fact}
+use Rattle.plain_data.specs.declared.fact.Fact.TheVariants as fact
+use Rattle.plain_data.specs.declared.run.Side.TheVariants.{Yes}
 use Rattle.must_facts.specs.Inquiries.{matter_of}
 use Rattle.must_facts.specs.Knowing.{Weighs, WeighsAll}
 use Rattle.must_facts.proofs.Learning.{weighs_more}

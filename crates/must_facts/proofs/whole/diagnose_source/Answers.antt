@@ -1,6 +1,6 @@
 use Rattle.std.proofs.Common.{subst}
 use Rattle.std.specs.Prelude.{IfOk}
-use Rattle.c_runs.specs.Units.{source_run}
+use Rattle.c_means.specs.Units.{source_run}
 use Rattle.must_facts.specs.Inquiries.{RunsAlong, IsFound}
 use Rattle.must_facts.specs.Verdicts.{IsDiagnosis}
 use Rattle.must_facts.proofs.whole.diagnose_source.Goals as goal

@@ -1,5 +1,5 @@
 use Rattle.std.proofs.Common.{◌∙◌, ap, ◌+◌}
-use Rattle.c_runs.specs.Units.{source_size}
+use Rattle.c_means.specs.Units.{source_size}
 use Rattle.log_text.specs.Lines.{line_count}
 use Rattle.must_facts.proofs.Wholes.{more_than}
 use Rattle.must_facts.proofs.whole.is_within.Goals as goal

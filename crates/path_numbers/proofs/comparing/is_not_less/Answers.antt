@@ -1,6 +1,6 @@
 use Rattle.std.proofs.Common.{Bool, not}
 use Rattle.std.specs.Prelude.{Ok}
-use Rattle.c_type_terms.specs.Integers.{number_of}
+use Rattle.c_language.specs.Integers.{number_of}
 use Rattle.core_tree.specs.Numbers.{precedes}
 use Rattle.path_states.specs.States.{number_in}
 use Rattle.path_numbers.proofs.Operated.{answers_after}

@@ -1,4 +1,4 @@
-use Rattle.c_type_terms.specs.Integers.{number_of}
+use Rattle.c_language.specs.Integers.{number_of}
 use Rattle.path_numbers.proofs.Operated.{surely}
 use Rattle.path_numbers.proofs.comparing.told.Goals as goal
 

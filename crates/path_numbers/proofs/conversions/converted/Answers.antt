@@ -1,5 +1,5 @@
 use Rattle.std.proofs.Common.{not}
-use Rattle.c_type_terms.specs.Integers.{is_zero}
+use Rattle.c_language.specs.Integers.{is_zero}
 use Rattle.path_states.specs.States.{number_in}
 use Rattle.path_numbers.proofs.Nodes.{numbered_flag, numbered_address}
 use Rattle.path_numbers.proofs.conversions.converted.Goals as goal

@@ -1,6 +1,6 @@
 use Rattle.std.proofs.Common.{rules, sym}
 use denote.Enum.Bare.{same_true}
-use Rattle.bit_words.specs.contracts.width.Width.{the_type}
+use Rattle.plain_data.specs.contracts.width.Width.{the_type}
 use Rattle.path_numbers.proofs.Nodes.{in_same_width, in_other_width}
 use Rattle.path_numbers.proofs.conversions.in_width.Goals as goal
 

@@ -1,4 +1,4 @@
-use Rattle.bit_words.specs.Words.{word}
+use Rattle.plain_data.specs.Words.{word}
 use Rattle.path_states.specs.States.{number_in}
 use Rattle.path_states.proofs.Growth.{number_grown}
 use Rattle.path_numbers.proofs.Operated.{both_words}

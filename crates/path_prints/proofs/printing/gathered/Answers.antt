@@ -1,6 +1,6 @@
 use Rattle.std.proofs.Common.{take, get_or, false}
 use Rattle.std.proofs.lemmas.List.{take_all, take_more}
-use Rattle.bit_words.specs.declared.width.Width.TheVariants.{W8}
+use Rattle.plain_data.specs.declared.width.Width.TheVariants.{W8}
 use Rattle.term_bank.specs.declared.sort.Sort.TheVariants.{Truth}
 use Rattle.path_states.specs.declared.state.Number.{Number}
 use Rattle.path_states.proofs.Chosen.{number_at}

@@ -1,5 +1,5 @@
 use Rattle.std.proofs.Common.{◌≡◌, ◌+◌, drop}
-use Rattle.c_runs.specs.Calls.{pointers_in}
+use Rattle.c_means.specs.Calls.{pointers_in}
 use Rattle.path_rooms.proofs.counts.pointers.Given as goal
 
 abbrev pub invariant-loop-piece : goal.invariant-loop-piece

@@ -1,6 +1,6 @@
 use Rattle.std.proofs.Common.{not}
-use Rattle.bit_words.specs.declared.run.Finish.TheVariants as finish
-use Rattle.bit_words.specs.declared.run.Undefined.TheVariants.{Dereference}
+use Rattle.plain_data.specs.declared.run.Finish.TheVariants as finish
+use Rattle.plain_data.specs.declared.run.Undefined.TheVariants.{Dereference}
 use Rattle.c_store.specs.Access.{can_access}
 use Rattle.term_bank.proofs.TermLemmas.{term_grown}
 use Rattle.term_bank.specs.Memories.{octets}

@@ -1,4 +1,4 @@
-use Rattle.c_type_terms.specs.Integers.{is_zero, number_of}
+use Rattle.c_language.specs.Integers.{is_zero, number_of}
 use Rattle.path_steps.proofs.Trials.{found_by_one, numbered_zero}
 use Rattle.path_steps.proofs.steps.not_step.Goals as goal
 

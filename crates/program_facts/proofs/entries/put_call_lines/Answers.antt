@@ -1,5 +1,5 @@
 use Rattle.std.proofs.Common.{arith, refl}
-use Rattle.bit_words.specs.declared.fact.Fact.TheVariants as fact
+use Rattle.plain_data.specs.declared.fact.Fact.TheVariants as fact
 use Rattle.program_facts.proofs.Gathering.{line_more}
 use Rattle.program_facts.proofs.entries.put_call_lines.Goals as goal
 

@@ -1,5 +1,5 @@
 use Rattle.std.proofs.Common.{◌≡◌}
-use Rattle.bit_words.specs.declared.fact.Fact.TheVariants as fact
+use Rattle.plain_data.specs.declared.fact.Fact.TheVariants as fact
 use Rattle.program_facts.specs.Entries.{each_line, with_all}
 use Rattle.program_facts.proofs.entries.put_call_lines.Given as goal
 

@@ -1,6 +1,6 @@
 use Rattle.std.proofs.Common.{◌∙◌, ◌∷◌, ℕ, [], get_or, ap, sym, take}
 use Rattle.std.proofs.lemmas.List.{get_or_default, take_all}
-use Rattle.bit_words.specs.declared.fact.Fact.TheVariants as fact
+use Rattle.plain_data.specs.declared.fact.Fact.TheVariants as fact
 use Rattle.program_facts.specs.Entries.{Entry, with_all}
 use Rattle.program_facts.specs.Prints.{print_entries}
 use Rattle.program_facts.proofs.Gathering.{behind, mapped_more}

@@ -2,7 +2,7 @@ use mir.Val.{SFits}
 use mir.Syntax.{w128}
 use Rattle.std.proofs.Common.{rules, ◌∙◌, ap}
 use Rattle.std.proofs.lemmas.Int.{to_z-of_z}
-use Rattle.bit_words.specs.Words.{word}
+use Rattle.plain_data.specs.Words.{word}
 use Rattle.c_machine.specs.Worth.{worth}
 use Rattle.run_callees.proofs.Values.{word_alike}
 use Rattle.run_callees.proofs.numbers.word_of.Goals as goal

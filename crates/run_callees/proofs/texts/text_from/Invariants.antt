@@ -1,6 +1,6 @@
 use Rattle.std.proofs.Common.{◌≡◌, ◌+◌}
 use Rattle.c_machine.specs.States.{state}
-use Rattle.c_runs.specs.Calls.{text_from}
+use Rattle.c_means.specs.Calls.{text_from}
 use Rattle.run_callees.specs.Reading.{after}
 use Rattle.run_callees.proofs.texts.text_from.Given as goal
 

@@ -1,8 +1,8 @@
 use Rattle.std.proofs.Common.{take, get_or}
 use Rattle.std.proofs.lemmas.List.{take_all, take_more}
-use Rattle.bit_words.specs.declared.fact.Fact.{Fact}
-use Rattle.bit_words.specs.declared.fact.Fact.TheVariants as fact
-use Rattle.bit_words.specs.declared.run.Side.TheVariants.{Yes}
+use Rattle.plain_data.specs.declared.fact.Fact.{Fact}
+use Rattle.plain_data.specs.declared.fact.Fact.TheVariants as fact
+use Rattle.plain_data.specs.declared.run.Side.TheVariants.{Yes}
 use Rattle.path_states.proofs.Growth.{states_grown}
 use Rattle.run_formula.proofs.Asked.{asks_none, asks_more}
 use Rattle.run_formula.proofs.formula.ask_all.Goals as goal

@@ -1,6 +1,6 @@
 use Rattle.std.proofs.Common.{◌-◌, ◌≤◌}
 use Rattle.c_store.specs.Store.{start, lay}
-use Rattle.c_runs.specs.Initials.{text_byte}
+use Rattle.c_means.specs.Initials.{text_byte}
 use Rattle.run_formula.specs.Starts.{Becomes}
 use Rattle.run_formula.proofs.texts.lay_text.Given as goal
 

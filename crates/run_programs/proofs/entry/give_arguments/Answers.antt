@@ -1,5 +1,5 @@
 use Rattle.std.proofs.Common.{rules, sym, ap, ◌∙◌}
-use Rattle.c_runs.specs.Units.{world_of}
+use Rattle.c_means.specs.Units.{world_of}
 use Rattle.core_running.specs.Running.{done}
 use Rattle.run_programs.proofs.MainCall.{given}
 use Rattle.run_programs.proofs.entry.give_arguments.Goals as goal

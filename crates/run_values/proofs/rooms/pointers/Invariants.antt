@@ -1,5 +1,5 @@
 use Rattle.std.proofs.Common.{◌≡◌, ◌≤◌, ◌+◌, drop}
-use Rattle.c_runs.specs.Calls.{pointers_in}
+use Rattle.c_means.specs.Calls.{pointers_in}
 use Rattle.run_values.specs.Places.{capped}
 use Rattle.run_values.proofs.rooms.pointers.Given as goal
 

@@ -1,7 +1,7 @@
 use Rattle.std.proofs.Common.{take, get_or, sym, append-nil, false}
 use Rattle.std.proofs.lemmas.List.{take_all, take_more}
 use Rattle.term_bank.specs.declared.sort.Sort.TheVariants.{Truth}
-use Rattle.bit_words.specs.declared.width.Width.TheVariants.{W8}
+use Rattle.plain_data.specs.declared.width.Width.TheVariants.{W8}
 use Rattle.path_states.specs.declared.state.Number.{Number}
 use Rattle.summary_compose.specs.Renaming.{number_node}
 use Rattle.summary_compose.proofs.Lists.{grown_more}

@@ -1,6 +1,6 @@
 use Rattle.std.proofs.Common.{List, subst, ◌≡◌, ◌∙◌}
 use Rattle.std.specs.Prelude.{IfSome}
-use Rattle.bit_words.specs.declared.fact.Fact.{Fact}
+use Rattle.plain_data.specs.declared.fact.Fact.{Fact}
 use Rattle.term_bank.specs.declared.shape.Shape.{Shape}
 use Rattle.log_expr.specs.Tours.{Tour}
 use Rattle.run_formula.specs.Formula.{IsFormula}

@@ -1,5 +1,5 @@
 use Rattle.std.proofs.Common.{◌≡◌, ◌∙◌, sym, ap, Some}
-use Rattle.c_says.specs.Scopes.{tag_of}
+use Rattle.c_language.specs.Scopes.{tag_of}
 use Rattle.c_declares.proofs.said.Said.add_enumeration_tag.Goals as goal
 
 pub returns-in-Some : goal.returns-in-Some

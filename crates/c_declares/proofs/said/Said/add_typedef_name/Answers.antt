@@ -1,5 +1,5 @@
 use Rattle.std.proofs.Common.{◌≡◌, ◌∙◌, sym, ap, Some}
-use Rattle.c_says.specs.Scopes.{look_up}
+use Rattle.c_language.specs.Scopes.{look_up}
 use Rattle.c_declares.proofs.said.Said.add_typedef_name.Goals as goal
 
 pub returns-in-Some : goal.returns-in-Some

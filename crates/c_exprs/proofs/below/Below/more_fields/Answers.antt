@@ -1,6 +1,6 @@
 use Rattle.std.proofs.Common.{◌≡◌, ◌-◌, true, false, arith, rules}
 use Rattle.std.proofs.lemmas.Result.{err_from_is_err_and}
-use Rattle.c_tokens.specs.declared.token.Punctuator.TheVariants as mark
+use Rattle.c_language.specs.declared.token.Punctuator.TheVariants as mark
 use Rattle.c_grammar.specs.Reading as spec
 use Rattle.c_reading.specs.Cursor.{here}
 use Rattle.c_exprs.proofs.Lists.{fields_next, fields_fail, fields_stop, fields_out}

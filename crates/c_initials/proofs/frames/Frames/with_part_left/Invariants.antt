@@ -1,5 +1,5 @@
 use Rattle.std.proofs.Common.{◌≡◌, length}
-use Rattle.c_says.specs.Initials.{with_part_left}
+use Rattle.c_language.specs.Initials.{with_part_left}
 use Rattle.c_initials.proofs.frames.Frames.with_part_left.Given as goal
 
 abbrev pub invariant-frames : goal.invariant-frames

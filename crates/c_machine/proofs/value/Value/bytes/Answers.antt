@@ -1,6 +1,6 @@
 use Rattle.std.proofs.Common.{◌∙◌, ◌≡◌, ◌^◌, ◌/◌, ap, subst, rules, IfOk}
 use Rattle.std.specs.Prelude.{unsigned_abs}
-use Rattle.bit_words.specs.Words.{to_bytes}
+use Rattle.plain_data.specs.Words.{to_bytes}
 use Rattle.c_machine.specs.Worth.{worth}
 use Rattle.c_machine.proofs.Spelling.{sixteen}
 use Rattle.c_machine.proofs.value.Value.bytes.Goals as goal

@@ -1,7 +1,7 @@
 use mir.Val.{SFits}
 use mir.Syntax.{w128}
 use Rattle.std.proofs.Common.{rules, ◌∙◌, ap, refl}
-use Rattle.c_type_terms.specs.Integers.{converted}
+use Rattle.c_language.specs.Integers.{converted}
 use Rattle.c_machine.specs.Worth.{worth}
 use Rattle.c_machine.proofs.Spelling.{kept, converted_alike}
 use Rattle.c_machine.proofs.value.Value.converted.Goals as goal

@@ -1,9 +1,9 @@
 use mir.Val.{SFits}
 use mir.Syntax.{w128}
 use Rattle.std.proofs.Common.{rules, ◌∙◌, ◌≡◌, ◌<◌, ◌^◌, ap, length, pos}
-use Rattle.bit_words.specs.Words.{from_bytes}
-use Rattle.c_type_terms.specs.declared.ctype.IntegerKind.TheVariants.{UnsignedLong}
-use Rattle.c_type_terms.specs.Integers.{bytes_of, value_of_word}
+use Rattle.plain_data.specs.Words.{from_bytes}
+use Rattle.c_language.specs.declared.ctype.IntegerKind.TheVariants.{UnsignedLong}
+use Rattle.c_language.specs.Integers.{bytes_of, value_of_word}
 use Rattle.c_means.specs.Values.{bytes_as}
 use Rattle.c_machine.proofs.Spelling.{kept, low_below}
 use Rattle.c_machine.proofs.value.Value.of_bytes.Goals as goal

@@ -1,7 +1,7 @@
 use Rattle.std.proofs.Common.{◌∙◌, ◌^◌, ◌/◌, ◌%◌, ap, length}
 use Rattle.std.specs.Prelude.{unsigned_abs}
-use Rattle.bit_words.specs.Words.{from_bytes}
-use Rattle.bit_words.proofs.WordLaws.{length-to_bytes}
+use Rattle.plain_data.specs.Words.{from_bytes}
+use Rattle.plain_data.proofs.WordLaws.{length-to_bytes}
 use Rattle.c_means.specs.Values.{bytes_as, value_of_bytes}
 use Rattle.c_machine.specs.Worth.{worth}
 use Rattle.c_machine.proofs.Spelling.{from_to_mod}

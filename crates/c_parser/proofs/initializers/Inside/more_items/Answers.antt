@@ -1,8 +1,8 @@
 use Rattle.std.proofs.Common.{◌≡◌, ◌-◌, ℕ, List, Bool, length, suc, true, false, arith, rules}
 use Rattle.std.proofs.lemmas.Result.{err_from_is_err_and}
-use Rattle.c_tokens.specs.declared.token.Punctuator.TheVariants as mark
+use Rattle.c_language.specs.declared.token.Punctuator.TheVariants as mark
 use Rattle.c_grammar.specs.Reading as spec
-use Rattle.c_tree.specs.declared.unit.InitializerItem.{InitializerItem}
+use Rattle.c_language.specs.declared.unit.InitializerItem.{InitializerItem}
 use Rattle.c_grammar.specs.Parts.{State}
 use Rattle.c_grammar.specs.Reading.{Reading}
 use Rattle.c_grammar.specs.UnitReading.{initializer_at, more_items_at}

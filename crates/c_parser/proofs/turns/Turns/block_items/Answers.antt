@@ -1,6 +1,6 @@
 use Rattle.std.proofs.Common.{◌≡◌, ◌-◌, length, suc, true, false, arith, rules}
 use Rattle.std.proofs.lemmas.Result.{err_from_is_err_and}
-use Rattle.c_tokens.specs.declared.token.Punctuator.TheVariants as mark
+use Rattle.c_language.specs.declared.token.Punctuator.TheVariants as mark
 use Rattle.c_grammar.specs.Reading.{begins}
 use Rattle.c_grammar.specs.UnitReading.{stmt_at, block_items_at}
 use Rattle.c_reading.specs.Cursor.{here}

@@ -1,5 +1,5 @@
 use Rattle.std.proofs.Common.{arith}
-use Rattle.c_says.specs.Scopes.{with_entry}
+use Rattle.c_language.specs.Scopes.{with_entry}
 use Rattle.c_type_scope.proofs.Innermost.{replaced}
 use Rattle.c_type_scope.proofs.scope.Scope.declare_entry.Goals as goal
 

@@ -1,5 +1,5 @@
 use Rattle.std.proofs.Common.{◌≡◌, IfSome, subst, rules}
-use Rattle.c_says.specs.Units as units
+use Rattle.c_language.specs.Units as units
 use Rattle.c_types.proofs.scope.Scope.declare_function.Goals as goal
 
 pub invariant_of-self : goal.invariant_of-self

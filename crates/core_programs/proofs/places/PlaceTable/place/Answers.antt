@@ -2,7 +2,7 @@ use Rattle.std.proofs.Common.{rules, nat_lt, sym, ap, ◌∙◌, subst}
 use Rattle.std.specs.Ordering.{nat_cmp}
 use Rattle.std.specs.List.Sorted.{IsStrictlySortedBy}
 use Rattle.std.proofs.lemmas.List.Sorted.{IsPartitionPoint-from_clause}
-use Rattle.c_runs.specs.Runs.{place_in}
+use Rattle.c_means.specs.Runs.{place_in}
 use Rattle.core_programs.proofs.OffsetLaws.{place_at, sorted_divides}
 use Rattle.core_programs.proofs.places.PlaceTable.place.Goals as goal
 

@@ -1,6 +1,6 @@
 use Rattle.std.proofs.Common.{suc, ◌+◌, sym, ap, ◌∙◌, option_map, arith}
-use Rattle.bit_words.specs.Worlds.{WorldTables}
-use Rattle.c_runs.specs.Units.{world_of}
+use Rattle.plain_data.specs.Worlds.{WorldTables}
+use Rattle.c_means.specs.Units.{world_of}
 use Rattle.core_tree.specs.Codes.{code, turns_from}
 use Rattle.core_tree.specs.Values.{value}
 use Rattle.core_running.specs.Frames.{env_of}

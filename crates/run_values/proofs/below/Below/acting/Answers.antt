@@ -1,5 +1,5 @@
 use Rattle.std.proofs.Common.{map}
-use Rattle.bit_words.specs.declared.run.Happening.TheVariants.{Call}
+use Rattle.plain_data.specs.declared.run.Happening.TheVariants.{Call}
 use Rattle.c_machine.specs.States.{state}
 use Rattle.c_machine.specs.Worth.{worth}
 use Rattle.core_tree.specs.Callees.{called}

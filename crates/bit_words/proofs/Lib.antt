@@ -1,3 +1,0 @@
-pub mod Signed
-pub mod WordLaws
-pub mod Tables

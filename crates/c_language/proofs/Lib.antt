@@ -1,0 +1,11 @@
+pub mod Folds
+pub mod Induction
+pub mod PlaceLemmas
+pub mod TreeFolds
+pub mod Qualified
+pub mod Words
+pub mod TypeRows
+pub mod Values
+pub mod Built
+pub mod Equations
+pub mod Rows

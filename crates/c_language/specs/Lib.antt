@@ -1,0 +1,15 @@
+pub mod Standing
+pub mod Folds
+pub mod PlaceTables
+pub mod Types
+pub mod Integers
+pub mod Layouts
+pub mod Operators
+pub mod Compatible
+pub mod Scopes
+pub mod Typing
+pub mod Declares
+pub mod Trees
+pub mod Initials
+pub mod Declarations
+pub mod Units

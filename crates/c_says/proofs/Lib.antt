@@ -1,3 +1,0 @@
-pub mod Built
-pub mod Equations
-pub mod Rows

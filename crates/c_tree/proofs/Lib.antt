@@ -1,4 +1,0 @@
-pub mod Folds
-pub mod Induction
-pub mod PlaceLemmas
-pub mod TreeFolds

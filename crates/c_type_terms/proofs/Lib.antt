@@ -1,4 +1,0 @@
-pub mod Qualified
-pub mod Words
-pub mod Rows
-pub mod Values

@@ -1,5 +1,0 @@
-use Rattle.std.proofs.Common.{length}
-use Rattle.c_type_terms.proofs.tables.Tables.+size_from.Given as goal
-
-abbrev pub decreases-size_from : goal.decreases-size_from
-decreases-size_from l = length l.derivations.now

@@ -1,0 +1,8 @@
+use Rattle.std.proofs.Common.{ap, ◌∙◌}
+use Rattle.plain_data.specs.Words.{word}
+use Rattle.plain_data.proofs.Signed.{remainder_passed}
+use Rattle.plain_data.proofs.words.srem.Goals as goal
+
+pub returns-clause-value : goal.returns-clause-value
+returns-clause-value c =
+    c.wrap.ensures.value ∙ ap (word c.args.width) (remainder_passed c.args.width c.args.a c.args.b _ _ _ c.requires.a_in c.requires.b_in c.to_signed.ensures c.to_signed-2.ensures c.from.ensures)
