@@ -12,7 +12,7 @@ use c_language::{Base, CType, Derivation, IntegerKind, Means, Prototype, Tables}
 use std::alloc::{AllocError, Global};
 
 /// A type as such functions have it.
-#[derive(Clone, Copy, Debug, PartialEq, Eq)]
+#[derive(Clone, Copy, PartialEq, Eq)]
 pub enum PlainType {
     Void,
     /// A pointer to anything.

@@ -1,5 +1,5 @@
 /// Where a declarator stands, which decides whether it has a name.
-#[derive(Clone, Copy, Debug, PartialEq, Eq)]
+#[derive(Clone, Copy, PartialEq, Eq)]
 pub enum DeclaratorPlace {
     /// In a declaration or a function definition: it has a name.
     Declaration,

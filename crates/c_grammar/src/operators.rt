@@ -9,7 +9,7 @@ use c_language::{
 };
 
 /// An operator between two operands.
-#[derive(Clone, Copy, Debug, PartialEq, Eq)]
+#[derive(Clone, Copy, PartialEq, Eq)]
 pub enum Infix {
     Binary(BinaryOperator),
     Assign(Option<BinaryOperator>),

@@ -5,7 +5,7 @@ ghost use Rattle.c_grammar.specs.TypeWords as spec;
 use c_language::TypeWord;
 
 /// What a declaration specifier says of the type.
-#[derive(Clone, Copy, Debug, PartialEq, Eq)]
+#[derive(Clone, Copy, PartialEq, Eq)]
 pub enum TypeKind {
     /// Nothing: it is a storage class, a qualifier or `inline`.
     NoType,
@@ -16,7 +16,7 @@ pub enum TypeKind {
 }
 
 /// How many type specifiers of each group stand together, each counted up to 3.
-#[derive(Clone, Copy, Debug, PartialEq, Eq)]
+#[derive(Clone, Copy, PartialEq, Eq)]
 pub struct TypeWords {
     /// Types that stand alone: `void`, `_Bool`, `__builtin_va_list`, and what is no word.
     pub alone: u32,

@@ -10,7 +10,7 @@ use plain_data::Items;
 use std::alloc::{AllocError, Global};
 
 /// Where a type belongs, whatever its qualifiers (C99 6.2.5).
-#[derive(Clone, Copy, Debug, PartialEq, Eq)]
+#[derive(Clone, Copy, PartialEq, Eq)]
 pub enum Class {
     Void,
     /// An integer type; an enumerated type is one, with the range of `int`.

@@ -4,7 +4,7 @@ use plain_data::Items;
 
 /// An integer type other than an enumerated type (C99 6.2.5p4 to p6, p15). Plain `char` is a type of its own, and so
 /// are `long` and `long long`, though some of these have one size and sign.
-#[derive(Clone, Copy, Debug, PartialEq, Eq)]
+#[derive(Clone, Copy, PartialEq, Eq)]
 pub enum IntegerKind {
     Bool,
     Char,
@@ -21,7 +21,7 @@ pub enum IntegerKind {
 }
 
 /// A real floating type (C99 6.2.5p10), or one of TS 18661-3, which are types of their own.
-#[derive(Clone, Copy, Debug, PartialEq, Eq)]
+#[derive(Clone, Copy, PartialEq, Eq)]
 pub enum RealKind {
     Float,
     Double,
@@ -34,7 +34,7 @@ pub enum RealKind {
 }
 
 /// Which numbers a floating type has (C99 6.2.5p10 to p11, G.2).
-#[derive(Clone, Copy, Debug, PartialEq, Eq)]
+#[derive(Clone, Copy, PartialEq, Eq)]
 pub enum Domain {
     Real,
     Complex,
@@ -42,14 +42,14 @@ pub enum Domain {
 }
 
 /// A floating type: a real type, or the complex or imaginary type that corresponds to one.
-#[derive(Clone, Copy, Debug, PartialEq, Eq)]
+#[derive(Clone, Copy, PartialEq, Eq)]
 pub struct FloatingKind {
     pub real: RealKind,
     pub domain: Domain,
 }
 
 /// The qualifiers of a type (C99 6.7.3); each may be written any number of times.
-#[derive(Clone, Copy, Debug, PartialEq, Eq)]
+#[derive(Clone, Copy, PartialEq, Eq)]
 pub struct Qualifiers {
     pub is_const: bool,
     pub is_volatile: bool,
@@ -58,7 +58,7 @@ pub struct Qualifiers {
 
 /// What a type's derivations begin with. A structure or union, and an enumerated type, is itself by its declaration:
 /// its number in the table of its kind.
-#[derive(Clone, Copy, Debug, PartialEq, Eq)]
+#[derive(Clone, Copy, PartialEq, Eq)]
 pub enum Base {
     Void,
     Integer(IntegerKind),
@@ -72,7 +72,7 @@ pub enum Base {
 }
 
 /// One step of a derivation (C99 6.2.5p20).
-#[derive(Clone, Copy, Debug, PartialEq, Eq)]
+#[derive(Clone, Copy, PartialEq, Eq)]
 pub enum Derivation {
     /// A pointer with these qualifiers to what is left.
     Pointer(Qualifiers),

@@ -4,7 +4,7 @@ use crate::{IntegerConstant, Name};
 use plain_data::{Bytes, Items, Shared};
 
 /// A unary operator (C99 6.5.3).
-#[derive(Clone, Copy, Debug, PartialEq, Eq)]
+#[derive(Clone, Copy, PartialEq, Eq)]
 pub enum UnaryOperator {
     Address,
     Indirection,
@@ -17,14 +17,14 @@ pub enum UnaryOperator {
 }
 
 /// A postfix operator without operand of its own (C99 6.5.2.4).
-#[derive(Clone, Copy, Debug, PartialEq, Eq)]
+#[derive(Clone, Copy, PartialEq, Eq)]
 pub enum PostfixOperator {
     Increment,
     Decrement,
 }
 
 /// A binary operator (C99 6.5.5 to 6.5.14).
-#[derive(Clone, Copy, Debug, PartialEq, Eq)]
+#[derive(Clone, Copy, PartialEq, Eq)]
 pub enum BinaryOperator {
     Multiply,
     Divide,
@@ -47,7 +47,7 @@ pub enum BinaryOperator {
 }
 
 /// A storage-class specifier (C99 6.7.1).
-#[derive(Clone, Copy, Debug, PartialEq, Eq)]
+#[derive(Clone, Copy, PartialEq, Eq)]
 pub enum StorageClass {
     Typedef,
     Extern,
@@ -57,7 +57,7 @@ pub enum StorageClass {
 }
 
 /// A type qualifier (C99 6.7.3).
-#[derive(Clone, Copy, Debug, PartialEq, Eq)]
+#[derive(Clone, Copy, PartialEq, Eq)]
 pub enum Qualifier {
     Const,
     Restrict,
@@ -66,7 +66,7 @@ pub enum Qualifier {
 
 /// A type specifier that is one word (C99 6.7.2), a floating type of TS 18661-3, or the opaque type of variable
 /// argument lists.
-#[derive(Clone, Copy, Debug, PartialEq, Eq)]
+#[derive(Clone, Copy, PartialEq, Eq)]
 pub enum TypeWord {
     Void,
     Char,
@@ -89,14 +89,14 @@ pub enum TypeWord {
 }
 
 /// Whether a type with members is a structure or a union (C99 6.7.2.1).
-#[derive(Clone, Copy, Debug, PartialEq, Eq)]
+#[derive(Clone, Copy, PartialEq, Eq)]
 pub enum AggregateKind {
     Struct,
     Union,
 }
 
 /// A word between the brackets of an array declarator (C99 6.7.5.2).
-#[derive(Clone, Copy, Debug, PartialEq, Eq)]
+#[derive(Clone, Copy, PartialEq, Eq)]
 pub enum ArrayWord {
     Qualifier(Qualifier),
     Static,

@@ -21,7 +21,7 @@ pub const OBJECT_LIMIT: u64 = 1_048_576;
 const POINTER_BYTES: u64 = 8;
 
 /// How many bytes an object takes, and to how many it is aligned.
-#[derive(Clone, Copy, Debug, PartialEq, Eq)]
+#[derive(Clone, Copy, PartialEq, Eq)]
 pub struct Extent {
     pub size: u64,
     pub align: u64,

@@ -4,7 +4,7 @@ use crate::{CType, Name};
 use plain_data::Shared;
 
 /// A rule on sizes or constants that is broken.
-#[derive(Clone, Copy, Debug, PartialEq, Eq)]
+#[derive(Clone, Copy, PartialEq, Eq)]
 pub enum LayoutRule {
     /// A type has no size where one is wanted.
     Incomplete,
@@ -15,7 +15,7 @@ pub enum LayoutRule {
 }
 
 /// A rule that is broken.
-#[derive(Clone, Copy, Debug, PartialEq, Eq)]
+#[derive(Clone, Copy, PartialEq, Eq)]
 pub enum Rule {
     Undeclared,
     TypeMismatch,
@@ -29,14 +29,14 @@ pub enum Rule {
 }
 
 /// A broken rule, and the byte offset of the token at which it is broken.
-#[derive(Clone, Copy, Debug, PartialEq, Eq)]
+#[derive(Clone, Copy, PartialEq, Eq)]
 pub struct Fault {
     pub at: u32,
     pub rule: Rule,
 }
 
 /// The linkage of a name (C99 6.2.2).
-#[derive(Clone, Copy, Debug, PartialEq, Eq)]
+#[derive(Clone, Copy, PartialEq, Eq)]
 pub enum Linkage {
     None,
     Internal,
@@ -44,7 +44,7 @@ pub enum Linkage {
 }
 
 /// The storage duration of an object (C99 6.2.4).
-#[derive(Clone, Copy, Debug, PartialEq, Eq)]
+#[derive(Clone, Copy, PartialEq, Eq)]
 pub enum Duration {
     Static,
     Automatic,
@@ -84,7 +84,7 @@ pub struct Entry {
 }
 
 /// Which type a tag stands for (C99 6.7.2.3), by its number in the tables.
-#[derive(Clone, Copy, Debug, PartialEq, Eq)]
+#[derive(Clone, Copy, PartialEq, Eq)]
 pub enum TagMeans {
     Aggregate(u32),
     Enumerated(u32),

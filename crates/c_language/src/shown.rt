@@ -19,7 +19,7 @@ pub struct Shown {
 }
 
 /// An argument of a call, as a value (C99 6.5.2.2p4): its own token, and where its type belongs.
-#[derive(Clone, Copy, Debug, PartialEq, Eq)]
+#[derive(Clone, Copy, PartialEq, Eq)]
 pub struct Argument {
     pub at: u32,
     pub class: Class,

@@ -5,14 +5,14 @@ use crate::ctype::CType;
 use plain_data::Items;
 
 /// How the members of a type lie (C99 6.2.5p20): one behind another, or all at the beginning.
-#[derive(Clone, Copy, Debug, PartialEq, Eq)]
+#[derive(Clone, Copy, PartialEq, Eq)]
 pub enum AggregateForm {
     Structure,
     Union,
 }
 
 /// Why no layout is known of a structure or union.
-#[derive(Clone, Copy, Debug, PartialEq, Eq)]
+#[derive(Clone, Copy, PartialEq, Eq)]
 pub enum OpaqueCause {
     /// It has a bit-field itself.
     BitField,
@@ -54,7 +54,7 @@ pub struct Aggregate {
 }
 
 /// What a function declarator says of parameters (C99 6.7.5.3).
-#[derive(Clone, Copy, Debug, PartialEq, Eq)]
+#[derive(Clone, Copy, PartialEq, Eq)]
 pub enum Prototype {
     /// A list of parameter types, `(void)` among them.
     Fixed,
@@ -75,7 +75,7 @@ pub struct Signature {
 }
 
 /// An enumerated type.
-#[derive(Clone, Copy, Debug, PartialEq, Eq)]
+#[derive(Clone, Copy, PartialEq, Eq)]
 pub struct Enumeration {
     /// Its list of enumerators has ended (C99 6.7.2.2p4).
     pub is_complete: bool,

@@ -8,7 +8,7 @@ pub type Name = Shared<Bytes>;
 
 /// Where a byte stands: a file by its number among the source's file names, and the physical line and
 /// the byte's position in it, both counted from 1.
-#[derive(Clone, Copy, Debug, PartialEq, Eq)]
+#[derive(Clone, Copy, PartialEq, Eq)]
 pub struct Place {
     pub file: u32,
     pub line: u32,
@@ -132,14 +132,14 @@ pub enum IntegerType {
 }
 
 /// What an integer constant says (C99 6.4.4.1).
-#[derive(Clone, Copy, Debug, PartialEq, Eq)]
+#[derive(Clone, Copy, PartialEq, Eq)]
 pub struct IntegerConstant {
     pub value: u64,
     pub integer_type: IntegerType,
 }
 
 /// What a token means.
-#[derive(Debug, PartialEq, Drop)]
+#[derive(PartialEq, Drop)]
 pub enum TokenKind {
     Identifier(Name),
     Keyword(Keyword),
@@ -161,7 +161,7 @@ pub enum TokenKind {
 
 /// A token: what it means, the bytes that it takes of the source, from `start` to before `end`, and
 /// where it stands.
-#[derive(Debug, PartialEq, Drop)]
+#[derive(PartialEq, Drop)]
 pub struct Token {
     pub kind: TokenKind,
     pub start: u32,
@@ -171,7 +171,7 @@ pub struct Token {
 
 /// A source's tokens in order, and the names of its files: the source's own, and then the name of each
 /// line marker.
-#[derive(Debug, Drop)]
+#[derive(Drop)]
 pub struct Tokens {
     pub files: Items<Name>,
     pub tokens: Items<Token>,
@@ -198,7 +198,7 @@ impl Tokens {
 
 /// Where a byte stands: the name of its file, its physical line, and its position in that line, both
 /// counted from 1.
-#[derive(Debug, PartialEq, Drop)]
+#[derive(PartialEq, Drop)]
 pub struct Spot {
     pub file: Bytes,
     pub line: u32,

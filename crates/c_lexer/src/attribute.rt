@@ -10,7 +10,7 @@ use c_language::{Punctuator, Token, TokenKind};
 use std::alloc::Global;
 
 /// How a token takes part in attributes.
-#[derive(Clone, Copy, Debug)]
+#[derive(Clone, Copy)]
 pub enum Role {
     /// The word that begins an attribute, if a group of parentheses follows.
     Attribute,

@@ -8,7 +8,7 @@ use crate::literal::closing;
 use crate::number::value_of;
 
 /// What a directive says.
-#[derive(Clone, Copy, Debug)]
+#[derive(Clone, Copy)]
 pub enum Directive {
     /// The line that follows has this number and is of the file whose name stands in the directive from
     /// `from` to before `to`.

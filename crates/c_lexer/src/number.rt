@@ -10,7 +10,7 @@ use crate::table::{Length, Suffix};
 use c_language::{IntegerConstant, IntegerType};
 
 /// How an integer constant is written.
-#[derive(Clone, Copy, Debug)]
+#[derive(Clone, Copy)]
 pub enum Base {
     Decimal,
     Octal,
@@ -18,7 +18,7 @@ pub enum Base {
 }
 
 /// Why a number is no constant.
-#[derive(Clone, Copy, Debug, PartialEq, Eq)]
+#[derive(Clone, Copy, PartialEq, Eq)]
 pub enum NumberFault {
     /// An integer constant of 2^64 or more.
     Wide,
@@ -27,7 +27,7 @@ pub enum NumberFault {
 }
 
 /// What a preprocessing number means.
-#[derive(Clone, Copy, Debug)]
+#[derive(Clone, Copy)]
 pub enum Numeric {
     Integer(IntegerConstant),
     Floating,

@@ -11,7 +11,7 @@ use crate::number::number_more;
 use c_language::Punctuator;
 
 /// Why nothing begins at a byte.
-#[derive(Clone, Copy, Debug)]
+#[derive(Clone, Copy)]
 pub enum Stray {
     BadByte,
     OpenText,
@@ -19,7 +19,7 @@ pub enum Stray {
 }
 
 /// What a piece of a source is.
-#[derive(Clone, Copy, Debug)]
+#[derive(Clone, Copy)]
 pub enum Lexeme {
     /// White space within a line.
     Blank,

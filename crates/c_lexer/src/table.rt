@@ -3,7 +3,7 @@
 use c_language::{Keyword, Punctuator};
 
 /// What a word means that isn't an identifier.
-#[derive(Clone, Copy, Debug, PartialEq, Eq)]
+#[derive(Clone, Copy, PartialEq, Eq)]
 pub enum Reserved {
     Keyword(Keyword),
     FunctionName,
@@ -131,7 +131,7 @@ pub const PUNCTUATORS: [(&[u8], Punctuator); 52] = [
 ];
 
 /// How much longer than int a suffix makes an integer constant.
-#[derive(Clone, Copy, Debug, PartialEq, Eq)]
+#[derive(Clone, Copy, PartialEq, Eq)]
 pub enum Length {
     Plain,
     Long,
@@ -139,7 +139,7 @@ pub enum Length {
 }
 
 /// What the suffix of an integer constant says.
-#[derive(Clone, Copy, Debug, PartialEq, Eq)]
+#[derive(Clone, Copy, PartialEq, Eq)]
 pub enum Suffix {
     Signed(Length),
     Unsigned(Length),

@@ -3,7 +3,7 @@
 use std::alloc::AllocError;
 
 /// Why a step gave no value: the run has ended, which the machine's state tells, or memory is used up.
-#[derive(Clone, Copy, Debug, PartialEq, Eq)]
+#[derive(Clone, Copy, PartialEq, Eq)]
 pub enum Halt {
     Over,
     Memory,

@@ -27,7 +27,7 @@ pub struct IdentityFunction {
 }
 
 /// What a function that fills a buffer answers.
-#[derive(Clone, Copy, Debug, PartialEq, Eq)]
+#[derive(Clone, Copy, PartialEq, Eq)]
 pub enum FillAnswer {
     /// What any function outside may answer.
     Free,

@@ -1,5 +1,5 @@
 /// What an object is: how long it lives, and whether it may be written (C99 6.2.4).
-#[derive(Clone, Copy, Debug, PartialEq, Eq, Hash)]
+#[derive(Clone, Copy, PartialEq, Eq, Hash)]
 pub enum ObjectKind {
     /// Of static storage duration: it lives as long as the program runs.
     Static,
@@ -14,7 +14,7 @@ pub enum ObjectKind {
 }
 
 /// A live object: its kind, and its size in bytes. A function is an object of size 0.
-#[derive(Clone, Copy, Debug, PartialEq, Eq)]
+#[derive(Clone, Copy, PartialEq, Eq)]
 pub struct Object {
     pub kind: ObjectKind,
     pub size: u32,

@@ -3,7 +3,7 @@ use proof_check::{Refutation, Trail};
 use thiserror::Error;
 
 /// What a question comes to.
-#[derive(Debug, Drop)]
+#[derive(Drop)]
 pub enum Answer {
     /// An assignment that satisfies the clauses and makes the assumptions true.
     Sat(Assignment),

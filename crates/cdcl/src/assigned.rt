@@ -13,7 +13,7 @@ use std::alloc::{AllocError, Global};
 
 /// A literal that is taken as true: a decision, or implied by a clause. Level 0 has what the clauses imply, level 1 the
 /// assumptions and what these imply; decisions stand above.
-#[derive(Clone, Copy, Debug)]
+#[derive(Clone, Copy)]
 pub struct Entry {
     pub literal: Lit,
     pub reason: Option<ClauseId>,
@@ -21,7 +21,7 @@ pub struct Entry {
 }
 
 /// What a clause says where some literals are taken as true.
-#[derive(Clone, Copy, Debug)]
+#[derive(Clone, Copy)]
 pub enum Reading {
     /// This literal is true.
     Satisfied(Lit),

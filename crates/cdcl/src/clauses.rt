@@ -7,7 +7,7 @@ use plain_data::Items;
 use proof_check::Steps;
 
 /// Where a clause stands: among those given, the assumptions as unit clauses, or those learnt.
-#[derive(Clone, Copy, Debug, PartialEq, Eq)]
+#[derive(Clone, Copy, PartialEq, Eq)]
 pub enum ClauseId {
     Given(u32),
     Assumed(u32),

@@ -1,7 +1,7 @@
 /// When a search goes back to level 0: after so many conflicts as the next number of the sequence 1, 1, 2, 1, 1, 2, 4, ..
 /// says, in hundreds (Luby, Sinclair and Zuckerman, "Optimal speedup of Las Vegas algorithms", 1993, by Knuth's reluctant
 /// doubling).
-#[derive(Clone, Copy, Debug)]
+#[derive(Clone, Copy)]
 pub struct Restarts {
     turn: u32,
     length: u32,

@@ -28,7 +28,7 @@ pub struct Search {
 }
 
 /// What a search goes on with where propagation has ended.
-#[derive(Clone, Copy, Debug)]
+#[derive(Clone, Copy)]
 pub enum Next {
     Decide(Lit),
     Conflict(ClauseId),
@@ -37,7 +37,7 @@ pub enum Next {
 }
 
 /// What a search comes to.
-#[derive(Clone, Copy, Debug)]
+#[derive(Clone, Copy)]
 pub enum Event {
     Conflict(ClauseId),
     /// Each clause given has a true literal.

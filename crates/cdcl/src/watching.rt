@@ -10,14 +10,14 @@ use std::alloc::{AllocError, Global};
 use std::mem;
 
 /// A clause that waits at a literal: it is read again once the literal is false, unless its blocking literal is true.
-#[derive(Clone, Copy, Debug)]
+#[derive(Clone, Copy)]
 pub struct Watch {
     pub id: ClauseId,
     pub blocking: Lit,
 }
 
 /// What becomes of a watch at a literal that is false.
-#[derive(Clone, Copy, Debug)]
+#[derive(Clone, Copy)]
 pub enum Visit {
     Stays(Watch),
     /// The clause waits at another literal now.
@@ -27,7 +27,7 @@ pub enum Visit {
 }
 
 /// The two literals at which a clause waits.
-#[derive(Clone, Copy, Debug)]
+#[derive(Clone, Copy)]
 pub struct Pair {
     pub first: Lit,
     pub second: Lit,

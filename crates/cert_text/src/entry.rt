@@ -6,7 +6,7 @@ use plain_data::Items;
 use std::alloc::{AllocError, Global};
 
 /// A key, and what stands there.
-#[derive(Clone, Copy, Debug, PartialEq, Eq)]
+#[derive(Clone, Copy, PartialEq, Eq)]
 pub(crate) struct Entry {
     pub(crate) key: u64,
     pub(crate) value: u64,

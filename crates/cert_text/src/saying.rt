@@ -5,7 +5,7 @@ use crate::entry::{Entry, entry_in, spells};
 use std::alloc::{AllocError, Global};
 
 /// What a line of a world says.
-#[derive(Clone, Copy, Debug, PartialEq, Eq)]
+#[derive(Clone, Copy, PartialEq, Eq)]
 pub(crate) enum Said {
     Head,
     Word(u32, u64),

@@ -4,7 +4,7 @@ ghost use Rattle.cert_text.specs.WorldSteps as spec;
 use crate::saying::Said;
 
 /// What was read so far of a world's lines.
-#[derive(Clone, Copy, Debug, PartialEq, Eq)]
+#[derive(Clone, Copy, PartialEq, Eq)]
 pub(crate) enum Stage {
     /// Nothing.
     Head,

@@ -7,7 +7,7 @@ use plain_data::Items;
 use std::marker::Model;
 
 /// A truth value for each variable, at the variable's number; a variable past the end is false.
-#[derive(Debug, Drop)]
+#[derive(Drop)]
 pub struct Assignment {
     values: Items<bool>,
 }

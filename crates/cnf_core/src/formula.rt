@@ -9,7 +9,7 @@ use std::marker::Model;
 /// A conjunction of clauses. They are numbered from 1: the clause number `n` stands at index `n - 1`.
 ///
 /// A clause costs a word beside its literals, and no allocation of its own.
-#[derive(Debug, Drop)]
+#[derive(Drop)]
 pub struct Formula {
     clauses: Rows<Lit>,
 }

@@ -5,7 +5,7 @@ use std::fmt;
 use std::marker::Model;
 
 /// A variable from 1 to 2147483647 or its negation, in four bytes.
-#[derive(Clone, Copy, Debug)]
+#[derive(Clone, Copy)]
 pub struct Lit {
     code: u32,
 }

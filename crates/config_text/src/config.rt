@@ -43,7 +43,7 @@ pub enum ConfigFault {
 }
 
 /// What is wrong with a key or its value.
-#[derive(Clone, Copy, Debug, PartialEq, Eq)]
+#[derive(Clone, Copy, PartialEq, Eq)]
 pub(crate) enum KeyFault {
     Unknown,
     WrongType,
@@ -51,7 +51,7 @@ pub(crate) enum KeyFault {
 }
 
 /// The keys under which names have entries.
-#[derive(Clone, Copy, Debug, PartialEq, Eq)]
+#[derive(Clone, Copy, PartialEq, Eq)]
 pub(crate) enum EntryKind {
     Log,
     Identity,

@@ -8,7 +8,7 @@ use c_language::{Entry, Means, Tables};
 use std::alloc::{AllocError, Global};
 
 /// A function of the C library that has a body here.
-#[derive(Clone, Copy, Debug, PartialEq, Eq)]
+#[derive(Clone, Copy, PartialEq, Eq)]
 pub enum PreludeFunction {
     Strlen,
     Strcmp,

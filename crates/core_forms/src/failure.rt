@@ -3,7 +3,7 @@
 use std::alloc::AllocError;
 
 /// Why no core was made: the expression isn't of the part of C that is translated so far, or memory is used up.
-#[derive(Clone, Copy, Debug, PartialEq, Eq)]
+#[derive(Clone, Copy, PartialEq, Eq)]
 pub enum NoCore {
     Outside,
     Memory,

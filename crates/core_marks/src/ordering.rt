@@ -7,7 +7,7 @@ use plain_data::{Items, Undefined};
 use std::alloc::AllocError;
 
 /// Where a mark stands among others: by its token, and at one token by what it says.
-#[derive(Clone, Copy, Debug, PartialEq, Eq, PartialOrd, Ord)]
+#[derive(Clone, Copy, PartialEq, Eq, PartialOrd, Ord)]
 pub(crate) struct Rank {
     at: u32,
     class: u32,

@@ -6,14 +6,14 @@ use printf_text::Pieces;
 
 /// Where an object is that has a name: made anew at each entry of its block, or there throughout the run, with the
 /// number of its place.
-#[derive(Clone, Copy, Debug, PartialEq, Eq)]
+#[derive(Clone, Copy, PartialEq, Eq)]
 pub enum Holder {
     Local,
     Fixed { place: u64 },
 }
 
 /// A variable that a print shows, by the offset of its name in its first declaration.
-#[derive(Clone, Copy, Debug, PartialEq, Eq)]
+#[derive(Clone, Copy, PartialEq, Eq)]
 pub struct Watched {
     pub at: u32,
     pub holder: Holder,
@@ -21,7 +21,7 @@ pub struct Watched {
 }
 
 /// What a pointer from outside points to.
-#[derive(Clone, Copy, Debug, PartialEq, Eq)]
+#[derive(Clone, Copy, PartialEq, Eq)]
 pub enum Pointee {
     /// Characters that end with 0, by the bound on strings from outside.
     Text,
@@ -30,7 +30,7 @@ pub enum Pointee {
 }
 
 /// What a function outside answers.
-#[derive(Clone, Copy, Debug, PartialEq, Eq)]
+#[derive(Clone, Copy, PartialEq, Eq)]
 pub enum OutsideAnswer {
     Nothing,
     /// The word of the call's first place.
@@ -41,7 +41,7 @@ pub enum OutsideAnswer {
 
 /// A buffer that a function outside fills: the indices of the buffer and of its length among the arguments, and
 /// whether the answer is how many bytes were filled, or -1.
-#[derive(Clone, Copy, Debug, PartialEq, Eq)]
+#[derive(Clone, Copy, PartialEq, Eq)]
 pub struct Fill {
     pub buffer: u32,
     pub length: u32,

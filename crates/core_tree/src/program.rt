@@ -7,7 +7,7 @@ use c_store::ObjectKind;
 use plain_data::{Bytes, Items, Shared};
 
 /// A parameter, by the offset of its name: an object, in which the argument is stored as a value of this type.
-#[derive(Clone, Copy, Debug, PartialEq, Eq)]
+#[derive(Clone, Copy, PartialEq, Eq)]
 pub struct Parameter {
     pub at: u32,
     pub stored: ValueType,

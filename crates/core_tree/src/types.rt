@@ -3,7 +3,7 @@
 use plain_data::Width;
 
 /// An integer type other than `_Bool`, by what it says of its values (C99 6.2.6.2).
-#[derive(Clone, Copy, Debug, PartialEq, Eq)]
+#[derive(Clone, Copy, PartialEq, Eq)]
 pub struct WordType {
     pub width: Width,
     pub is_signed: bool,
@@ -11,7 +11,7 @@ pub struct WordType {
 
 /// The type of a value. Each value is a whole number: of an integer type the number itself, of a pointer its 64-bit
 /// address, of a structure or union the number that its bytes spell, the least first.
-#[derive(Clone, Copy, Debug, PartialEq, Eq)]
+#[derive(Clone, Copy, PartialEq, Eq)]
 pub enum ValueType {
     /// No value: the number 0.
     Void,
@@ -24,7 +24,7 @@ pub enum ValueType {
 }
 
 /// An operator on two numbers of an integer type (C99 6.5.5 to 6.5.12).
-#[derive(Clone, Copy, Debug, PartialEq, Eq)]
+#[derive(Clone, Copy, PartialEq, Eq)]
 pub enum Arithmetic {
     Multiply,
     Divide,
@@ -45,7 +45,7 @@ pub enum Arithmetic {
 }
 
 /// An order of two pointers (C99 6.5.8).
-#[derive(Clone, Copy, Debug, PartialEq, Eq)]
+#[derive(Clone, Copy, PartialEq, Eq)]
 pub enum Relation {
     Less,
     Greater,
@@ -54,7 +54,7 @@ pub enum Relation {
 }
 
 /// What is done with two operands. Sizes are bytes of what a pointer points to.
-#[derive(Clone, Copy, Debug, PartialEq, Eq)]
+#[derive(Clone, Copy, PartialEq, Eq)]
 pub enum Operator {
     /// On integers, in this type, to which both operands are converted; a shift's count isn't.
     Numbers(Arithmetic, WordType),
@@ -75,7 +75,7 @@ pub enum Operator {
 }
 
 /// A unary operator on a number of an integer type (C99 6.5.3.3).
-#[derive(Clone, Copy, Debug, PartialEq, Eq)]
+#[derive(Clone, Copy, PartialEq, Eq)]
 pub enum Turning {
     Plus,
     Minus,
@@ -84,7 +84,7 @@ pub enum Turning {
 
 /// How an object is read or written: by the offset of the lvalue's token, as a value of this type; and whether its
 /// bytes may be of no live object, or of a string literal, which is tested then.
-#[derive(Clone, Copy, Debug, PartialEq, Eq)]
+#[derive(Clone, Copy, PartialEq, Eq)]
 pub struct Access {
     pub at: u32,
     pub stored: ValueType,
@@ -92,7 +92,7 @@ pub struct Access {
 }
 
 /// Which value `++` or `--` has (C99 6.5.2.4p2, 6.5.3.1p2).
-#[derive(Clone, Copy, Debug, PartialEq, Eq)]
+#[derive(Clone, Copy, PartialEq, Eq)]
 pub enum Answered {
     /// The one that was there.
     Before,

@@ -2,7 +2,7 @@
 use plain_data::{Bytes, Shared};
 
 /// Which arguments of a function, by their indices from 0, are the buffer that it fills and the length of that.
-#[derive(Clone, Copy, Debug, PartialEq, Eq)]
+#[derive(Clone, Copy, PartialEq, Eq)]
 pub struct Filling {
     pub buffer: u32,
     pub length: u32,

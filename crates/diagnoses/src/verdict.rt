@@ -2,7 +2,7 @@
 use proof_check::{Refutation, Trail};
 
 /// The question on a fact that stayed open.
-#[derive(Clone, Copy, Debug, PartialEq, Eq)]
+#[derive(Clone, Copy, PartialEq, Eq)]
 pub enum Open {
     /// Whether a run fits on which the fact holds.
     Having,

@@ -8,7 +8,7 @@ use core_tree::{Operator, Relation};
 
 /// What an operator is to know of an operand: the integer type that it has, or, of a pointer, the bytes of what it
 /// points to.
-#[derive(Clone, Copy, Debug, PartialEq, Eq)]
+#[derive(Clone, Copy, PartialEq, Eq)]
 pub struct OperandType {
     pub kind: Option<IntegerKind>,
     pub element: u64,

@@ -34,7 +34,7 @@ impl From<AllocError> for FormFault {
 }
 
 /// How deep statements nest, themselves among them, and how many choices stand in them.
-#[derive(Clone, Copy, Debug, PartialEq, Eq)]
+#[derive(Clone, Copy, PartialEq, Eq)]
 pub struct Size {
     pub nesting: u64,
     pub choices: u64,

@@ -13,7 +13,7 @@ use std::collections::HashMap;
 use term_bank::{Bank, BankFault, Node, Shape};
 
 /// What is to be done for a question.
-#[derive(Clone, Copy, Debug, PartialEq, Eq)]
+#[derive(Clone, Copy, PartialEq, Eq)]
 pub enum Task {
     /// To find what it leads to.
     Ask(Shape),

@@ -17,14 +17,14 @@ use plain_data::Width;
 use term_bank::{Bank, BankFault, Node, Shape, Sort};
 
 /// What a question leads to: a node, or another question.
-#[derive(Clone, Copy, Debug, PartialEq, Eq)]
+#[derive(Clone, Copy, PartialEq, Eq)]
 pub enum Found {
     Known(Node),
     Asked(Shape),
 }
 
 /// Of two answers the first where the condition is true.
-#[derive(Clone, Copy, Debug, PartialEq, Eq)]
+#[derive(Clone, Copy, PartialEq, Eq)]
 pub struct Choice {
     pub condition: Node,
     pub yes: Found,

@@ -18,7 +18,7 @@ use plain_data::Width;
 use term_bank::{Bank, BankFault, Connective, Node, Shape, Sort, WordOperator, WordTest};
 
 /// What is asked of the object of a number, whatever memory it is asked of.
-#[derive(Clone, Copy, Debug, PartialEq, Eq)]
+#[derive(Clone, Copy, PartialEq, Eq)]
 pub enum ObjectQuestion {
     /// Whether so many bytes from an address on are of its object, and it lives.
     Live { address: u32, length: u32 },

@@ -12,7 +12,7 @@ use std::alloc::Global;
 use term_bank::{Bank, BankFault, Node, Shape, Sort, WordTest, nodes_under};
 
 /// A byte of the initial memory: a row of the table.
-#[derive(Clone, Copy, Debug, PartialEq, Eq)]
+#[derive(Clone, Copy, PartialEq, Eq)]
 pub struct Row {
     /// The row's number.
     pub row: u32,
@@ -23,7 +23,7 @@ pub struct Row {
 }
 
 /// Terms without reads.
-#[derive(Debug, Drop)]
+#[derive(Drop)]
 pub struct Flat {
     /// The nodes that stand for the roots, in order.
     pub roots: Items<Node>,

@@ -5,7 +5,7 @@ use std::alloc::{AllocError, Global};
 use std::marker::Model;
 
 /// A stretch of a log, which is shared with the log.
-#[derive(Debug, Drop)]
+#[derive(Drop)]
 pub struct Stretch<'a> {
     bytes: &'a [u8],
 }
@@ -35,7 +35,7 @@ impl<'a> Stretch<'a> {
 }
 
 /// What a split says of one argument.
-#[derive(Debug, Drop)]
+#[derive(Drop)]
 pub enum Constraint<'a> {
     /// An integer that has these bits, converted to an unsigned type of the width.
     Equal {
@@ -71,7 +71,7 @@ pub enum Constraint<'a> {
 pub type Constraints<'a> = Items<Constraint<'a>>;
 
 /// One way to spell a stretch of a log.
-#[derive(Debug, Drop)]
+#[derive(Drop)]
 pub struct Split<'a> {
     /// The position after the stretch.
     pub end: usize,

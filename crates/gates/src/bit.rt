@@ -4,7 +4,7 @@ ghost use Rattle.gates.specs.Nets.{opposite};
 use cnf_core::Lit;
 
 /// A truth value: one that is known, or that of a literal.
-#[derive(Clone, Copy, Debug)]
+#[derive(Clone, Copy)]
 pub enum Bit {
     /// It is this in every model.
     Known(bool),

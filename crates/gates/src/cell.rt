@@ -1,5 +1,5 @@
 /// What defines a gate's variable: a function of literals, each by its code.
-#[derive(Clone, Copy, Debug, PartialEq, Eq, Hash)]
+#[derive(Clone, Copy, PartialEq, Eq, Hash)]
 pub(crate) enum Cell {
     /// Both are true.
     And(u32, u32),

@@ -9,7 +9,7 @@ use std::alloc::{AllocError, Global};
 use word_gates::input;
 
 /// Inputs that stand for what is found at a key.
-#[derive(Debug, Drop)]
+#[derive(Drop)]
 pub struct Row {
     /// A word of 64 bits.
     pub key: Items<Bit>,

@@ -12,7 +12,7 @@ pub const MAX_LOG_BYTES: usize = 65_536;
 /// A stripped log, with the first position of each line. Contracts see it as its bytes.
 ///
 /// A line ends after a newline; a last piece without one is a line where it isn't empty.
-#[derive(Debug, Drop)]
+#[derive(Drop)]
 pub struct LogText {
     bytes: Bytes,
     starts: Items<u32>,

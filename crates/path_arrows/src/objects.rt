@@ -17,7 +17,7 @@ use term_bank::{Bank, BankFault, Node, WordOperator};
 
 /// An automatic object: its declaration's offset in the source, how many places it is behind the base, and how many
 /// bytes it has.
-#[derive(Clone, Copy, Debug, PartialEq, Eq)]
+#[derive(Clone, Copy, PartialEq, Eq)]
 pub struct Object {
     pub at: u32,
     pub offset: u64,

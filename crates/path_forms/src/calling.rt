@@ -15,7 +15,7 @@ use term_bank::Bank;
 
 /// A call: the byte offset of the callee's name, the type of its answer, whether the answer is used, how many arguments
 /// are on top of the operands, and how many places its own first one is behind the base.
-#[derive(Clone, Copy, Debug, PartialEq, Eq)]
+#[derive(Clone, Copy, PartialEq, Eq)]
 pub struct CallSite {
     pub at: u32,
     pub answer: ValueType,

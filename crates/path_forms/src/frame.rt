@@ -3,7 +3,7 @@ ghost use Rattle.std.specs.Prelude.{◌≡◌, ◌<◌, cond, nat_eq, IfSome, So
 ghost use Rattle.path_forms.specs.Around.{IsPlace};
 
 /// The automatic object that is declared at an offset of the source, and how many places it is behind the base.
-#[derive(Clone, Copy, Debug, PartialEq, Eq)]
+#[derive(Clone, Copy, PartialEq, Eq)]
 pub struct Placed {
     pub at: u32,
     pub offset: u64,

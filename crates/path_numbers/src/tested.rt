@@ -5,14 +5,14 @@ use plain_data::Undefined;
 use term_bank::Node;
 
 /// A kind of undefined behaviour, which is met where the truth is true.
-#[derive(Clone, Copy, Debug, PartialEq, Eq)]
+#[derive(Clone, Copy, PartialEq, Eq)]
 pub struct Fault {
     pub truth: Node,
     pub kind: Undefined,
 }
 
 /// An operator's answer: the first fault whose truth is true, else the number.
-#[derive(Clone, Copy, Debug, PartialEq, Eq)]
+#[derive(Clone, Copy, PartialEq, Eq)]
 pub struct Tested {
     pub number: Number,
     pub first: Option<Fault>,

@@ -8,7 +8,7 @@ use std::alloc::{AllocError, Global};
 use term_bank::Node;
 
 /// A number of an integer type: the word of a node of its width.
-#[derive(Clone, Copy, Debug, PartialEq, Eq)]
+#[derive(Clone, Copy, PartialEq, Eq)]
 pub struct Number {
     pub node: Node,
     pub word: WordType,

@@ -1,7 +1,7 @@
 use core_tree::{Access, Operator, Turning, ValueType, WordType};
 
 /// What an expression does with the values of its parts. `at` is the byte offset of a token in the source.
-#[derive(Clone, Copy, Debug, PartialEq, Eq)]
+#[derive(Clone, Copy, PartialEq, Eq)]
 pub enum Leaf {
     Constant {
         value: i128,

@@ -12,7 +12,7 @@ use std::alloc::Global;
 use term_bank::{Bank, BankFault, Node};
 
 /// Where the truth is true the run ends.
-#[derive(Clone, Copy, Debug, PartialEq, Eq)]
+#[derive(Clone, Copy, PartialEq, Eq)]
 pub struct Exit {
     pub truth: Node,
     pub finish: Finish,

@@ -5,7 +5,7 @@ ghost use Rattle.std.specs.Prelude.{◌≡◌, ◌≤◌};
 /// `turns` a loop may start in one entry, `depth` levels of calls (`main` has 1), `heap` bytes of one
 /// heap request, `outside` bytes of a text from outside, `turns` of a library function (`texts`), and
 /// `arguments` of `main`.
-#[derive(Clone, Copy, Debug, PartialEq, Eq)]
+#[derive(Clone, Copy, PartialEq, Eq)]
 pub struct Bounds {
     pub turns: u32,
     pub depth: u32,

@@ -3,7 +3,7 @@ use crate::run::{Side, Undefined};
 
 /// What a report says of runs. `at` is the byte offset of a token in the source, and a line is one of
 /// the log, from 1.
-#[derive(Clone, Copy, Debug, PartialEq, Eq, PartialOrd, Ord, Hash)]
+#[derive(Clone, Copy, PartialEq, Eq)]
 pub enum Fact {
     /// The branch takes this side.
     Branch { at: u32, side: Side },
@@ -29,14 +29,14 @@ pub enum Fact {
 
 /// A variable whose value is seen at a print: the number of the print fact, from 1, and the byte offset
 /// of the name in the object's first declaration.
-#[derive(Clone, Copy, Debug, PartialEq, Eq)]
+#[derive(Clone, Copy, PartialEq, Eq)]
 pub struct Watched {
     pub fact: u32,
     pub object: u32,
 }
 
 /// The facts of a program and a log, and the watched variables of its print facts, both numbered from 1.
-#[derive(Debug, Drop)]
+#[derive(Drop)]
 pub struct Facts {
     pub facts: Items<Fact>,
     pub watched: Items<Watched>,

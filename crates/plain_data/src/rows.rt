@@ -6,7 +6,7 @@ use std::alloc::{AllocError, Global};
 use std::marker::Model;
 
 /// A list of lists in two allocations: the items of all rows, and where each row ends.
-#[derive(Debug, Drop)]
+#[derive(Drop)]
 pub struct Rows<T> {
     items: Vec<T>,
     ends: Vec<usize>,

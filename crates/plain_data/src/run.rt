@@ -2,7 +2,7 @@ use crate::Items;
 use crate::bytes::{Bytes, Numbers};
 
 /// The kinds of undefined behaviour that a run can meet, numbered from 1 in this order.
-#[derive(Clone, Copy, Debug, PartialEq, Eq, PartialOrd, Ord, Hash)]
+#[derive(Clone, Copy, PartialEq, Eq)]
 pub enum Undefined {
     /// A signed result outside its type (C99 6.5).
     Overflow,
@@ -25,7 +25,7 @@ pub enum Undefined {
 }
 
 /// How a run ends. `at` is the byte offset of a token in the source.
-#[derive(Clone, Copy, Debug, PartialEq, Eq)]
+#[derive(Clone, Copy, PartialEq, Eq)]
 pub enum Finish {
     /// `main` returned this value.
     Return(i32),
@@ -40,7 +40,7 @@ pub enum Finish {
 }
 
 /// The side that a branch takes.
-#[derive(Clone, Copy, Debug, PartialEq, Eq, PartialOrd, Ord, Hash)]
+#[derive(Clone, Copy, PartialEq, Eq)]
 pub enum Side {
     /// The condition, or the left operand, is not zero.
     Yes,
@@ -53,7 +53,7 @@ pub enum Side {
 }
 
 /// What a run does that facts speak of. `at` is the byte offset of a token in the source.
-#[derive(Debug, Drop)]
+#[derive(Drop)]
 pub enum Happening {
     /// The branch at the token takes a side.
     Branch { at: u32, side: Side },
@@ -64,7 +64,7 @@ pub enum Happening {
 }
 
 /// A happening, and how many bytes were printed before it.
-#[derive(Debug, Drop)]
+#[derive(Drop)]
 pub struct Event {
     pub what: Happening,
     pub printed: u64,
@@ -74,7 +74,7 @@ pub struct Event {
 pub type Events = Items<Event>;
 
 /// A run: what was printed, what happened, and how it ended.
-#[derive(Debug, Drop)]
+#[derive(Drop)]
 pub struct Run {
     pub printed: Bytes,
     pub events: Events,

@@ -6,7 +6,7 @@ use std::alloc::{AllocError, Global};
 use std::marker::Model;
 
 /// A set of positions. Contracts see the list of them, in ascending order.
-#[derive(Debug, Drop)]
+#[derive(Drop)]
 pub struct Positions {
     items: Vec<usize>,
 }

@@ -7,7 +7,7 @@ use plain_data::{Items, Width};
 use std::alloc::{AllocError, Global};
 
 /// What a conversion asks of an argument.
-#[derive(Clone, Copy, Debug, PartialEq, Eq)]
+#[derive(Clone, Copy, PartialEq, Eq)]
 pub enum Kind {
     /// An integer, for `d i u o x X c` and `*`.
     Integer,

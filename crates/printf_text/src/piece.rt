@@ -1,7 +1,7 @@
 use plain_data::{Bytes, Items, Width};
 
 /// The flags of a conversion (C99 7.19.6.1p6).
-#[derive(Clone, Copy, Debug, PartialEq, Eq)]
+#[derive(Clone, Copy, PartialEq, Eq)]
 pub struct Flags {
     /// `-`: the text stands at the field's left.
     pub left: bool,
@@ -16,7 +16,7 @@ pub struct Flags {
 }
 
 /// A field's width, or a precision.
-#[derive(Clone, Copy, Debug, PartialEq, Eq)]
+#[derive(Clone, Copy, PartialEq, Eq)]
 pub enum Size {
     /// None is written.
     Omitted,
@@ -27,7 +27,7 @@ pub enum Size {
 }
 
 /// How an unsigned number is written.
-#[derive(Clone, Copy, Debug, PartialEq, Eq)]
+#[derive(Clone, Copy, PartialEq, Eq)]
 pub enum Radix {
     /// `u`.
     Decimal,
@@ -40,7 +40,7 @@ pub enum Radix {
 }
 
 /// What a conversion makes of its argument.
-#[derive(Clone, Copy, Debug, PartialEq, Eq)]
+#[derive(Clone, Copy, PartialEq, Eq)]
 pub enum Form {
     /// `d` or `i`, of the width that the length gives.
     Signed(Width),
@@ -55,7 +55,7 @@ pub enum Form {
 }
 
 /// A conversion specification other than `%%`.
-#[derive(Clone, Copy, Debug, PartialEq, Eq)]
+#[derive(Clone, Copy, PartialEq, Eq)]
 pub struct Conversion {
     /// The flags.
     pub flags: Flags,
@@ -68,7 +68,7 @@ pub struct Conversion {
 }
 
 /// A part of a format.
-#[derive(Debug, Drop)]
+#[derive(Drop)]
 pub enum Piece {
     /// Bytes that stand for themselves; `%%` is the byte `%`.
     Literal(Bytes),
@@ -80,7 +80,7 @@ pub enum Piece {
 pub type Pieces = Items<Piece>;
 
 /// An argument of a format.
-#[derive(Debug, Drop)]
+#[derive(Drop)]
 pub enum Arg {
     /// An integer: its bits, and the type that it has.
     Word {

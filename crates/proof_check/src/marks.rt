@@ -8,7 +8,7 @@ use cnf_core::Lit;
 use std::alloc::{AllocError, Global};
 
 /// The rounds in which a variable and its negation were last taken as true.
-#[derive(Clone, Copy, Debug, PartialEq, Eq)]
+#[derive(Clone, Copy, PartialEq, Eq)]
 pub struct Stamps {
     pub positive: u64,
     pub negative: u64,

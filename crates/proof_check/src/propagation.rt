@@ -1,7 +1,7 @@
 use cnf_core::Lit;
 
 /// What a clause says where some literals are taken as true.
-#[derive(Clone, Copy, Debug, PartialEq, Eq)]
+#[derive(Clone, Copy, PartialEq, Eq)]
 pub enum Reading {
     /// All its literals are false.
     Falsified,
@@ -11,7 +11,7 @@ pub enum Reading {
 }
 
 /// What reading a step's hints comes to.
-#[derive(Clone, Copy, Debug, PartialEq, Eq)]
+#[derive(Clone, Copy, PartialEq, Eq)]
 pub enum Outcome {
     /// A hint's clause is false: the step is valid.
     Conflict,

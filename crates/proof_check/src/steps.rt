@@ -9,7 +9,7 @@ use std::marker::Model;
 
 /// A clause, and the numbers of the clauses from which it follows by unit propagation, in order:
 /// those of the formula from 1 on, then those of the earlier steps.
-#[derive(Debug, Drop)]
+#[derive(Drop)]
 pub struct Step<'a> {
     pub clause: &'a [Lit],
     pub hints: &'a [u32],
@@ -24,7 +24,7 @@ impl<'a> Model for Step<'a> {
 }
 
 /// A list of steps, with no allocation of its own for a step.
-#[derive(Debug, Drop)]
+#[derive(Drop)]
 pub struct Steps {
     clauses: Rows<Lit>,
     hints: Rows<u32>,
@@ -99,7 +99,7 @@ impl Steps {
 }
 
 /// Steps that are to end in the empty clause.
-#[derive(Debug, Drop)]
+#[derive(Drop)]
 pub struct Refutation {
     steps: Steps,
 }
@@ -131,7 +131,7 @@ impl Refutation {
 
 /// What a search has learnt: steps over the formula that were kept from before, and steps over the
 /// formula followed by those.
-#[derive(Debug, Drop)]
+#[derive(Drop)]
 pub struct Trail {
     pub kept: Steps,
     pub steps: Steps,

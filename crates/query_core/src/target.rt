@@ -1,5 +1,5 @@
 /// What is asked of the runs that fit a log; a number is a fact's, or a watched variable's, from 1.
-#[derive(Clone, Copy, Debug)]
+#[derive(Clone, Copy)]
 pub enum Target {
     /// Whether a run fits.
     Fits,

@@ -6,7 +6,7 @@ use plain_data::{Fact, Facts, Items, Watched};
 use std::alloc::{AllocError, Global};
 
 /// A variable that is watched in a line: what prints by a site see of it that begin in the line.
-#[derive(Clone, Copy, Debug, PartialEq, Eq)]
+#[derive(Clone, Copy, PartialEq, Eq)]
 pub struct Watch {
     /// The site: the byte offset of the called name.
     pub at: u32,

@@ -23,7 +23,7 @@ use std::io::ErrorKind;
 use std::process::ExitCode;
 
 /// Why there are no words.
-#[derive(Clone, Copy, Debug, PartialEq, Eq)]
+#[derive(Clone, Copy, PartialEq, Eq)]
 enum WordFault {
     NotText,
     Memory,

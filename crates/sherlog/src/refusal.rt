@@ -11,7 +11,7 @@ use config_text::ConfigFault;
 use std::alloc::AllocError;
 
 /// A file that a command reads.
-#[derive(Clone, Copy, Debug, PartialEq, Eq)]
+#[derive(Clone, Copy, PartialEq, Eq)]
 pub enum InputFile {
     Config,
     Source,
@@ -49,7 +49,7 @@ impl InputFile {
 }
 
 /// What is wrong with a source, as far as the lexer and the grammar go.
-#[derive(Clone, Copy, Debug, PartialEq, Eq)]
+#[derive(Clone, Copy, PartialEq, Eq)]
 pub enum SourceFault {
     /// No token begins at a byte.
     BadByte,

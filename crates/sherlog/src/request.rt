@@ -2,7 +2,7 @@
 ghost use Rattle.std.specs.Prelude.{◌≤◌};
 
 /// A command that is served.
-#[derive(Clone, Copy, Debug, PartialEq, Eq)]
+#[derive(Clone, Copy, PartialEq, Eq)]
 pub enum Command {
     Diagnose,
     Replay,
@@ -12,7 +12,7 @@ pub enum Command {
 
 /// What is asked for: a command over files, by name, the bounds in force, how many conflicts a question may take, and
 /// whether facts are listed by line too.
-#[derive(Clone, Copy, Debug, PartialEq, Eq)]
+#[derive(Clone, Copy, PartialEq, Eq)]
 pub struct Request<'a> {
     pub command: Command,
     pub source: &'a str,

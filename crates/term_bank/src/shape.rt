@@ -6,7 +6,7 @@ use c_store::ObjectKind;
 use plain_data::{Side, Width};
 
 /// An operator on two words of one width. Division by 0 and a shift by the width or more give 0.
-#[derive(Clone, Copy, Debug, PartialEq, Eq, Hash)]
+#[derive(Clone, Copy, PartialEq, Eq, Hash)]
 pub enum WordOperator {
     Add,
     Sub,
@@ -24,7 +24,7 @@ pub enum WordOperator {
 }
 
 /// A test of two words of one width. Those named `Over` say that the signed result leaves the type (C99 6.5p5).
-#[derive(Clone, Copy, Debug, PartialEq, Eq, Hash)]
+#[derive(Clone, Copy, PartialEq, Eq, Hash)]
 pub enum WordTest {
     Equal,
     /// `<` of unsigned words.
@@ -40,14 +40,14 @@ pub enum WordTest {
 }
 
 /// A connective of two truths.
-#[derive(Clone, Copy, Debug, PartialEq, Eq, Hash)]
+#[derive(Clone, Copy, PartialEq, Eq, Hash)]
 pub enum Connective {
     And,
     Or,
 }
 
 /// How a word is read where it is converted to another width (C99 6.3.1.3).
-#[derive(Clone, Copy, Debug, PartialEq, Eq, Hash)]
+#[derive(Clone, Copy, PartialEq, Eq, Hash)]
 pub enum Extension {
     Zero,
     Sign,
@@ -55,7 +55,7 @@ pub enum Extension {
 
 /// A node's operator over the numbers of its parts. The operator tells each part's sort, and the node's.
 /// Addresses, lengths in bytes, object numbers, sizes and places are words of 64 bits.
-#[derive(Clone, Copy, Debug, PartialEq, Eq, Hash)]
+#[derive(Clone, Copy, PartialEq, Eq, Hash)]
 pub enum Shape {
     /// A truth value.
     Flag(bool),

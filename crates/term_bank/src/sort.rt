@@ -1,7 +1,7 @@
 use plain_data::Width;
 
 /// What a node's value is.
-#[derive(Clone, Copy, Debug, PartialEq, Eq, Hash)]
+#[derive(Clone, Copy, PartialEq, Eq, Hash)]
 pub enum Sort {
     /// A truth value.
     Truth,
@@ -16,7 +16,7 @@ pub enum Sort {
 }
 
 /// A node of a bank: its number there, and its sort.
-#[derive(Clone, Copy, Debug, PartialEq, Eq, Hash)]
+#[derive(Clone, Copy, PartialEq, Eq)]
 pub struct Node {
     pub index: u32,
     pub sort: Sort,

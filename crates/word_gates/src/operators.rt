@@ -6,7 +6,7 @@ use gates::{Bit, BlastFault, Gates};
 use plain_data::Items;
 
 /// An operator on each two bits of two words.
-#[derive(Clone, Copy, Debug)]
+#[derive(Clone, Copy)]
 pub enum BitOperator {
     And,
     Or,

@@ -11,7 +11,7 @@ use gates::{Bit, BlastFault, Gates};
 use plain_data::Items;
 
 /// A quotient and what remains.
-#[derive(Debug, Drop)]
+#[derive(Drop)]
 pub struct Division {
     pub quotient: Items<Bit>,
     pub remainder: Items<Bit>,

@@ -7,14 +7,14 @@ use gates::{Bit, BlastFault, Gates};
 use plain_data::Items;
 
 /// A column of a sum: its bit, and what is carried to the next.
-#[derive(Clone, Copy, Debug)]
+#[derive(Clone, Copy)]
 pub(crate) struct Column {
     bit: Bit,
     carry: Bit,
 }
 
 /// A sum: its word, and what is carried out of it.
-#[derive(Debug, Drop)]
+#[derive(Drop)]
 pub struct Sum {
     pub word: Items<Bit>,
     pub carry: Bit,
