@@ -40,7 +40,7 @@ pub enum Finish {
 }
 
 /// The side that a branch takes.
-#[derive(Clone, Copy, PartialEq, Eq)]
+#[derive(Clone, Copy, PartialEq, Eq, Hash)]
 pub enum Side {
     /// The condition, or the left operand, is not zero.
     Yes,
