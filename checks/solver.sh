@@ -56,7 +56,7 @@ declare -A theirs
 while read -r name known; do
     file=$folder/$name.cnf
     start=$(now)
-    if ! timeout 100 "$program" solve 200000 <"$file" >"$folder/answers" 2>"$folder/error"; then
+    if ! timeout 300 "$program" solve 200000 <"$file" >"$folder/answers" 2>"$folder/error"; then
         echo "solver: $name: no answer, or evidence that does not hold: $(head -n 1 "$folder/error")"
         failed=1
         continue
