@@ -2,7 +2,7 @@
 
     prelude.py DEFINITIONS
 
-The definitions (`crates/c_runs/specs/Prelude.antt`) have each function's tree behind its text, which stands in a
+The definitions (`crates/c_means/specs/Prelude.antt`) have each function's tree behind its text, which stands in a
 comment. The terms are read here as they stand: a name that is defined in the file is its definition, and every other
 is a constructor. The trees are written as `crates/tree_text` says, with each offset less 2^31.
 """

@@ -10,7 +10,7 @@ fi
 program=$(tools/program.sh rows) || exit 1
 table=$(mktemp)
 trap 'rm -f "$table"' EXIT
-python3 checks/prelude.py crates/c_runs/specs/Prelude.antt >"$table"
+python3 checks/prelude.py crates/c_means/specs/Prelude.antt >"$table"
 if ! "$program" table placed <"$table" | diff "$table" - >/dev/null; then
     echo "prelude: the first lines that differ (<, definitions; >, answered):"
     "$program" table placed <"$table" | diff "$table" - | head -n 6

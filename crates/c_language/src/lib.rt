@@ -1,4 +1,5 @@
-//! Tokens of preprocessed C (C99 6.4), and where they stand: what `c_lexer` answers, and all above reads.
+//! C as data: tokens of a preprocessed source (C99 6.4) and where they stand, the syntax tree, and types with their
+//! layouts, conversions and operators on whole numbers; and what types and scopes say of a tree, as definitions.
 #![tactic(auto)]
 
 mod class;

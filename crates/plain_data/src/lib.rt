@@ -1,5 +1,5 @@
 //! A `Vec` and an `Rc` that contracts see as what they hold, so that trees and lists made of them
-//! are plain data to every layer; and lists of lists in one piece of memory.
+//! are plain data to every layer; lists of lists in one piece of memory; machine words; and worlds, runs and facts.
 #![tactic(auto)]
 
 mod bounds;
