@@ -78,9 +78,10 @@ module _ (w : Whole) (turns : ℕ) (t : Known) where
       here : (n : ℕ) → has (n ∷ []) n ≡ true
       here n = or_left (eqb n n) false (eq-eqb n n refl)
 
-pub body_walked : {x : Site} {t t' : List (List Entry)} {fn : Function} {items : List Code} {start : ℕ} {a b : Course} {e : Ends} → items ≡ fn.items → a.at ≡ only_running (start ∷ []) → WalksCode x t t' (in_turn (map code items)) a b → IsEndOf b.at e
+pub body_walked : {x : Site} {t t' : List (List Entry)} {fn : Function} {items : List Code} {start : ℕ} {a b : Course} {at : Flow} {e : Ends} → items ≡ fn.items → a.at ≡ only_running (start ∷ []) → WalksCode x t t' (in_turn (map code items)) a b → at ≡ b.at → IsEndOf at e
     → WalksBody x t t' fn start e
-body_walked {x} {t} {t'} {fn} {items} {start} {a} {b} {e} i q u h =
+body_walked {x} {t} {t'} {fn} {items} {start} {a} {b} {at} {e} i q u r k =
+    let h : IsEndOf b.at e = subst (λ f. IsEndOf f e) r k in
     let w : WalksCode x t t' (in_turn (map code fn.items)) a b = subst (λ z. WalksCode x t t' (in_turn (map code z)) a b) i u in
     record {
       extends_ = w.code.extends_;

@@ -14,25 +14,15 @@ use positions::Positions;
 use std::alloc::{AllocError, Global};
 
 /// Behind a function's body: a run that has not ended comes back (C99 6.9.1p12). It fails for want of memory alone.
-fn ends_behind(at: Flow) -> Result<Ends, AllocError>
+fn ends_behind(mut at: Flow) -> Result<Ends, AllocError>
     ensures { IfOk result (λ e. IsEndOf at e) }
 {
-    let Flow {
-        running,
-        breaking,
-        continuing,
-        returning,
-        going,
-        choosing,
-        ended,
-    } = at;
-    let mut back = running;
-    back.put_all(&breaking)?;
-    back.put_all(&continuing)?;
-    back.put_all(&returning)?;
-    back.put_all(&going)?;
-    back.put_all(&choosing)?;
-    Ok(Ends { back, ended })
+    at.running.put_all(&at.breaking)?;
+    at.running.put_all(&at.continuing)?;
+    at.running.put_all(&at.returning)?;
+    at.running.put_all(&at.going)?;
+    at.running.put_all(&at.choosing)?;
+    Ok(at.into_ends())
 }
 
 /// The ends of a function that is called at a position. It fails for want of memory alone.
@@ -52,7 +42,6 @@ pub fn walk_body<
     let starts = Positions::one(walk.alloc, start)?;
     let mut course = Course::begin(walk.alloc, starts);
     walk_codes(walk, function.items.as_slice(), &mut course, table)?;
-    let Course { at, .. } = course;
-    let ends = ends_behind(at)?;
+    let ends = ends_behind(course.into_flow())?;
     Ok(ends)
 }

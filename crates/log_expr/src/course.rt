@@ -57,6 +57,13 @@ impl Course {
         }
     }
 
+    /// Where it led.
+    pub fn into_flow(self) -> Flow
+        ensures { result ≡ self.at }
+    {
+        self.at
+    }
+
     /// Runs that are running enter a part; the others pass it. It fails for want of memory alone.
     pub fn enter(&mut self, alloc: Global) -> Result<(), AllocError>
         ensures { OnOk result (Enters self.old self.new) }

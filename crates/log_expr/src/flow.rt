@@ -7,6 +7,7 @@ ghost use Rattle.c_language.specs.Scopes.{Name};
 ghost use Rattle.log_expr.specs.Courses.{jumps};
 ghost use Rattle.log_expr.specs.Flows.{Arrives, unchanged, Wider};
 
+use crate::table::Ends;
 use positions::Positions;
 use std::alloc::{AllocError, Global};
 
@@ -48,6 +49,16 @@ impl Flow {
             going: Positions::new(alloc),
             choosing: Positions::new(alloc),
             ended: Positions::new(alloc),
+        }
+    }
+
+    /// The ends of a function of which this is where its body leads: runs that are running come back.
+    pub fn into_ends(self) -> Ends
+        ensures { result ≡ record { back = self.running; ended = self.ended } }
+    {
+        Ends {
+            back: self.running,
+            ended: self.ended,
         }
     }
 
