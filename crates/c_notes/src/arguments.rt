@@ -1,12 +1,14 @@
 //! What is noted of the arguments of a call (C99 6.5.2.2).
 
-ghost use Rattle.std.specs.Prelude.{◌≡◌, IfOk};
+ghost use Rattle.std.specs.Prelude.{◌≡◌, ◌++◌, ◌∷◌, [], IfOk, OnOk};
+ghost use Rattle.c_language.specs.Typing as typing;
+ghost use Rattle.c_means.specs.Expressions as means;
 ghost use Rattle.c_notes.specs.Tellings as spec;
 
 use crate::calls::CallNote;
-use crate::notes::{ExprNotes, NotedExpr, joined};
+use crate::notes::{ExprNotes, NotedExpr};
 use crate::passed::promoted_type;
-use c_language::{CType, Fault, Name};
+use c_language::{CType, Fault, Name, Shown, Told};
 use c_typing::{Arguments, and_argument, no_arguments};
 use plain_data::{Bytes, Items};
 use std::alloc::{AllocError, Global};
@@ -35,6 +37,52 @@ pub(crate) fn no_arguments_noted(alloc: Global, faults: Items<Fault>) -> Argumen
     }
 }
 
+impl ArgumentNotes {
+    /// The promoted type of one more argument. It fails for want of memory alone.
+    fn put_type(&mut self, alloc: Global, shown: &Option<Shown>) -> Result<(), AllocError>
+        ensures { OnOk result (self.new ≡ record self.old { types = self.old.types ++ means.promoted_type (typing.type_in shown.now) ∷ [] }) }
+    {
+        self.types.push(promoted_type(alloc, shown)?)?;
+        Ok(())
+    }
+
+    /// What is noted of one more argument. It fails for want of memory alone.
+    fn put_notes(&mut self, notes: ExprNotes) -> Result<(), AllocError>
+        ensures { OnOk result (self.new ≡ record self.old { texts = self.old.texts ++ notes.text ∷ []; calls = self.old.calls ++ notes.calls; called = self.old.called ++ notes.called }) }
+    {
+        let ExprNotes {
+            text,
+            calls,
+            called,
+            ..
+        } = notes;
+        self.texts.push(text)?;
+        self.calls.append(calls)?;
+        self.called.append(called)?;
+        Ok(())
+    }
+
+    /// What one more argument says to the types. It fails for want of memory alone.
+    fn with_argument(self, told: Told) -> Result<ArgumentNotes, AllocError>
+        ensures { IfOk result (λ xs. xs ≡ record self { arguments = typing.and_argument self.arguments told }) }
+    {
+        let ArgumentNotes {
+            arguments,
+            types,
+            texts,
+            calls,
+            called,
+        } = self;
+        Ok(ArgumentNotes {
+            arguments: and_argument(arguments, told)?,
+            types,
+            texts,
+            calls,
+            called,
+        })
+    }
+}
+
 /// One more argument, as a value. It fails for want of memory alone.
 pub(crate) fn and_noted(
     alloc: Global,
@@ -43,27 +91,9 @@ pub(crate) fn and_noted(
 ) -> Result<ArgumentNotes, AllocError>
     ensures { IfOk result (λ xs. xs ≡ spec.and_noted before x) }
 {
-    let ArgumentNotes {
-        arguments,
-        mut types,
-        mut texts,
-        calls,
-        called,
-    } = before;
     let NotedExpr { told, notes } = x;
-    let ExprNotes {
-        text,
-        calls: more,
-        called: further,
-        ..
-    } = notes;
-    types.push(promoted_type(alloc, &told.shown)?)?;
-    texts.push(text)?;
-    Ok(ArgumentNotes {
-        arguments: and_argument(arguments, told)?,
-        types,
-        texts,
-        calls: joined(calls, more)?,
-        called: joined(called, further)?,
-    })
+    let mut all = before;
+    all.put_type(alloc, &told.shown)?;
+    all.put_notes(notes)?;
+    all.with_argument(told)
 }
