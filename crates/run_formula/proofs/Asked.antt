@@ -13,7 +13,6 @@ use Rattle.plain_data.specs.declared.run.Finish.TheVariants as finish
 use Rattle.plain_data.specs.declared.run.Happening.TheVariants as happening
 use Rattle.plain_data.specs.declared.run.Run.{Run}
 use Rattle.plain_data.specs.declared.run.Side.{Side}
-use Rattle.log_text.specs.Lines.{line_of}
 use Rattle.log_text.specs.Shown.{StaysIn, Holds}
 use Rattle.core_tree.specs.States.{Done}
 use Rattle.term_bank.specs.declared.sort.Node.{Node}
@@ -39,23 +38,21 @@ use Rattle.run_formula.specs.declared.questions.Question.{Question}
 use Rattle.run_formula.specs.declared.questions.Question.TheVariants as question
 use Rattle.run_formula.specs.Whole.{run_in_world, RunsAll}
 use Rattle.run_formula.specs.Questions.{OneOf, IsMeant, IsSought, EndsSo, SameEnd, shown, Meets, MeetsOn}
-use Rattle.run_formula.specs.Questions.{TellsAt, TellsShape, AllTell, TellsAll, OrMeant, OrPrint}
-use Rattle.run_formula.specs.Watched.{SeesOther, SaysSo}
-use Rattle.run_formula.specs.declared.watches.Watch.{Watch}
+use Rattle.run_formula.specs.Questions.{TellsAt, TellsShape, AllTell, TellsAll, OrMeant}
 use Rattle.run_formula.specs.Questions.{TellsState, TellsStates, IsAnswer, AnswerAll, AsksAll}
 
 -- ---- one of some
 
-one_left : {A : Type 0} (P : A → Type 0) (xs ys : List A) → OneOf P xs → OneOf P (xs ++ ys)
+pub one_left : {A : Type 0} (P : A → Type 0) (xs ys : List A) → OneOf P xs → OneOf P (xs ++ ys)
 one_left P [] ys h = absurd h
 one_left P (x ∷ xs) ys (inl h) = inl h
 one_left P (x ∷ xs) ys (inr h) = inr (one_left P xs ys h)
 
-one_right : {A : Type 0} (P : A → Type 0) (xs ys : List A) → OneOf P ys → OneOf P (xs ++ ys)
+pub one_right : {A : Type 0} (P : A → Type 0) (xs ys : List A) → OneOf P ys → OneOf P (xs ++ ys)
 one_right P [] ys h = h
 one_right P (x ∷ xs) ys h = inr (one_right P xs ys h)
 
-one_parted : {A : Type 0} (P : A → Type 0) (xs ys : List A) → OneOf P (xs ++ ys) → OneOf P xs ⊎ OneOf P ys
+pub one_parted : {A : Type 0} (P : A → Type 0) (xs ys : List A) → OneOf P (xs ++ ys) → OneOf P xs ⊎ OneOf P ys
 one_parted P [] ys h = inr h
 one_parted P (x ∷ xs) ys (inl h) = inl (inl h)
 one_parted P (x ∷ xs) ys (inr h) = elim (one_parted P xs ys h) [
@@ -68,13 +65,13 @@ one_at P [] k x less is p = absurd (omega (arith, less))
 one_at P (y ∷ ys) zero x less is p = inl (subst P (sym is) p)
 one_at P (y ∷ ys) (suc k) x less is p = inr (one_at P ys k x (omega (arith, less)) is p)
 
-one_any : {A : Type 0} (P : A → Type 0) (xs : List A) → Any P xs → OneOf P xs
+pub one_any : {A : Type 0} (P : A → Type 0) (xs : List A) → Any P xs → OneOf P xs
 one_any P xs (k, x, less, is, p) = one_at P xs k x less is p
 
 any_more : {A : Type 0} (P : A → Type 0) (y : A) (ys : List A) → Any P ys → Any P (y ∷ ys)
 any_more P y ys (k, x, less, is, p) = (suc k, x, omega (arith, less), is, p)
 
-any_one : {A : Type 0} (P : A → Type 0) (xs : List A) → OneOf P xs → Any P xs
+pub any_one : {A : Type 0} (P : A → Type 0) (xs : List A) → OneOf P xs → Any P xs
 any_one P [] h = absurd h
 any_one P (y ∷ ys) (inl h) = (0, y, omega arith, refl, h)
 any_one P (y ∷ ys) (inr h) = any_more P y ys (any_one P ys h)
@@ -185,20 +182,6 @@ event_more P xs e n false p is h k = (
   ],
 )
 
--- one event more, by what is so of it
-event_behind : (P : Event → Type 0) (xs : List Event) (e : Event) (A B : Type 0) → A ↔ OneOf P xs → B ↔ (A ⊎ P e) → B ↔ OneOf P (xs ++ e ∷ [])
-event_behind P xs e A B h k = (
-  λ g. elim (k.0 g) [
-    | inl i ↦ one_left P xs (e ∷ []) (h.0 i)
-    | inr i ↦ one_right P xs (e ∷ []) (inl i)
-  ],
-  λ g. elim (one_parted P xs (e ∷ []) g) [
-    | inl i ↦ k.1 (inl (h.1 i))
-    | inr (inl i) ↦ k.1 (inr i)
-    | inr (inr i) ↦ absurd i
-  ],
-)
-
 events_both : (P : Event → Type 0) (xs ys : List Event) (n m p : Bool) → p ≡ cond n true m → (n ≡ true) ↔ OneOf P xs → (m ≡ true) ↔ OneOf P ys
     → (p ≡ true) ↔ OneOf P (xs ++ ys)
 events_both P xs ys true m p is h k = (λ g. one_left P xs ys (h.0 refl), λ g. is)
@@ -245,15 +228,12 @@ module _ (log : List ℕ) (q : Question) where
   shape_call a b events printed at before n meant h k j =
       record { grows = k.grows; term = k.term; is = λ e v m. one_more a b events _ before n meant h k j e v m }
 
-  pub shape_print : (a b : List Shape) (events printed at length seen : ℕ) (before n : Node) → TellsAt a log q events before
-      → OrPrint a b log q before printed at seen n → TellsShape a b log q (shape.PrintEvent events printed at length seen) n
-  shape_print a b events printed at length seen before n h k = record {
-    grows = k.grows;
-    term = k.term;
-    is = λ e v m.
-        event_behind (IsSought log q) (v events).events (record { what = happening.Print at length (v seen).numbers; printed = printed })
-        ((v before.index).truth ≡ true) ((v n.index).truth ≡ true) (h.is e v (weaken k.grows m)) (k.is length e v m);
-  }
+  pub shape_print : (a b : List Shape) (events printed at length seen : ℕ) (before n : Node) (meant : Bool) → TellsAt a log q events before
+      → OrMeant a b before meant n
+      → ((count : ℕ) (xs : List ℤ) → (meant ≡ true) ↔ IsSought log q (record { what = happening.Print at count xs; printed = printed }))
+      → TellsShape a b log q (shape.PrintEvent events printed at length seen) n
+  shape_print a b events printed at length seen before n meant h k j =
+      record { grows = k.grows; term = k.term; is = λ e v m. one_more a b events _ before n meant h k (j length (v seen).numbers) e v m }
 
   pub shape_both : (a b : List Shape) (xs ys : ℕ) (one other n : Node) → TellsAt a log q xs one → TellsAt a log q ys other
       → Makes a b (shape.Connect connective.Or one.index other.index) (Ok n) → TellsShape a b log q (shape.EventsBehind xs ys) n
@@ -355,77 +335,6 @@ or_before a before meant so is = record {
   is = λ e v m. ap (λ c. cond c true (v before.index).truth) (sym so);
 }
 
--- where a print is meant or isn't, whatever it saw
-pub print_meant : (a b : List Shape) (log : List ℕ) (q : Question) (before n : Node) (printed at seen : ℕ) (meant : Bool) → OrMeant a b before meant n
-    → ((length : ℕ) (xs : List ℤ) → (meant ≡ true) ↔ IsSought log q (record { what = happening.Print at length xs; printed = printed }))
-    → OrPrint a b log q before printed at seen n
-print_meant a b log q before n printed at seen meant h k = record {
-  grows = h.grows;
-  term = h.term;
-  is = λ length e v m. either meant (v n.index).truth (v before.index).truth (h.is e v m) (k length (v seen).numbers);
-} where
-  either : {P : Type 0} (c x y : Bool) → x ≡ cond c true y → (c ≡ true) ↔ P → (x ≡ true) ↔ ((y ≡ true) ⊎ P)
-  either true x y is k = (λ g. inr (k.0 refl), λ g. is)
-  either false x y is k = (
-    λ g. inl (sym is ∙ g),
-    λ g. elim g [
-      | inl i ↦ is ∙ i
-      | inr i ↦ let wrong : false ≡ true = k.1 i in absurd (cc)
-    ],
-  )
-
--- where no print is sought
-pub print_never : (a : List Shape) (log : List ℕ) (q : Question) (before : Node) (printed at seen : ℕ) → IsTerm a sort.Truth before
-    → ((e : Event) → IsSought log q e → ⊥) → OrPrint a a log q before printed at seen before
-print_never a log q before printed at seen is none = record {
-  grows = stays;
-  term = is;
-  is = λ length e v m. (
-    λ g. inl g,
-    λ g. elim g [
-      | inl i ↦ i
-      | inr i ↦ absurd (none _ i)
-    ],
-  );
-}
-
--- where the site or the line is another
-pub print_unwatched : (a : List Shape) (log : List ℕ) (w : Watch) (x : ℤ) (before : Node) (printed at seen : ℕ) → IsTerm a sort.Truth before
-    → ((at ≡ w.at) × (line_of log printed ≡ w.line) → ⊥) → OrPrint a a log (question.SawOther w x) before printed at seen before
-print_unwatched a log w x before printed at seen is none = record {
-  grows = stays;
-  term = is;
-  is = λ length e v m. (
-    λ g. inl g,
-    λ g. elim g [
-      | inl i ↦ i
-      | inr i ↦ absurd (none (i.0, i.1.0))
-    ],
-  );
-}
-
--- where it is watched
-pub print_watched : (a b c : List Shape) (log : List ℕ) (w : Watch) (x : ℤ) (before other n : Node) (printed at seen : ℕ)
-    → (at ≡ w.at) × (line_of log printed ≡ w.line) → SaysSo a b (λ v. slice_get (v seen).numbers w.place ≡ Some x → ⊥) other
-    → Makes b c (shape.Connect connective.Or before.index other.index) (Ok n)
-    → OrPrint a c log (question.SawOther w x) before printed at seen n
-print_watched a b c log w x before other n printed at seen here h k = record {
-  grows = grows_on h.grows k.grows;
-  term = k.node;
-  is = λ length e v m.
-      either (v before.index).truth (v other.index).truth (v n.index).truth (ap (λ (y : Worth). y.truth) (k.value.is e v m))
-      (h.is e v (weaken k.grows m));
-} where
-  either : {P : Type 0} (y z p : Bool) → p ≡ cond y true z → (z ≡ true) ↔ P → (p ≡ true) ↔ ((y ≡ true) ⊎ ((at ≡ w.at) × ((line_of log printed ≡ w.line) × P)))
-  either true z p is k = (λ g. inl refl, λ g. is)
-  either false z p is k = (
-    λ g. inr (here.0, (here.1, k.0 (sym is ∙ g))),
-    λ g. elim g [
-      | inl i ↦ is ∙ (let wrong : false ≡ true = i in absurd (cc))
-      | inr i ↦ is ∙ k.1 i.1.1
-    ],
-  )
-
 -- ---- one state
 
 pub flag_told : (a b : List Shape) (log : List ℕ) (q : Question) (s : State) (x : Bool) (n : Node) → Makes a b (shape.Flag x) (Ok n)
@@ -460,17 +369,6 @@ holds_told b c d log f s seen ended n x h k j so = record {
       either_told (OneOf (IsMeant log f) run.events) (EndsSo f run.finish) (Holds log run f) (v seen.index).truth (v ended.index).truth
       (v n.index).truth (ap (λ (w : Worth). w.truth) (j.value.is e v m)) (h.is e v (weaken k.grows mc))
       (both (truth_as (v ended.index).truth x (ap (λ (w : Worth). w.truth) (k.value.is e v mc))) (so v)) (holds_by log run f);
-}
-
--- what is told of the events of a state
-pub saw_told : (b : List Shape) (log : List ℕ) (w : Watch) (x : ℤ) (s : State) (n : Node) → TellsAt b log (question.SawOther w x) s.events.index n
-    → TellsState b b log (question.SawOther w x) s n
-saw_told b log w x s n h = record {
-  grows = stays;
-  term = h.term;
-  is = λ e v m.
-      let events = (v s.events.index).events in
-      both (h.is e v m) (λ k. any_one (SeesOther log w x) events k, λ k. one_any (SeesOther log w x) events k);
 }
 
 -- ---- all states

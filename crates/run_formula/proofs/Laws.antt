@@ -1,15 +1,19 @@
 -- What the run along a log says is what the run that prints says.
 use Rattle.std.proofs.Common.{◌≡◌, ◌↔◌, ◌+◌, ℕ, ℤ, List, [], ◌∷◌, length, Bool, true, false}
 use Rattle.std.proofs.Common.{cond, ◌&&◌, nat_eq, Option, Some, None, refl, sym, ap, subst, ◌∙◌, arith}
-use Rattle.std.specs.List.{starts_with}
+use Rattle.std.specs.List.{Any, starts_with}
 use Rattle.plain_data.specs.declared.fact.Fact.{Fact}
+use Rattle.plain_data.specs.declared.run.Event.{Event}
 use Rattle.plain_data.specs.declared.fact.Fact.TheVariants as fact
 use Rattle.log_text.specs.Shown.{StaysIn, Fits, Holds}
 use Rattle.core_tree.specs.States.{Done, Output, follows, plain}
 use Rattle.core_tree.specs.Programs.{machine, end_of, nothing_left, ran, maybe_ran}
 use Rattle.core_tree.proofs.Cut.{end_cut}
 use Rattle.core_tree.proofs.CutStates.{prefix, starts_prefix, seen_as, CutsState}
+use Rattle.std.specs.Prelude.{slice_get}
 use Rattle.term_bank.specs.declared.sort.Node.{Node}
+use Rattle.term_bank.specs.declared.sort.Sort.TheVariants as sort
+use Rattle.term_bank.specs.Terms.{IsTerm}
 use Rattle.term_bank.specs.declared.shape.Shape.{Shape}
 use Rattle.term_bank.specs.Values.{Environment, Values, Models}
 use Rattle.term_bank.proofs.BankLemmas.{weaken, grows_on}
@@ -19,12 +23,18 @@ use Rattle.log_expr.specs.Tours.{Tour}
 use Rattle.run_formula.specs.declared.questions.Question.{Question}
 use Rattle.run_formula.specs.declared.questions.Question.TheVariants as question
 use Rattle.run_formula.specs.Whole.{run_in_world, RunsAll}
-use Rattle.run_formula.specs.Questions.{shown, MeetsOn, IsAnswer, AnswerAll, AsksAll, TellsStates}
-use Rattle.run_formula.specs.Formula.{OfRun, FitsIn, LeavesIn, HoldsIn, SawOtherIn, SaysWhere, SaysFact, SayFacts, SaysOther, AnswersOther, IsFormula}
-use Rattle.run_formula.specs.Watched.{SawOther}
+use Rattle.run_formula.specs.Questions.{OneOf, shown, MeetsOn, IsAnswer, AnswerAll, AsksAll, TellsStates}
+use Rattle.run_formula.specs.Formula.{OfRun, the_run, FitsIn, LeavesIn, HoldsIn, SaysWhere, SaysFact, SayFacts}
+use Rattle.run_formula.specs.Formula.{AnswersOther, AreObservations, IsFormula, IsSeenIf, Observes}
+use Rattle.run_formula.specs.Sighted.{AreObserved, AreSightings, AreTruths, LacksAt, OneWhere, ShownIn, ShowsOther, StatesSighted, lists_in, truths}
+use Rattle.run_formula.specs.Watched.{IsAt, SeesOther, Shows}
 use Rattle.run_formula.specs.declared.watches.Watch.{Watch}
 use Rattle.run_formula.specs.declared.formula.RunFormula.{RunFormula}
-use Rattle.run_formula.proofs.Asked.{both, answer_of, answer_grown, answers_run}
+use Rattle.run_formula.specs.declared.observing.Observation.{Observation}
+use Rattle.run_formula.specs.declared.seen.Seen.{Seen}
+use Rattle.run_formula.specs.declared.sighting.Sightings.{Sightings}
+use Rattle.run_formula.proofs.Asked.{any_one, back, both, answer_of, answer_grown, answers_run, one_any}
+use Rattle.run_formula.proofs.Sights.{by_lists, events_of, observes_where, one_as, sees_shows, shown_alone}
 
 -- ---- texts
 
@@ -104,11 +114,6 @@ holds_where : (log : List ℕ) (d : Done Output) (f : Fact) (b : Bool) → start
 holds_where log d f true is fits = holds_alike log d f
 holds_where log d f false is fits = wrong _ is (begins_self log d.out.printed fits.prints)
 
-saw_where : (log : List ℕ) (d : Done Output) (w : Watch) (x : ℤ) (b : Bool) → starts_with nat_eq log d.out.printed ≡ b → Fits log (ran d)
-    → MeetsOn log (question.SawOther w x) (cond b (Some (seen_as log d)) None) ↔ SawOther log (ran d) w x
-saw_where log d w x true is fits = (λ h. h, λ h. h)
-saw_where log d w x false is fits = wrong _ is (begins_self log d.out.printed fits.prints)
-
 fits_of : (log : List ℕ) (o : Option (Done Output)) (r : Option (Done ℕ)) → CutsState log 0 o r
     → MeetsOn log question.Fits r ↔ OfRun (Fits log) (maybe_ran o)
 fits_of log None r h = on_same log question.Fits r None h
@@ -125,11 +130,17 @@ holds_of log f None r h fits = on_same log (question.Holds f) r None h
 holds_of log f (Some d) r h fits =
     both (on_same log (question.Holds f) r _ h.1) (holds_where log d f (follows log 0 d.out.printed) refl fits)
 
-saw_of : (log : List ℕ) (w : Watch) (x : ℤ) (o : Option (Done Output)) (r : Option (Done ℕ)) → CutsState log 0 o r → OfRun (Fits log) (maybe_ran o)
-    → MeetsOn log (question.SawOther w x) r ↔ OfRun (λ y. SawOther log y w x) (maybe_ran o)
-saw_of log w x None r h fits = on_same log (question.SawOther w x) r None h
-saw_of log w x (Some d) r h fits =
-    both (on_same log (question.SawOther w x) r _ h.1) (saw_where log d w x (follows log 0 d.out.printed) refl fits)
+some_where : (log : List ℕ) (d : Done Output) (P : Event → Type 0) (b : Bool) → starts_with nat_eq log d.out.printed ≡ b → Fits log (ran d)
+    → OneOf P (events_of (cond b (Some (seen_as log d)) None)) ↔ Any P (ran d).events
+some_where log d P true is fits = (λ h. any_one P d.events h, λ h. one_any P d.events h)
+some_where log d P false is fits = wrong _ is (begins_self log d.out.printed fits.prints)
+
+some_of : (log : List ℕ) (P : Event → Type 0) (o : Option (Done Output)) (r : Option (Done ℕ)) → CutsState log 0 o r → OfRun (Fits log) (maybe_ran o)
+    → OneOf P (events_of r) ↔ OfRun (λ y. Any P y.events) (maybe_ran o)
+some_of log P None r h fits = absurd fits
+some_of log P (Some d) r h fits =
+    both (let same = ap events_of h.1 in (λ g. subst (OneOf P) same g, λ g. subst (OneOf P) (sym same) g))
+    (some_where log d P (follows log 0 d.out.printed) refl fits)
 
 -- ---- in each world
 
@@ -152,9 +163,10 @@ pub holds_law : (t : Tour) (e : Environment) (f : Fact) → FitsIn t e → Meets
 unfolding prints
 holds_law t e f fits = holds_of t.log f (prints t e) (run_in_world t e) (cut t e) fits
 
-pub saw_law : (t : Tour) (e : Environment) (w : Watch) (x : ℤ) → FitsIn t e → MeetsOn t.log (question.SawOther w x) (run_in_world t e) ↔ SawOtherIn t e w x
+pub some_law : (t : Tour) (e : Environment) (P : Event → Type 0) → FitsIn t e
+    → OneOf P (events_of (run_in_world t e)) ↔ OfRun (λ r. Any P r.events) (the_run t e)
 unfolding prints
-saw_law t e w x fits = saw_of t.log w x (prints t e) (run_in_world t e) (cut t e) fits
+some_law t e P fits = some_of t.log P (prints t e) (run_in_world t e) (cut t e) fits
 
 -- ---- the formula
 
@@ -198,20 +210,69 @@ formula_is t a b c d f ss fits left facts ns ws log runs h k j same =
       log = same;
     }
 
--- ---- what watched variables were
+-- ---- what prints see
 
-pub other_answered : (a b : List Shape) (r : RunFormula) (w : Watch) (x : ℤ) (n : Node) → TellsStates a b r.log (question.SawOther w x) r.states n
-    → AnswersOther a b r w x n
-other_answered a b r w x n h = record {
+any_as : {A : Type 0} (P Q : A → Type 0) → ((x : A) → P x ↔ Q x) → (xs : List A) → Any P xs ↔ Any Q xs
+any_as P Q h xs = (
+  λ k. any_one Q xs (one_as P Q (λ x. (h x).0) xs (one_any P xs k)),
+  λ k. any_one P xs (one_as Q P (λ x. (h x).1) xs (one_any Q xs k)),
+)
+
+of_run_as : (P Q : Event → Type 0) → ((x : Event) → P x ↔ Q x) → (o : _) → OfRun (λ r. Any P r.events) o ↔ OfRun (λ r. Any Q r.events) o
+of_run_as P Q h None = (λ k. k, λ k. k)
+of_run_as P Q h (Some r) = any_as P Q h r.events
+
+-- some print by the site that begins in the line shows what is so, exactly where a list that is shown is
+pub sighted_law : (t : Tour) (a b c d : List Shape) (w : Watch) (ks : List ℕ) (ss : List State) (ns : List Node) (P : List ℤ → Type 0)
+    → RunsAll t a b ss → StatesSighted c d t.log w ks ss ns → (e : Environment) (v : Values) → Models b e v → Models d e v → FitsIn t e
+    → OfRun (λ r. Any (Shows t.log w P) r.events) (the_run t e) ↔ OneWhere P (truths v ns) (lists_in v ks)
+sighted_law t a b c d w ks ss ns P runs h e v old m fits =
+    both (back (some_law t e (Shows t.log w P) fits))
+    (by_lists t.log w P (events_of (run_in_world t e)) (truths v ns) (lists_in v ks)
+    (λ zs. both (back (shown_alone t.log w zs (run_in_world t e)))
+    (subst (λ hs. OneOf (ShownIn t.log w zs) hs ↔ OneWhere (λ l. l ≡ zs) (truths v ns) (lists_in v ks)) (runs.stand e v old) (h.are e v m zs))))
+
+pub other_answered : (a b c : List Shape) (r : RunFormula) (w : Watch) (x : ℤ) (s : Sightings) (n : Node) → AreSightings a b r.log w r.states s
+    → ShowsOther b c s.lists s.truths w.place x n → AnswersOther a c r w x n
+other_answered a b c r w x s n h k = record {
+  grows = grows_on h.grows k.grows;
+  term = k.term;
+  says = λ t p q fs is g. record {
+    term = k.term;
+    is = λ e v m fits.
+        let mb = weaken k.grows m in
+        let seen : StatesSighted a b t.log w s.lists r.states s.truths = subst (λ log. AreSightings a b log w r.states s) is.log h in
+        both (k.is e v m)
+        (both (back (sighted_law t is.ends.start is.ends.ended a b w s.lists r.states s.truths (LacksAt w.place x) is.ends.runs seen e v
+        (weaken (grows_on is.ends.grown (grows_on g h.grows)) mb) mb fits))
+        (of_run_as (Shows t.log w (LacksAt w.place x)) (SeesOther t.log w x) (λ y. back (sees_shows t.log w x y)) (the_run t e)));
+  };
+}
+
+observed_terms : (b : List Shape) (place : ℕ) (ks : List ℕ) (ns : List Node) (os : List Observation) → AreTruths b ns → AreObserved b place ks ns os
+    → AreObservations b os
+observed_terms b place [] [] [] terms h = tt
+observed_terms b place [] [] (o ∷ os) terms h = absurd h
+observed_terms b place [] (n ∷ ns) os terms h = absurd h
+observed_terms b place (k ∷ ks) [] os terms h = absurd h
+observed_terms b place (k ∷ ks) (n ∷ ns) [] terms h = absurd h
+observed_terms b place (k ∷ ks) (n ∷ ns) (o ∷ os) terms h =
+    (subst (IsTerm b sort.Truth) (sym h.0) terms.0, (seen_if o.seen h.1.0, observed_terms b place ks ns os terms.1 h.1.1))
+  where
+    seen_if : (x : Option Seen) → IsAt b k place x → IsSeenIf b x
+    seen_if None h = tt
+    seen_if (Some y) h = h.0
+
+pub observations_are : (a b : List Shape) (r : RunFormula) (w : Watch) (s : Sightings) (os : List Observation) → AreSightings a b r.log w r.states s
+    → AreObserved b w.place s.lists s.truths os → Observes a b r w os
+observations_are a b r w s os h k = record {
   grows = h.grows;
-  term = h.term;
-  says = λ t c d fs is g.
-      let told : IsAnswer b t.log (question.SawOther w x) r.states n =
-      subst (λ log. IsAnswer b log (question.SawOther w x) r.states n) is.log (answer_of a b r.log (question.SawOther w x) r.states n h) in
-      record {
-        term = h.term;
-        is = λ e v m fits.
-            both (answers_run t is.ends.start is.ends.ended b (question.SawOther w x) r.states n is.ends.runs told e v
-            (weaken (grows_on is.ends.grown (grows_on g h.grows)) m) m) (saw_law t e w x fits);
-      };
+  terms = observed_terms b w.place s.lists s.truths os h.terms k;
+  says = λ t p q fs is g. record {
+    is = λ e v m fits x.
+        let seen : StatesSighted a b t.log w s.lists r.states s.truths = subst (λ log. AreSightings a b log w r.states s) is.log h in
+        both (sighted_law t is.ends.start is.ends.ended a b w s.lists r.states s.truths (λ zs. slice_get zs w.place ≡ x) is.ends.runs seen e v
+        (weaken (grows_on is.ends.grown (grows_on g h.grows)) m) m fits)
+        (observes_where b w.place s.lists s.truths os k e v m x);
+  };
 }

@@ -5,4 +5,5 @@ pub mod Runs
 pub mod SeenLaws
 pub mod SeenWatches
 pub mod Asked
+pub mod Sights
 pub mod Laws

@@ -1,26 +1,23 @@
 -- The numbers that a node has, one at a time.
-use Rattle.std.proofs.Common.{◌≡◌, ◌↔◌, ◌<◌, ◌≤◌, ◌+◌, ◌-◌, ◌^◌, ◌++◌, ◌∷◌, [], ℕ, zero, suc, ℤ, pos, List, Option, Some, None, Bool, true, false, not, cond, length, get_or, nat_eq, FitsSigned, to_z, of_z, refl, sym, ap, subst, ◌∙◌, append-nil, append_assoc, arith}
+use Rattle.std.proofs.Common.{◌≡◌, ◌↔◌, ◌<◌, ◌≤◌, ◌+◌, ◌-◌, ◌^◌, ◌++◌, ◌∷◌, [], ℕ, zero, suc, ℤ, List, Option, Some, None, Bool, true, false, not, length, get_or, nat_eq, FitsSigned, to_z, of_z, refl, sym, ap, subst, ◌∙◌, append-nil, append_assoc, arith}
 use Rattle.std.specs.Prelude.{Ok, slice_get}
-use Rattle.std.specs.Option.{option_map}
 use Rattle.std.proofs.Math.Nat.{mod-eq_of_lt}
 use Rattle.std.specs.Int.{w128}
 use Rattle.std.proofs.lemmas.Bool.Decides.{nat_tests}
 use Rattle.std.proofs.lemmas.Int.{ints, to_z-of_z}
-use Rattle.plain_data.specs.Words.{bits, word, signed}
+use Rattle.plain_data.specs.Words.{bits, word}
 use Rattle.plain_data.specs.declared.width.Width.{Width}
 use Rattle.plain_data.specs.declared.width.Width.TheVariants.{W8, W16, W32, W64}
-use Rattle.plain_data.proofs.WordLaws.{word-signed, word_below}
+use Rattle.plain_data.proofs.WordLaws.{word-signed}
 use Rattle.term_bank.specs.declared.sort.Node.{Node}
-use Rattle.term_bank.specs.declared.sort.Sort.{Sort}
 use Rattle.term_bank.specs.declared.sort.Sort.TheVariants as sort
 use Rattle.term_bank.specs.declared.shape.Shape.{Shape}
 use Rattle.term_bank.specs.declared.shape.Shape.TheVariants as shape
 use Rattle.term_bank.specs.declared.shape.WordTest.TheVariants as test
 use Rattle.term_bank.specs.Banks.{IsBank}
-use Rattle.term_bank.specs.Shapes.{Each, sort_at, sort_of}
 use Rattle.term_bank.specs.Terms.{IsTerm, Makes}
-use Rattle.term_bank.specs.Values.{Environment, Values, Models, Grows, Worth, number, outcome_of}
-use Rattle.term_bank.proofs.BankLemmas.{weaken, stays, grows_on}
+use Rattle.term_bank.specs.Values.{Environment, Values, Models, Worth, number, outcome_of}
+use Rattle.term_bank.proofs.BankLemmas.{weaken, grows_on}
 use Rattle.term_bank.proofs.BindingLemmas.{node_sorted}
 use Rattle.run_formula.specs.declared.seen.Last.{Last}
 use Rattle.run_formula.specs.declared.seen.Seen.{Seen}

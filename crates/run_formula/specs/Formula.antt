@@ -13,7 +13,11 @@ use Rattle.term_bank.specs.Values.{Environment, Values, Models, Grows}
 use Rattle.summary_compose.specs.Summaries.{world_in}
 use Rattle.log_expr.specs.Tours.{Tour}
 use Rattle.path_states.specs.declared.state.State.{State}
-use Rattle.run_formula.specs.Watched.{SawOther}
+use Rattle.run_formula.specs.Watched.{IsSeen, SawOther, SawThis}
+use Rattle.run_formula.specs.Questions.{OneOf}
+use Rattle.run_formula.specs.Sighted.{observed_in}
+use Rattle.run_formula.specs.declared.observing.Observation.{Observation}
+use Rattle.run_formula.specs.declared.seen.Seen.{Seen}
 use Rattle.run_formula.specs.Whole.{RunsAll}
 use Rattle.run_formula.specs.declared.watches.Watch.{Watch}
 use Rattle.run_formula.specs.declared.formula.RunFormula.{RunFormula}
@@ -38,6 +42,10 @@ LeavesIn t e = OfRun (λ r. (StaysIn r.finish → ⊥) × (starts_with nat_eq t.
 
 abbrev pub HoldsIn : Tour → Environment → Fact → Type 0
 HoldsIn t e f = OfRun (λ r. Holds t.log r f) (the_run t e)
+
+-- some print of the watched variable saw this, or shows no number in its place
+abbrev pub SawIn : Tour → Environment → Watch → Option ℤ → Type 0
+SawIn t e w x = OfRun (λ r. SawThis t.log r w x) (the_run t e)
 
 -- some print of the watched variable saw another value than this
 abbrev pub SawOtherIn : Tour → Environment → Watch → ℤ → Type 0
@@ -67,6 +75,26 @@ pub record SaysOther (t : Tour) (b : List Shape) (w : Watch) (x : ℤ) (n : Node
   pub term : IsTerm b Truth n
   pub is : (e : Environment) (v : Values) → Models b e v → FitsIn t e → ((v n.index).truth ≡ true) ↔ SawOtherIn t e w x
 
+-- ---- what is observed of a watched variable
+
+abbrev pub IsSeenIf : List Shape → Option Seen → Type 0
+IsSeenIf b None = Unit {0}
+IsSeenIf b (Some x) = IsSeen b x
+
+-- the truth and the word stand in the bank
+abbrev pub AreObservations : List Shape → List Observation → Type 0
+AreObservations b [] = Unit {0}
+AreObservations b (o ∷ os) = IsTerm b Truth o.happens × (IsSeenIf b o.seen × AreObservations b os)
+
+-- the observation's truth holds, and this is what is seen
+abbrev pub IsObserved : Values → Option ℤ → Observation → Type 0
+IsObserved v x o = ((v o.happens.index).truth ≡ true) × (observed_in v o.seen ≡ x)
+
+-- in each world whose run fits, some print of the watched variable sees exactly what is observed
+pub record SaysSeen (t : Tour) (b : List Shape) (w : Watch) (os : List Observation) : Type 0 where
+  pub is : (e : Environment) (v : Values) → Models b e v → FitsIn t e → (x : Option ℤ)
+      → SawIn t e w x ↔ OneOf (IsObserved v x) os
+
 -- the ends of all runs, in a bank that has grown since
 pub record HasEnds (t : Tour) (b : List Shape) (ss : List State) : Type 0 where
   pub start : List Shape
@@ -88,3 +116,9 @@ pub record AnswersOther (a b : List Shape) (r : RunFormula) (w : Watch) (x : ℤ
   pub grows : Grows a b
   pub term : IsTerm b Truth n
   pub says : (t : Tour) (c d : List Shape) (fs : List Fact) → IsFormula t c d fs r → Grows d a → SaysOther t b w x n
+
+-- What is observed on the ends of a run formula, whatever the formula's program and bank.
+pub record Observes (a b : List Shape) (r : RunFormula) (w : Watch) (os : List Observation) : Type 0 where
+  pub grows : Grows a b
+  pub terms : AreObservations b os
+  pub says : (t : Tour) (c d : List Shape) (fs : List Fact) → IsFormula t c d fs r → Grows d a → SaysSeen t b w os

@@ -1,4 +1,5 @@
 pub mod Watched
+pub mod Sighted
 pub mod Starts
 pub mod Settings
 pub mod Whole

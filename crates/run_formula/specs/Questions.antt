@@ -4,7 +4,6 @@ use Rattle.std.specs.HashMap.{get}
 use Rattle.plain_data.specs.declared.fact.Fact.{Fact}
 use Rattle.plain_data.specs.declared.fact.Fact.TheVariants as fact
 use Rattle.plain_data.specs.declared.run.Event.{Event}
-use Rattle.plain_data.specs.declared.run.Happening.TheVariants as happening
 use Rattle.plain_data.specs.declared.run.Finish.{Finish}
 use Rattle.plain_data.specs.declared.run.Finish.TheVariants as finish
 use Rattle.plain_data.specs.declared.run.Run.{Run}
@@ -19,7 +18,6 @@ use Rattle.term_bank.specs.Values.{Environment, Values, Models, Grows, worth}
 use Rattle.term_bank.specs.Images.{Images}
 use Rattle.path_states.specs.declared.state.State.{State}
 use Rattle.path_states.specs.States.{Held, done_in, standing}
-use Rattle.run_formula.specs.Watched.{SeesOther, SawOther}
 use Rattle.run_formula.specs.declared.questions.Question.{Question}
 use Rattle.run_formula.specs.declared.questions.Question.TheVariants as question
 
@@ -44,7 +42,6 @@ abbrev pub IsSought : List ℕ → Question → Event → Type 0
 IsSought log question.Fits e = ⊥
 IsSought log question.Left e = ⊥
 IsSought log (question.Holds f) e = IsMeant log f e
-IsSought log (question.SawOther w x) e = SeesOther log w x e
 
 -- the ends of a run on which a fact holds
 abbrev pub EndsSo : Fact → Finish → Type 0
@@ -71,7 +68,6 @@ abbrev pub Meets : List ℕ → Question → Done ℕ → Type 0
 Meets log question.Fits d = StaysIn (shown log d).finish × (d.out ≡ length log)
 Meets log question.Left d = StaysIn (shown log d).finish → ⊥
 Meets log (question.Holds f) d = Holds log (shown log d) f
-Meets log (question.SawOther w x) d = SawOther log (shown log d) w x
 
 -- of a run that goes on along the log
 abbrev pub MeetsOn : List ℕ → Question → Option (Done ℕ) → Type 0
@@ -106,14 +102,6 @@ pub record OrMeant (a b : List Shape) (before : Node) (meant : Bool) (n : Node) 
   pub grows : Grows a b
   pub term : IsTerm b Truth n
   pub is : (e : Environment) (v : Values) → Models b e v → (v n.index).truth ≡ cond meant true (v before.index).truth
-
--- the first truth, or that a print by this site is sought, that sees the numbers of a node, whatever its length
-pub record OrPrint (a b : List Shape) (log : List ℕ) (q : Question) (before : Node) (printed at seen : ℕ) (n : Node) : Type 0 where
-  pub grows : Grows a b
-  pub term : IsTerm b Truth n
-  pub is : (length : ℕ) (e : Environment) (v : Values) → Models b e v
-      → ((v n.index).truth ≡ true) ↔ (((v before.index).truth ≡ true)
-      ⊎ IsSought log q (record { what = happening.Print at length (v seen).numbers; printed = printed }))
 
 -- true where the answer is yes on what a state says of a run
 pub record TellsState (a b : List Shape) (log : List ℕ) (q : Question) (s : State) (n : Node) : Type 0 where

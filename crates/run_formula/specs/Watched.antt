@@ -4,6 +4,8 @@ use Rattle.plain_data.specs.declared.fact.Fact.{Fact}
 use Rattle.plain_data.specs.declared.fact.Fact.TheVariants as fact
 use Rattle.plain_data.specs.declared.fact.Watched.{Watched}
 use Rattle.plain_data.specs.declared.run.Event.{Event}
+use Rattle.plain_data.specs.declared.run.Happening.{Happening}
+use Rattle.plain_data.specs.declared.run.Happening.TheVariants as happening
 use Rattle.plain_data.specs.declared.run.Run.{Run}
 use Rattle.log_text.specs.Shown.{BeginsIn, IsPrint, Saw}
 use Rattle.term_bank.specs.declared.sort.Sort.TheVariants.{Truth, Word}
@@ -48,6 +50,19 @@ SeesOther log w x e = IsPrint w.at e.what × (BeginsIn log w.line e × (Saw w.pl
 -- some print by the site that begins in the line saw another value than this
 abbrev pub SawOther : List ℕ → Run → Watch → ℤ → Type 0
 SawOther log run w x = Any (SeesOther log w x) run.events
+
+-- it is a print, and what it shows is so
+abbrev pub OfPrint : (List ℤ → Type 0) → Happening → Type 0
+OfPrint P (happening.Print at count seen) = P seen
+OfPrint P _ = ⊥
+
+-- a print by the site that begins in the line, and shows what is so
+abbrev pub Shows : List ℕ → Watch → (List ℤ → Type 0) → Event → Type 0
+Shows log w P e = IsPrint w.at e.what × (BeginsIn log w.line e × OfPrint P e.what)
+
+-- some print by the site that begins in the line shows this in the place, or no number there
+abbrev pub SawThis : List ℕ → Run → Watch → Option ℤ → Type 0
+SawThis log run w x = Any (Shows log w (λ seen. slice_get seen w.place ≡ x)) run.events
 
 -- ---- numbers of nodes
 

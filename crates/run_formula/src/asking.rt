@@ -79,10 +79,6 @@ fn says(
             let node = holds_on(bank, told, state, fact, log)?;
             Ok(node)
         }
-        Question::SawOther { .. } => {
-            let node = any_event(told, state.events)?;
-            Ok(node)
-        }
     }
 }
 

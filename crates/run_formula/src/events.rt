@@ -7,12 +7,9 @@ ghost use Rattle.term_bank.specs.Banks.{IsBank};
 ghost use Rattle.term_bank.specs.Terms.{IsTerm};
 ghost use Rattle.term_bank.specs.declared.sort.Sort.TheVariants.{Truth};
 ghost use Rattle.path_states.specs.States.{AreStates};
-ghost use Rattle.run_formula.specs.Questions.{IsMeant, IsSought, AllTell, TellsShape, TellsAll, OrMeant, OrPrint};
-ghost use Rattle.run_formula.specs.declared.questions.Question.TheVariants as question;
+ghost use Rattle.run_formula.specs.Questions.{IsMeant, IsSought, AllTell, TellsShape, TellsAll, OrMeant};
 
 use crate::questions::Question;
-use crate::seen::sees_other;
-use crate::watches::Watch;
 use log_text::LogText;
 use path_states::State;
 use plain_data::{Fact, Items, Side};
@@ -22,7 +19,7 @@ use std::collections::HashMap;
 use term_bank::{Bank, BankFault, Connective, Node, Shape, Sort, nodes_under, set_image};
 
 /// Whether a position is in this line of the log.
-fn is_in_line(log: &LogText, line: u32, printed: u64) -> bool
+pub(crate) fn is_in_line(log: &LogText, line: u32, printed: u64) -> bool
     ensures { (result ≡ true) ↔ (line_of log.now printed ≡ line) }
 {
     log.line_of(printed as usize) == line as usize
@@ -92,11 +89,17 @@ fn seeks_call(question: &Question, log: &LogText, printed: u64, at: u32) -> bool
     }
 }
 
-/// Whether prints by a site that begin behind so many printed bytes see a variable that is watched.
-fn is_watched(watch: &Watch, log: &LogText, printed: u64, at: u32) -> bool
-    ensures { (result ≡ true) ↔ ((at ≡ watch.now.at) × (line_of log.now printed ≡ watch.now.line)) }
+/// Whether a print at a token behind so many printed bytes is sought, whatever it shows.
+fn seeks_print(question: &Question, log: &LogText, printed: u64, at: u32) -> bool
+    ensures { (length : ℕ) (seen : List ℤ) → (result ≡ true) ↔ IsSought log.now question.now (record {
+      what = happening.Print at length seen;
+      printed = printed;
+    }) }
 {
-    at == watch.at && is_in_line(log, watch.line, printed)
+    match question {
+        Question::Holds(fact) => speaks_of_print(fact, log, printed, at),
+        _ => false,
+    }
 }
 
 /// The truth that is told of some events. It fails where nothing is told of them.
@@ -121,61 +124,8 @@ fn or_meant(bank: &mut Bank, before: Node, meant: bool) -> Result<Node, BankFaul
     Ok(before)
 }
 
-/// The truth of what happened before, or that a print that happens next saw another value than this.
-fn or_other(
-    alloc: Global,
-    bank: &mut Bank,
-    before: Node,
-    watch: &Watch,
-    value: &i128,
-    log: &LogText,
-    printed: u64,
-    at: u32,
-    seen: u32,
-) -> Result<Node, BankFault>
-    requires { IsTerm bank.old Truth before }
-    ensures { IfOk result (OrPrint bank.old bank.new log.now (question.SawOther watch.now value.now) before printed at seen) }
-{
-    if !is_watched(watch, log, printed, at) {
-        return Ok(before);
-    }
-    let other = sees_other(alloc, bank, seen, watch.place, value)?;
-    let node = bank.connect(Connective::Or, before, other)?;
-    Ok(node)
-}
-
-/// The truth of what happened before, or that a print that happens next is sought.
-fn or_print(
-    alloc: Global,
-    bank: &mut Bank,
-    before: Node,
-    question: &Question,
-    log: &LogText,
-    printed: u64,
-    at: u32,
-    seen: u32,
-) -> Result<Node, BankFault>
-    requires { IsTerm bank.old Truth before }
-    ensures { IfOk result (OrPrint bank.old bank.new log.now question.now before printed at seen) }
-{
-    match question {
-        Question::Holds(fact) => {
-            let meant = speaks_of_print(fact, log, printed, at);
-            let node = or_meant(bank, before, meant)?;
-            Ok(node)
-        }
-        Question::SawOther { watch, value } => {
-            let node = or_other(alloc, bank, before, watch, value, log, printed, at, seen)?;
-            Ok(node)
-        }
-        Question::Fits => Ok(before),
-        Question::Left => Ok(before),
-    }
-}
-
 /// The truth that one of a node's events is sought, by what is told of the nodes below it.
 fn tell(
-    alloc: Global,
     bank: &mut Bank,
     told: &HashMap<u32, Node>,
     number: u32,
@@ -218,11 +168,11 @@ fn tell(
             events,
             printed,
             at,
-            seen,
             ..
         } => {
             let before = told_of(told, events)?;
-            let node = or_print(alloc, bank, before, question, log, printed, at, seen)?;
+            let meant = seeks_print(question, log, printed, at);
+            let node = or_meant(bank, before, meant)?;
             Ok(node)
         }
         Shape::EventsBehind { first, second } => {
@@ -282,7 +232,6 @@ pub(crate) fn events_under(
 
 /// One more node of events, of which it is told whether one is sought.
 fn tell_next(
-    alloc: Global,
     bank: &mut Bank,
     told: &mut HashMap<u32, Node>,
     number: u32,
@@ -293,7 +242,7 @@ fn tell_next(
     ensures { IfOk result (λ _. TellsAll bank.old bank.new log.now question.now told.new) }
 {
     if let Some(shape) = bank.shape(number) {
-        let node = tell(alloc, bank, told, number, shape, question, log)?;
+        let node = tell(bank, told, number, shape, question, log)?;
         set_image(told, number, node)?;
         return Ok(());
     }
@@ -313,7 +262,7 @@ pub(crate) fn tell_all(
 {
     let mut told = HashMap::new(alloc);
     for number in numbers {
-        tell_next(alloc, bank, &mut told, *number, question, log)?;
+        tell_next(bank, &mut told, *number, question, log)?;
     }
     Ok(told)
 }

@@ -6,11 +6,13 @@ ghost use Rattle.path_states.specs.States.{AreStates};
 ghost use Rattle.path_summaries.specs.Levels.{keys_within};
 ghost use Rattle.log_expr.specs.Tours.{tour_of};
 ghost use Rattle.run_formula.specs.Questions.{AsksAll};
-ghost use Rattle.run_formula.specs.Formula.{AnswersOther, IsFormula};
+ghost use Rattle.run_formula.specs.Formula.{AnswersOther, IsFormula, Observes};
 
 use crate::asking::ask;
 use crate::events::events_under;
+use crate::observing::{Observation, observed, shows_other};
 use crate::questions::Question;
+use crate::sighting::sightings_of;
 use crate::watches::Watch;
 use crate::whole::run_states;
 use core_tree::Core;
@@ -121,10 +123,27 @@ impl RunFormula {
         if value < i128::MIN || value > i128::MAX {
             return Err(BankFault::Memory);
         }
-        let states = self.states.as_slice();
-        let events = events_under(alloc, bank, states)?;
-        let question = Question::SawOther { watch, value };
-        let node = ask(alloc, bank, events.as_slice(), states, question, &self.log)?;
+        let seen = sightings_of(alloc, bank, self.states.as_slice(), &watch, &self.log)?;
+        let lists = seen.lists.as_slice();
+        let node = shows_other(alloc, bank, lists, seen.truths.as_slice(), watch.place, &value)?;
         Ok(node)
+    }
+
+    /// What prints see of a watched variable: in every world whose run fits, some print by its site that begins in its line
+    /// sees a number exactly where it is observed with a truth that holds. The bank is the formula's, or has grown since. It
+    /// fails for want of memory alone.
+    pub fn observe(
+        &self,
+        alloc: Global,
+        bank: &mut Bank,
+        watch: Watch,
+    ) -> Result<Items<Observation>, BankFault>
+        requires { AreStates bank.old self.now.states }
+        ensures { IfOk result (Observes bank.old bank.new self.now watch) }
+    {
+        let seen = sightings_of(alloc, bank, self.states.as_slice(), &watch, &self.log)?;
+        let lists = seen.lists.as_slice();
+        let all = observed(alloc, bank, lists, seen.truths.as_slice(), watch.place)?;
+        Ok(all)
     }
 }

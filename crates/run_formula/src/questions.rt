@@ -4,7 +4,6 @@ ghost use Rattle.log_text.specs.Shown.{StaysIn};
 ghost use Rattle.c_means.specs.Runs.{finish_of as end_of};
 ghost use Rattle.run_formula.specs.Questions.{EndsSo, SameEnd};
 
-use crate::watches::Watch;
 use c_means::Kind;
 use plain_data::{Fact, Finish};
 use run_facts::{aborts, exits, returns, stops_at, stops_by};
@@ -18,8 +17,6 @@ pub enum Question {
     Left,
     /// Whether a fact holds on it.
     Holds(Fact),
-    /// Whether some print saw another value than this of a watched variable.
-    SawOther { watch: Watch, value: i128 },
 }
 
 /// The end of a run of this kind; a run that has not ended returns from `main`, with whatever value.

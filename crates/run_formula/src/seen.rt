@@ -13,13 +13,13 @@ use term_bank::{Bank, BankFault, Node, Shape, Sort, WordTest};
 
 /// A number that a print sees: a word of an integer type.
 #[derive(Clone, Copy)]
-pub(crate) struct Seen {
+pub struct Seen {
     /// How many bits the word has.
-    pub(crate) width: Width,
+    pub width: Width,
     /// Whether it is read with its sign.
-    pub(crate) is_signed: bool,
+    pub is_signed: bool,
     /// The number of the word's node.
-    pub(crate) word: u32,
+    pub word: u32,
 }
 
 /// The last of some numbers, and the node of those before it.
@@ -93,7 +93,7 @@ fn from_end(len: usize, place: u32) -> Option<usize>
 }
 
 /// The number at a place among those of a node.
-fn number_at(
+pub(crate) fn number_at(
     alloc: Global,
     bank: &Bank,
     numbers: u32,

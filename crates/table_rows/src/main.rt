@@ -8,6 +8,8 @@
 //! - `values`: whether a run fits; how many worlds and refutations the questions on the facts come to, how many are open, and
 //!   how many answers don't hold; and of each watched variable that a run that fits has seen its value, or that it can have
 //!   several (`values`). `clauses`: how many clauses say that a run fits.
+//! - `observations`: what prints see of each watched variable, as terms: the line, the variable's place, and how many bits
+//!   each number has that some print sees, and whether it is read with its sign (`observations`).
 //! - `walks`: how many bodies are walked. `nodes`: behind that, how many nodes the formula of the runs has (`walks`).
 //!
 //! A second word says how many turns a loop may take, a third how many levels of calls there may be.
@@ -16,6 +18,7 @@
 mod ends;
 mod facts;
 mod input;
+mod observations;
 mod sites;
 mod text;
 mod values;
@@ -29,6 +32,7 @@ use input::{bounds_of, log_of, program_of, split};
 use log_expr::end_table;
 use plain_data::{Bounds, Bytes};
 use program_facts::facts_of;
+use observations::put_observations;
 use sites::put_sites;
 use std::alloc::Global;
 use std::env;
@@ -82,13 +86,14 @@ fn answer_walks(
     Ok(())
 }
 
-/// Puts the answers to all questions at the end, or how many clauses they are asked of.
+/// Puts the answers to all questions at the end, or what else is asked of the runs: how many clauses there are, or what is
+/// observed of watched variables.
 fn answer_values(
     alloc: Global,
     program: &Accepted,
     log: &[u8],
     bounds: &Bounds,
-    is_count: bool,
+    word: &str,
     text: &mut Bytes,
 ) -> Result<()> {
     let log = log_of(alloc, log)?;
@@ -97,10 +102,10 @@ fn answer_values(
         bounds,
         log: &log,
     };
-    if is_count {
-        put_clauses(alloc, &asked, text)?;
-    } else {
-        put_values(alloc, &asked, text)?;
+    match word {
+        "clauses" => put_clauses(alloc, &asked, text)?,
+        "observations" => put_observations(alloc, &asked, text)?,
+        _ => put_values(alloc, &asked, text)?,
     }
     Ok(())
 }
@@ -127,8 +132,9 @@ fn found(
         "facts" => answer_facts(alloc, program, log, false, &mut text)?,
         "lines" => answer_facts(alloc, program, log, true, &mut text)?,
         "sites" => answer_sites(alloc, program, &mut text)?,
-        "clauses" => answer_values(alloc, program, log, bounds, true, &mut text)?,
-        "values" => answer_values(alloc, program, log, bounds, false, &mut text)?,
+        "clauses" | "observations" | "values" => {
+            answer_values(alloc, program, log, bounds, word, &mut text)?
+        }
         "walks" => answer_walks(alloc, program, log, bounds, false, &mut text)?,
         "nodes" => answer_walks(alloc, program, log, bounds, true, &mut text)?,
         _ => return Err(anyhow!("no such word")),

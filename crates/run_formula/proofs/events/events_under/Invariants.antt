@@ -1,4 +1,4 @@
-use Rattle.std.proofs.Common.{ℕ, length}
+use Rattle.std.proofs.Common.{length}
 use Rattle.term_bank.specs.Shapes.{Each, IsNode}
 use Rattle.run_formula.proofs.events.events_under.Given as goal
 

@@ -21,16 +21,16 @@ returns-in_ok-node-in-CallEvent c =
     (shape_call c.args.log.now c.args.question.now c.args.bank.now _ s.events s.printed s.at c.in_ok-before-in-CallEvent.before c.in_ok-node-in-CallEvent.node c.seeks_call-meant.result
     (c.requires.told.tell _ c.in_ok-before-in-CallEvent.before c.in_ok-before-in-CallEvent.ensures) c.in_ok-node-in-CallEvent.ensures c.seeks_call-meant.ensures)
 
-pub or_print-requires : goal.or_print-requires
-or_print-requires c = (c.requires.told.tell _ c.in_ok-before-in-PrintEvent.before c.in_ok-before-in-PrintEvent.ensures).term
+pub or_meant-requires-in-PrintEvent : goal.or_meant-requires-in-PrintEvent
+or_meant-requires-in-PrintEvent c = (c.requires.told.tell _ c.in_ok-before-in-PrintEvent.before c.in_ok-before-in-PrintEvent.ensures).term
 
 pub returns-in_ok-node-in-PrintEvent : goal.returns-in_ok-node-in-PrintEvent
 returns-in_ok-node-in-PrintEvent c =
     let s = c.in-PrintEvent in
     rw s.is
     (shape_print c.args.log.now c.args.question.now c.args.bank.now _ s.events s.printed s.at s.length s.seen c.in_ok-before-in-PrintEvent.before
-    c.in_ok-node-in-PrintEvent.node (c.requires.told.tell _ c.in_ok-before-in-PrintEvent.before c.in_ok-before-in-PrintEvent.ensures)
-    c.in_ok-node-in-PrintEvent.ensures)
+    c.in_ok-node-in-PrintEvent.node c.seeks_print-meant.result (c.requires.told.tell _ c.in_ok-before-in-PrintEvent.before c.in_ok-before-in-PrintEvent.ensures)
+    c.in_ok-node-in-PrintEvent.ensures c.seeks_print-meant.ensures)
 
 pub connect-requires-clause-left : goal.connect-requires-clause-left
 connect-requires-clause-left c = (c.requires.told.tell _ c.in_ok-one-in-EventsBehind.one c.in_ok-one-in-EventsBehind.ensures).term

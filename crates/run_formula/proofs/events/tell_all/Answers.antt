@@ -1,4 +1,4 @@
-use Rattle.run_formula.proofs.Asked.{all_none, all_then}
+use Rattle.run_formula.proofs.Asked.{all_none}
 use Rattle.run_formula.proofs.events.tell_all.Goals as goal
 
 pub loop-number-init : goal.loop-number-init

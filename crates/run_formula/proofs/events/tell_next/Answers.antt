@@ -1,4 +1,4 @@
-use Rattle.std.proofs.Common.{sym, ap, ◌∙◌, Some}
+use Rattle.std.proofs.Common.{sym}
 use Rattle.run_formula.proofs.Asked.{all_more}
 use Rattle.run_formula.proofs.events.tell_next.Goals as goal
 

@@ -1,5 +1,4 @@
-use Rattle.std.proofs.Common.{sym, subst}
-use Rattle.run_formula.proofs.SeenLaws.{chain-begins, chain-ends, chain-falls, chain-more, chain-seen}
+use Rattle.run_formula.proofs.SeenLaws.{chain-falls, chain-more, chain-seen}
 use Rattle.run_formula.proofs.seen.numbers_of.Goals as goal
 
 pub numbers-smaller : goal.numbers-smaller

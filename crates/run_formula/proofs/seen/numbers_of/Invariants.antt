@@ -1,4 +1,4 @@
-use Rattle.std.proofs.Common.{◌≡◌, ◌++◌, ℕ}
+use Rattle.std.proofs.Common.{◌≡◌, ◌++◌}
 use Rattle.term_bank.specs.Values.{Environment, Values, Models}
 use Rattle.run_formula.specs.Watched.{AllSeen, seen_all}
 use Rattle.run_formula.proofs.seen.numbers_of.Given as goal
