@@ -192,10 +192,13 @@ module _ (P : List ℤ → Type 0) where
   )
 
   nothing_twice : ⊥ ↔ (⊥ ⊎ ⊥)
-  nothing_twice = (λ h. absurd h, λ h. elim h [
-    | inl x ↦ x
-    | inr x ↦ x
-  ])
+  nothing_twice = (
+    λ h. absurd h,
+    λ h. elim h [
+      | inl x ↦ x
+      | inr x ↦ x
+    ],
+  )
 
   pub where_either : (bs cs : List Bool) (ls : List (List ℤ)) → length bs ≡ length cs
       → OneWhere P (pairwise (λ x y. cond x true y) bs cs) ls ↔ (OneWhere P bs ls ⊎ OneWhere P cs ls)

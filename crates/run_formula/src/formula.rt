@@ -125,7 +125,14 @@ impl RunFormula {
         }
         let seen = sightings_of(alloc, bank, self.states.as_slice(), &watch, &self.log)?;
         let lists = seen.lists.as_slice();
-        let node = shows_other(alloc, bank, lists, seen.truths.as_slice(), watch.place, &value)?;
+        let node = shows_other(
+            alloc,
+            bank,
+            lists,
+            seen.truths.as_slice(),
+            watch.place,
+            &value,
+        )?;
         Ok(node)
     }
 

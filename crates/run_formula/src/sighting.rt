@@ -57,7 +57,10 @@ fn list_shown(bank: &Bank, number: u32, watch: &Watch, log: &LogText) -> Option<
     match bank.shape(number) {
         Some(
             Shape::PrintEvent {
-                printed, at, seen, ..
+                printed,
+                at,
+                seen,
+                ..
             },
         ) => {
             if is_watched(watch, log, printed, at) {
@@ -219,7 +222,10 @@ fn sighted(
             Ok(nodes)
         }
         Shape::Choose {
-            condition, yes, no, ..
+            condition,
+            yes,
+            no,
+            ..
         } => {
             let guard = Node {
                 index: condition,
