@@ -208,13 +208,14 @@ of-arguments {p} z {y} h is = subst (λ (ks : List Expr). ArePassed p ks z y) is
 -- ---- arguments one after the other
 
 -- what was found of a call, of whose arguments these are left
-pub record Leads (p : Profile) (f : NotedExpr) (es rest : List Expr) (s : Scope) (c : NotedCall) (s1 : Scope) : Type 0 where
-  pub at : c.at ≡ f.told.at
-  pub shown : c.shown ≡ f.told.shown
-  pub notes : c.notes ≡ f.notes
-  pub passed : (l : Level) → Knows p l →
-      with_arguments p l rest (behind c.arguments s1)
-      ≡ with_arguments p l es (behind (spec.no_arguments_noted f.told.faults) s)
+pub record Leads (p : Profile) (f : NotedExpr) (es rest : List Expr) (s : Scope) (c : NotedCall) (s1 : Scope) : Type 0
+  where
+    pub at : c.at ≡ f.told.at
+    pub shown : c.shown ≡ f.told.shown
+    pub notes : c.notes ≡ f.notes
+    pub passed : (l : Level) → Knows p l →
+        with_arguments p l rest (behind c.arguments s1)
+        ≡ with_arguments p l es (behind (spec.no_arguments_noted f.told.faults) s)
 
 -- the same, where what is called may have failed
 abbrev pub HasLed : Profile → Result NotedExpr AllocError → List Expr → List Expr → Scope → NotedCall → Scope → Type 0
@@ -290,10 +291,11 @@ formed p at f es s1 s2 c z h found = record {
 }
 
 -- what was found of a call, with what was found before of what it calls
-record Called (p : Profile) (e : Expr) (s : Scope) (es : List Expr) (s1 : Scope) (c : NotedCall) (s2 : Scope) : Type 0 where
-  pub part : NotedExpr
-  pub noted : IsNoted p e s part s1
-  pub is : IsCallOf p part es s1 c s2
+record Called (p : Profile) (e : Expr) (s : Scope) (es : List Expr) (s1 : Scope) (c : NotedCall) (s2 : Scope) : Type 0
+  where
+    pub part : NotedExpr
+    pub noted : IsNoted p e s part s1
+    pub is : IsCallOf p part es s1 c s2
 
 pub of_call : (p : Profile) (e : Expr) (at : ℕ) (callee callee' : Expr) (arguments arguments' : List Expr)
     (s s1 s2 : Scope) (r : Result NotedExpr AllocError) (b : Result NotedCall AllocError)

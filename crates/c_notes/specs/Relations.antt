@@ -54,8 +54,9 @@ abbrev pub ArePassed : Profile → List Expr → Passed → Passed → Type 0
 ArePassed p es z y = (l : Level) → Knows p l → y ≡ with_arguments p l es z
 
 -- What was found of a call of what `f` was noted of, with these arguments, from the scope behind that.
-pub record IsCallOf (p : Profile) (f : NotedExpr) (es : List Expr) (s : Scope) (c : NotedCall) (after : Scope) : Type 0 where
-  pub at : c.at ≡ f.told.at
-  pub shown : c.shown ≡ f.told.shown
-  pub notes : c.notes ≡ f.notes
-  pub passed : ArePassed p es (behind (no_arguments_noted f.told.faults) s) (behind c.arguments after)
+pub record IsCallOf (p : Profile) (f : NotedExpr) (es : List Expr) (s : Scope) (c : NotedCall) (after : Scope) : Type 0
+  where
+    pub at : c.at ≡ f.told.at
+    pub shown : c.shown ≡ f.told.shown
+    pub notes : c.notes ≡ f.notes
+    pub passed : ArePassed p es (behind (no_arguments_noted f.told.faults) s) (behind c.arguments after)

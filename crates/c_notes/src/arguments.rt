@@ -118,6 +118,5 @@ pub(crate) fn and_noted(
 {
     let (before, x) = both_ok(before, argument)?;
     let mut call = before;
-    call.arguments.put(alloc, x)?;
-    Ok(call)
+    call.arguments.put(alloc, x).and(Ok(call))
 }

@@ -209,8 +209,8 @@ pub(crate) fn call(
     let told = forms::call(alloc, scope, at, token, shown, arguments);
     let (notes, judged) = both_ok(notes, both_ok(basis, told))?;
     let (basis, told) = judged;
-    let itself = itself_of(alloc, profile, token, scope, &basis, &told);
-    with_itself(itself?, told, notes)
+    let itself = itself_of(alloc, profile, token, scope, &basis, &told)?;
+    with_itself(itself, told, notes)
 }
 
 fn itself_of(

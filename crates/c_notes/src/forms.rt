@@ -352,8 +352,8 @@ fn all_three(first: ExprNotes, second: ExprNotes, third: ExprNotes) -> Result<Ex
     both(notes, third)
 }
 
-/// The conditional operator, of which the condition and the first choice are values already. It fails for want of memory
-/// alone.
+/// The conditional operator, of which the condition and the first choice are values already. It fails for want of
+/// memory alone.
 pub(crate) fn choice(
     alloc: Global,
     scope: &Scope,

@@ -16,8 +16,8 @@ use plain_data::Shared;
 use std::alloc::{AllocError, Global};
 
 /// What an expression says to the types (C99 6.5), and what is noted of it: operands and type names from left to right,
-/// each in the scope that those before it leave. It fails for want of memory alone. An operand that failed is handed to
-/// its form as it is, and those behind it are walked all the same: so nothing is let go here, but by the forms.
+/// each in the scope that those before it leave. It fails for want of memory alone. A part that failed is handed to
+/// its form as it is, and the parts behind it are walked all the same.
 #[cycle(noting)]
 pub fn noted(
     alloc: Global,
@@ -152,7 +152,7 @@ pub fn noted(
     }
 }
 
-/// What is noted of a call of what was noted, and of its arguments from left to right.
+/// A call of what was noted, with its arguments from left to right.
 #[cycle(noting)]
 fn all_arguments(
     alloc: Global,

@@ -1,4 +1,4 @@
-use Rattle.std.proofs.Common.{List, [], refl, ap, ◌∙◌}
+use Rattle.std.proofs.Common.{[], ap, ◌∙◌}
 use Rattle.std.proofs.lemmas.Result.{IfOk-weaker}
 use Rattle.c_language.specs.Typing as spec
 use Rattle.c_typing.proofs.Says as says
@@ -75,37 +75,46 @@ noted-returns-in-Unary t c =
 
 pub noted-returns-in-SizeofExpr : goal.noted-returns-in-SizeofExpr
 noted-returns-in-SizeofExpr t c =
-    found.of_one c.noted-x-in-SizeofExpr.result c.size_of_expression.result _ _ _ c.noted-x-in-SizeofExpr.ensures c.size_of_expression.ensures
+    found.of_one c.noted-x-in-SizeofExpr.result c.size_of_expression.result _ _ _ c.noted-x-in-SizeofExpr.ensures
+    c.size_of_expression.ensures
     (λ x z h said. each.on-SizeofExpr _ _ c.args.scope.now c.noted-x-in-SizeofExpr.new.scope x z c.in-SizeofExpr.is
     (each.of-child c.args.scope.now h c.get-in-SizeofExpr.ensures) said)
 
 pub noted-returns-in-Subscript : goal.noted-returns-in-Subscript
 noted-returns-in-Subscript t c =
     found.of_two c.value-x.result c.noted-y.result c.subscript.result _ _ _ _
-    (found.valued _ _ _ _ _ c.noted-x.result c.value-x.result c.noted-x.ensures c.get-in-Subscript.ensures c.value-x.ensures) c.noted-y.ensures
+    (found.valued _ _ _ _ _ c.noted-x.result c.value-x.result c.noted-x.ensures c.get-in-Subscript.ensures
+    c.value-x.ensures) c.noted-y.ensures
     c.subscript.ensures
-    (λ u y z hu hy said. each.on-Subscript _ _ _ c.args.scope.now c.noted-x.new.scope c.noted-y.new.scope hu.part u y z
+    (λ u y z hu hy said. each.on-Subscript _ _ _ c.args.scope.now c.noted-x.new.scope c.noted-y.new.scope hu.part u y
+    z
     c.in-Subscript.is hu.noted hu.is (each.of-child c.noted-x.new.scope hy c.get-in-Subscript-2.ensures) said)
 
 pub noted-returns-in-Binary : goal.noted-returns-in-Binary
 noted-returns-in-Binary t c =
     found.of_two c.value-x-in-Binary.result c.noted-y-in-Binary.result c.binary.result _ _ _ _
-    (found.valued _ _ _ _ _ c.noted-x-in-Binary.result c.value-x-in-Binary.result c.noted-x-in-Binary.ensures c.get-in-Binary.ensures c.value-x-in-Binary.ensures) c.noted-y-in-Binary.ensures
+    (found.valued _ _ _ _ _ c.noted-x-in-Binary.result c.value-x-in-Binary.result c.noted-x-in-Binary.ensures
+    c.get-in-Binary.ensures c.value-x-in-Binary.ensures) c.noted-y-in-Binary.ensures
     c.binary.ensures
-    (λ u y z hu hy said. each.on-Binary _ _ _ _ c.args.scope.now c.noted-x-in-Binary.new.scope c.noted-y-in-Binary.new.scope hu.part u y z
+    (λ u y z hu hy said. each.on-Binary _ _ _ _ c.args.scope.now c.noted-x-in-Binary.new.scope
+    c.noted-y-in-Binary.new.scope hu.part u y z
     c.in-Binary.is hu.noted hu.is (each.of-child c.noted-x-in-Binary.new.scope hy c.get-in-Binary-2.ensures) said)
 
 pub noted-returns-in-Assign : goal.noted-returns-in-Assign
 noted-returns-in-Assign t c =
-    found.of_two c.noted-x-in-Assign.result c.noted-y-in-Assign.result c.assignment.result _ _ _ _ c.noted-x-in-Assign.ensures c.noted-y-in-Assign.ensures c.assignment.ensures
-    (λ x y z hx hy said. each.on-Assign _ _ _ _ c.args.scope.now c.noted-x-in-Assign.new.scope c.noted-y-in-Assign.new.scope x y z
+    found.of_two c.noted-x-in-Assign.result c.noted-y-in-Assign.result c.assignment.result _ _ _ _
+    c.noted-x-in-Assign.ensures c.noted-y-in-Assign.ensures c.assignment.ensures
+    (λ x y z hx hy said. each.on-Assign _ _ _ _ c.args.scope.now c.noted-x-in-Assign.new.scope
+    c.noted-y-in-Assign.new.scope x y z
     c.in-Assign.is (each.of-child c.args.scope.now hx c.get-in-Assign.ensures)
     (each.of-child c.noted-x-in-Assign.new.scope hy c.get-in-Assign-2.ensures) said)
 
 pub noted-returns-in-Comma : goal.noted-returns-in-Comma
 noted-returns-in-Comma t c =
-    found.of_two c.noted-x-in-Comma.result c.noted-y-in-Comma.result c.comma.result _ _ _ _ c.noted-x-in-Comma.ensures c.noted-y-in-Comma.ensures c.comma.ensures
-    (λ x y z hx hy said. each.on-Comma _ _ _ c.args.scope.now c.noted-x-in-Comma.new.scope c.noted-y-in-Comma.new.scope x y z
+    found.of_two c.noted-x-in-Comma.result c.noted-y-in-Comma.result c.comma.result _ _ _ _
+    c.noted-x-in-Comma.ensures c.noted-y-in-Comma.ensures c.comma.ensures
+    (λ x y z hx hy said. each.on-Comma _ _ _ c.args.scope.now c.noted-x-in-Comma.new.scope
+    c.noted-y-in-Comma.new.scope x y z
     c.in-Comma.is (each.of-child c.args.scope.now hx c.get-in-Comma.ensures)
     (each.of-child c.noted-x-in-Comma.new.scope hy c.get-in-Comma-2.ensures) said)
 
@@ -119,7 +128,8 @@ pub noted-returns-in-Cast : goal.noted-returns-in-Cast
 noted-returns-in-Cast t c =
     found.of_two c.type_name-to.result c.noted-x-in-Cast.result c.cast.result _ _ _ _ c.type_name-to.ensures
     c.noted-x-in-Cast.ensures c.cast.ensures
-    (λ k x z hk hx said. each.on-Cast _ _ _ c.args.scope.now c.type_name-to.new.scope c.noted-x-in-Cast.new.scope k x z
+    (λ k x z hk hx said. each.on-Cast _ _ _ c.args.scope.now c.type_name-to.new.scope c.noted-x-in-Cast.new.scope k x
+    z
     c.in-Cast.is (says.of-name c.args.scope.now hk c.get-in-Cast.ensures)
     (each.of-child c.type_name-to.new.scope hx c.get-in-Cast-2.ensures) said)
 
@@ -127,8 +137,10 @@ pub noted-returns-in-Conditional : goal.noted-returns-in-Conditional
 noted-returns-in-Conditional t c =
     found.of_three c.value-c.result c.value-x-in-Conditional.result c.noted-y-in-Conditional.result c.choice.result
     _ _ _ _ _
-    (found.valued _ _ _ _ _ c.noted-c.result c.value-c.result c.noted-c.ensures c.get-in-Conditional.ensures c.value-c.ensures)
-    (found.valued _ _ _ _ _ c.noted-x-in-Conditional.result c.value-x-in-Conditional.result c.noted-x-in-Conditional.ensures
+    (found.valued _ _ _ _ _ c.noted-c.result c.value-c.result c.noted-c.ensures c.get-in-Conditional.ensures
+    c.value-c.ensures)
+    (found.valued _ _ _ _ _ c.noted-x-in-Conditional.result c.value-x-in-Conditional.result
+    c.noted-x-in-Conditional.ensures
     c.get-in-Conditional-2.ensures c.value-x-in-Conditional.ensures)
     c.noted-y-in-Conditional.ensures c.choice.ensures
     (λ u v y z hu hv hy said. each.on-Conditional _ _ _ _ c.args.scope.now c.noted-c.new.scope
