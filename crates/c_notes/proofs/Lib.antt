@@ -1,4 +1,5 @@
 pub mod Parts
 pub mod Passing
 pub mod EachForm
+pub mod Found
 pub mod OnCalls

@@ -10,9 +10,10 @@ use Rattle.c_means.specs.declared.profile.Profile.{Profile}
 use Rattle.c_means.specs.Notes.{Noted, noted}
 use Rattle.c_means.specs.Rules.{identity_index}
 use Rattle.c_notes.specs.declared.arguments.ArgumentNotes.{ArgumentNotes}
+use Rattle.c_notes.specs.declared.arguments.NotedCall.{NotedCall}
 use Rattle.c_notes.specs.declared.notes.ExprNotes.{ExprNotes}
 use Rattle.c_notes.specs.declared.notes.NotedExpr.{NotedExpr}
-use Rattle.c_notes.specs.Tellings.{notes_of, and_noted}
+use Rattle.c_notes.specs.Tellings.{notes_of, no_arguments_noted, and_noted}
 
 -- a level that knows what identity functions hand on
 pub record Knows (p : Profile) (l : Level) : Type 0 where
@@ -51,3 +52,11 @@ behind xs s = record { found = xs; after = s }
 
 abbrev pub ArePassed : Profile → List Expr → Passed → Passed → Type 0
 ArePassed p es z y = (l : Level) → Knows p l → y ≡ with_arguments p l es z
+
+-- What was found of a call of what `f` was noted of, with these arguments, from the scope behind that.
+pub record IsCallOf (p : Profile) (f : NotedExpr) (es : List Expr) (s : Scope) (c : NotedCall) (after : Scope) : Type 0
+  where
+    pub at : c.at ≡ f.told.at
+    pub shown : c.shown ≡ f.told.shown
+    pub notes : c.notes ≡ f.notes
+    pub passed : ArePassed p es (behind (no_arguments_noted f.told.faults) s) (behind c.arguments after)

@@ -16,6 +16,7 @@ use Rattle.c_means.specs.declared.profile.Profile.{Profile}
 use Rattle.c_means.specs.Notes.{Noted, is_address_in, is_static_pointer}
 use Rattle.c_means.specs.Rules.{identity_index}
 use Rattle.c_notes.specs.declared.arguments.ArgumentNotes.{ArgumentNotes}
+use Rattle.c_notes.specs.declared.arguments.NotedCall.{NotedCall}
 use Rattle.c_notes.specs.declared.calling.Itself.{Itself}
 use Rattle.c_notes.specs.declared.calls.CallNote.{CallNote}
 use Rattle.c_notes.specs.declared.notes.ExprNotes.{ExprNotes}
@@ -135,6 +136,15 @@ choice x c m n = as_value (c.is_constant && is_static m && is_static n) x (both 
 abbrev pub no_arguments_noted : List Fault → ArgumentNotes
 no_arguments_noted faults =
     record { arguments = no_arguments faults; types = []; texts = []; calls = []; called = [] }
+
+-- a call of what this was noted of, without arguments so far
+abbrev pub call_begun : NotedExpr → NotedCall
+call_begun f = record {
+  at = f.told.at;
+  shown = f.told.shown;
+  notes = f.notes;
+  arguments = no_arguments_noted f.told.faults;
+}
 
 -- one more argument, as a value
 abbrev pub and_noted : ArgumentNotes → NotedExpr → ArgumentNotes

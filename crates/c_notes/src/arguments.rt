@@ -1,17 +1,18 @@
 //! What is noted of the arguments of a call (C99 6.5.2.2).
 
-ghost use Rattle.std.specs.Prelude.{◌≡◌, ◌++◌, ◌∷◌, [], IfOk, OnOk};
+ghost use Rattle.std.specs.Prelude.{◌≡◌, ◌++◌, ◌∷◌, [], IfOk, IsOkAnd, OnOk};
 ghost use Rattle.c_language.specs.Typing as typing;
 ghost use Rattle.c_means.specs.Expressions as means;
 ghost use Rattle.c_notes.specs.Tellings as spec;
 
 use crate::calls::CallNote;
-use crate::notes::{ExprNotes, NotedExpr};
+use crate::notes::{ExprNotes, NotedExpr, both_ok};
 use crate::passed::promoted_type;
 use c_language::{CType, Fault, Name, Shown, Told};
 use c_typing::{Arguments, and_argument, no_arguments};
 use plain_data::{Bytes, Items};
 use std::alloc::{AllocError, Global};
+use std::mem::replace;
 
 /// Arguments so far, from left to right: what they say to the types, the promoted types of their values, the texts of
 /// those that are string literals, and the calls in them.
@@ -24,8 +25,7 @@ pub struct ArgumentNotes {
     pub called: Items<Name>,
 }
 
-/// No arguments, behind the faults of the callee. It takes no memory.
-pub(crate) fn no_arguments_noted(alloc: Global, faults: Items<Fault>) -> ArgumentNotes
+fn nothing_passed(alloc: Global, faults: Items<Fault>) -> ArgumentNotes
     ensures { result ≡ spec.no_arguments_noted faults }
 {
     ArgumentNotes {
@@ -63,37 +63,60 @@ impl ArgumentNotes {
     }
 
     /// What one more argument says to the types. It fails for want of memory alone.
-    fn with_argument(self, told: Told) -> Result<ArgumentNotes, AllocError>
-        ensures { IfOk result (λ xs. xs ≡ record self { arguments = typing.and_argument self.arguments told }) }
+    fn put_told(&mut self, alloc: Global, told: Told) -> Result<(), AllocError>
+        ensures { OnOk result (self.new ≡ record self.old { arguments = typing.and_argument self.old.arguments told }) }
     {
-        let ArgumentNotes {
-            arguments,
-            types,
-            texts,
-            calls,
-            called,
-        } = self;
-        Ok(ArgumentNotes {
-            arguments: and_argument(arguments, told)?,
-            types,
-            texts,
-            calls,
-            called,
-        })
+        let before = replace(&mut self.arguments, no_arguments(alloc, Items::new(alloc)));
+        self.arguments = and_argument(before, told)?;
+        Ok(())
     }
+
+    /// One more argument, as a value. It fails for want of memory alone.
+    fn put(&mut self, alloc: Global, x: NotedExpr) -> Result<(), AllocError>
+        ensures { OnOk result (self.new ≡ spec.and_noted self.old x) }
+    {
+        let NotedExpr { told, notes } = x;
+        self.put_notes(notes)?;
+        self.put_type(alloc, &told.shown)?;
+        self.put_told(alloc, told)
+    }
+}
+
+/// A call as far as it was noted: of what is called its token, what it shows and its notes; and the arguments so far.
+#[derive(Drop)]
+pub(crate) struct NotedCall {
+    pub(crate) at: u32,
+    pub(crate) shown: Option<Shown>,
+    pub(crate) notes: ExprNotes,
+    pub(crate) arguments: ArgumentNotes,
+}
+
+/// A call without arguments so far, behind the faults of what is called. It fails where that did.
+pub(crate) fn no_arguments_noted(
+    alloc: Global,
+    callee: Result<NotedExpr, AllocError>,
+) -> Result<NotedCall, AllocError>
+    ensures { IfOk result (λ c. IsOkAnd callee (λ f. c ≡ spec.call_begun f)) }
+{
+    let NotedExpr { told, notes } = callee?;
+    let Told { at, shown, faults } = told;
+    Ok(NotedCall {
+        at,
+        shown,
+        notes,
+        arguments: nothing_passed(alloc, faults),
+    })
 }
 
 /// One more argument, as a value. It fails for want of memory alone.
 pub(crate) fn and_noted(
     alloc: Global,
-    before: ArgumentNotes,
-    x: NotedExpr,
-) -> Result<ArgumentNotes, AllocError>
-    ensures { IfOk result (λ xs. xs ≡ spec.and_noted before x) }
+    before: Result<NotedCall, AllocError>,
+    argument: Result<NotedExpr, AllocError>,
+) -> Result<NotedCall, AllocError>
+    ensures { IfOk result (λ c. IsOkAnd before (λ b. IsOkAnd argument (λ x. c ≡ record b { arguments = spec.and_noted b.arguments x }))) }
 {
-    let NotedExpr { told, notes } = x;
-    let mut all = before;
-    all.put_type(alloc, &told.shown)?;
-    all.put_notes(notes)?;
-    all.with_argument(told)
+    let (before, x) = both_ok(before, argument)?;
+    let mut call = before;
+    call.arguments.put(alloc, x).and(Ok(call))
 }

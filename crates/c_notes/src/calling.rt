@@ -1,16 +1,16 @@
 //! Calls, and what is noted of them (C99 6.5.2.2).
 
-ghost use Rattle.std.specs.Prelude.{◌≡◌, ◌++◌, ◌∷◌, [], false, IfOk, is_some};
+ghost use Rattle.std.specs.Prelude.{◌≡◌, ◌++◌, ◌∷◌, [], false, IfOk, IsOkAnd, is_some};
 ghost use Rattle.c_language.specs.Typing as typing;
 ghost use Rattle.c_means.specs.Expressions as means;
 ghost use Rattle.c_means.specs.Rules as rules;
 ghost use Rattle.c_notes.specs.Tellings as spec;
 ghost use Rattle.c_notes.specs.Relations.{IsForm};
 
-use crate::arguments::ArgumentNotes;
+use crate::arguments::{ArgumentNotes, NotedCall};
 use crate::calls::{CallNote, call_note};
 use crate::forms::add_bytes;
-use crate::notes::{ExprNotes, NotedExpr, is_constant, joined};
+use crate::notes::{ExprNotes, NotedExpr, both_ok, is_constant};
 use crate::passed::passed_types;
 use c_checks::identity_index;
 use c_language::{CType, Entry, Name, Shown, Told};
@@ -120,21 +120,33 @@ fn by_name(
     })
 }
 
-fn with_itself(
-    itself: Itself,
-    told: Told,
-    callee: ExprNotes,
+/// The notes of what is called, with those of its arguments behind them.
+fn with_calls(
+    notes: ExprNotes,
     calls: Items<CallNote>,
     called: Items<Name>,
-) -> Result<NotedExpr, AllocError>
-    ensures { IfOk result (λ z. z ≡ record { told = told; notes = record { text = itself.text; calls = callee.calls ++ calls ++ itself.calls; called = callee.called ++ called ++ itself.called; is_place = false; is_address = false; is_constant = is_some (typing.value_in told.shown) } }) }
+) -> Result<ExprNotes, AllocError>
+    ensures { IfOk result (λ n. n ≡ record notes { calls = notes.calls ++ calls; called = notes.called ++ called }) }
 {
-    let calls = joined(calls, itself.calls)?;
-    let called = joined(called, itself.called)?;
+    let mut notes = notes;
+    notes.calls.append(calls)?;
+    notes.called.append(called)?;
+    Ok(notes)
+}
+
+fn with_itself(itself: Itself, told: Told, parts: ExprNotes) -> Result<NotedExpr, AllocError>
+    ensures { IfOk result (λ z. z ≡ record { told = told; notes = record { text = itself.text; calls = parts.calls ++ itself.calls; called = parts.called ++ itself.called; is_place = false; is_address = false; is_constant = is_some (typing.value_in told.shown) } }) }
+{
+    let Itself {
+        text,
+        calls,
+        called,
+    } = itself;
+    let ExprNotes { calls, called, .. } = with_calls(parts, calls, called)?;
     let notes = ExprNotes {
-        text: itself.text,
-        calls: joined(callee.calls, calls)?,
-        called: joined(callee.called, called)?,
+        text,
+        calls,
+        called,
         is_place: false,
         is_address: false,
         is_constant: is_constant(&told.shown),
@@ -142,19 +154,49 @@ fn with_itself(
     Ok(NotedExpr { told, notes })
 }
 
-/// A call of what stands at `token`, with the notes of what is called. It fails for want of memory alone.
+/// What a call is judged by: the declaration of the name that is called, where a name is; the types of the arguments as
+/// they are converted, and their texts.
+#[derive(Drop)]
+struct Basis {
+    entry: Option<Shared<Entry>>,
+    types: Items<Option<CType>>,
+    texts: Items<Option<Bytes>>,
+}
+
+fn basis_of(
+    alloc: Global,
+    scope: &Scope,
+    shown: &Option<Shown>,
+    types: Items<Option<CType>>,
+    texts: Items<Option<Bytes>>,
+) -> Result<Basis, AllocError>
+    ensures { IfOk result (λ b. b ≡ record { entry = means.designated shown.now; types = spec.passed_as types (means.parameters_of scope.now.tables (typing.type_in shown.now)); texts = texts }) }
+{
+    let types = passed_types(alloc, scope.tables(), shown, types.as_slice())?;
+    let entry = designated(shown)?;
+    Ok(Basis {
+        entry,
+        types,
+        texts,
+    })
+}
+
+/// A call of what stands at a token, with the notes of what is called. It fails for want of memory alone.
 pub(crate) fn call(
     alloc: Global,
     profile: &Profile,
     scope: &Scope,
     at: u32,
-    token: u32,
-    shown: Option<Shown>,
-    callee: ExprNotes,
-    passed: ArgumentNotes,
+    parts: Result<NotedCall, AllocError>,
 ) -> Result<NotedExpr, AllocError>
-    ensures { IfOk result (λ z. IsForm (typing.call at token shown passed.arguments scope.now) (λ x. spec.call profile.now token scope.now.tables shown x callee passed) z scope.now) }
+    ensures { IfOk result (λ z. IsOkAnd parts (λ c. IsForm (typing.call at c.at c.shown c.arguments.arguments scope.now) (λ x. spec.call profile.now c.at scope.now.tables c.shown x c.notes c.arguments) z scope.now)) }
 {
+    let NotedCall {
+        at: token,
+        shown,
+        notes,
+        arguments: passed,
+    } = parts?;
     let ArgumentNotes {
         arguments,
         types,
@@ -162,20 +204,13 @@ pub(crate) fn call(
         calls,
         called,
     } = passed;
-    let types = passed_types(alloc, scope.tables(), &shown, types.as_slice())?;
-    let entry = designated(&shown)?;
-    let told = forms::call(alloc, scope, at, token, shown, arguments)?;
-    let itself = itself_of(
-        alloc,
-        profile,
-        token,
-        scope,
-        &entry,
-        &told,
-        types.as_slice(),
-        texts.as_slice(),
-    )?;
-    with_itself(itself, told, callee, calls, called)
+    let notes = with_calls(notes, calls, called);
+    let basis = basis_of(alloc, scope, &shown, types, texts);
+    let told = forms::call(alloc, scope, at, token, shown, arguments);
+    let (notes, judged) = both_ok(notes, both_ok(basis, told))?;
+    let (basis, told) = judged;
+    let itself = itself_of(alloc, profile, token, scope, &basis, &told)?;
+    with_itself(itself, told, notes)
 }
 
 fn itself_of(
@@ -183,19 +218,26 @@ fn itself_of(
     profile: &Profile,
     at: u32,
     scope: &Scope,
-    entry: &Option<Shared<Entry>>,
+    basis: &Basis,
     told: &Told,
-    types: &[Option<CType>],
-    texts: &[Option<Bytes>],
 ) -> Result<Itself, AllocError>
-    ensures { IfOk result (λ i. i ≡ spec.itself profile.now at scope.now.tables entry.now told.now.shown types.now texts.now) }
+    ensures { IfOk result (λ i. i ≡ spec.itself profile.now at scope.now.tables basis.now.entry told.now.shown basis.now.types basis.now.texts) }
 {
-    match entry {
+    match &basis.entry {
         None => Ok(Itself {
             text: None,
             calls: Items::new(alloc),
             called: Items::new(alloc),
         }),
-        Some(entry) => by_name(alloc, profile, at, scope, entry.get(), told, types, texts),
+        Some(entry) => by_name(
+            alloc,
+            profile,
+            at,
+            scope,
+            entry.get(),
+            told,
+            basis.types.as_slice(),
+            basis.texts.as_slice(),
+        ),
     }
 }

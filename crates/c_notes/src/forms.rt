@@ -1,6 +1,6 @@
 //! Forms of expressions over parts and what is noted of them (C99 6.5): what each says to the types, and its notes.
 
-ghost use Rattle.std.specs.Prelude.{◌≡◌, ◌++◌, IfOk, OnOk};
+ghost use Rattle.std.specs.Prelude.{◌≡◌, ◌++◌, IfOk, IsOkAnd, OnOk};
 ghost use Rattle.c_language.specs.Typing as typing;
 ghost use Rattle.c_language.specs.Scopes as scopes;
 ghost use Rattle.c_means.specs.Expressions.{joined as joined_};
@@ -9,7 +9,8 @@ ghost use Rattle.c_notes.specs.Tellings as spec;
 ghost use Rattle.c_notes.specs.Relations.{IsForm};
 
 use crate::notes::{
-    ExprNotes, NotedExpr, as_place, as_value, both, is_moved, is_pointer, is_static, nothing_noted,
+    ExprNotes, NotedExpr, as_place, as_value, both, both_ok, is_moved, is_pointer, is_static,
+    nothing_noted,
 };
 use c_declares::TypeSaid;
 use c_language::{BinaryOperator, Duration, Means, Name, Told, UnaryOperator};
@@ -18,22 +19,22 @@ use c_typing as forms;
 use plain_data::{Bytes, Items, Shared};
 use std::alloc::{AllocError, Global};
 
-/// A node without parts that is a value. It takes no memory.
-pub(crate) fn leaf(alloc: Global, told: Told) -> NotedExpr
-    ensures { result ≡ record { told = told; notes = spec.leaf told.shown } }
+/// A node without parts that is a value. It fails where what it says did.
+pub(crate) fn leaf(alloc: Global, told: Result<Told, AllocError>) -> Result<NotedExpr, AllocError>
+    ensures { IfOk result (λ z. IsOkAnd told (λ t. z ≡ record { told = t; notes = spec.leaf t.shown })) }
 {
-    as_value(false, told, nothing_noted(alloc))
+    Ok(as_value(false, told?, nothing_noted(alloc)))
 }
 
 /// Adjacent string literals, of which each array lives throughout the run. It fails for want of memory alone.
 pub(crate) fn literal(
     alloc: Global,
-    told: Told,
+    told: Result<Told, AllocError>,
     pieces: &[Shared<Bytes>],
 ) -> Result<NotedExpr, AllocError>
-    ensures { IfOk result (λ z. z ≡ record { told = told; notes = spec.literal (joined_ pieces.now) told.shown }) }
+    ensures { IfOk result (λ z. IsOkAnd told (λ t. z ≡ record { told = t; notes = spec.literal (joined_ pieces.now) t.shown })) }
 {
-    let text = text_of(alloc, pieces)?;
+    let (told, text) = both_ok(told, text_of(alloc, pieces))?;
     let NotedExpr { told, notes } = as_place(true, told, nothing_noted(alloc));
     let ExprNotes {
         calls,
@@ -73,11 +74,15 @@ pub(crate) fn add_bytes(text: &mut Bytes, bytes: &[u8]) -> Result<(), AllocError
     Ok(())
 }
 
-/// `__func__`, which lives throughout the run. It takes no memory.
-pub(crate) fn placed_leaf(alloc: Global, fixed: bool, told: Told) -> NotedExpr
-    ensures { result ≡ record { told = told; notes = spec.placed_leaf fixed told.shown } }
+/// A name, or `__func__`; `fixed` tells that its address is constant. It fails where what it says did.
+pub(crate) fn placed_leaf(
+    alloc: Global,
+    fixed: bool,
+    told: Result<Told, AllocError>,
+) -> Result<NotedExpr, AllocError>
+    ensures { IfOk result (λ z. IsOkAnd told (λ t. z ≡ record { told = t; notes = spec.placed_leaf fixed t.shown })) }
 {
-    as_place(fixed, told, nothing_noted(alloc))
+    Ok(as_place(fixed, told?, nothing_noted(alloc)))
 }
 
 fn is_fixed(means: &Means) -> bool
@@ -106,10 +111,14 @@ pub(crate) fn is_fixed_name(scope: &Scope, name: &Name) -> bool
 }
 
 /// A part as a value, with the same notes. It fails for want of memory alone.
-pub(crate) fn value(alloc: Global, scope: &Scope, x: NotedExpr) -> Result<NotedExpr, AllocError>
-    ensures { IfOk result (λ y. y ≡ record x { told = typing.used_told scope.now.tables x.told }) }
+pub(crate) fn value(
+    alloc: Global,
+    scope: &Scope,
+    part: Result<NotedExpr, AllocError>,
+) -> Result<NotedExpr, AllocError>
+    ensures { IfOk result (λ y. IsOkAnd part (λ x. y ≡ record x { told = typing.used_told scope.now.tables x.told })) }
 {
-    let NotedExpr { told, notes } = x;
+    let NotedExpr { told, notes } = part?;
     let told = forms::value(alloc, scope, told)?;
     Ok(NotedExpr { told, notes })
 }
@@ -119,14 +128,15 @@ pub(crate) fn subscript(
     alloc: Global,
     scope: &Scope,
     at: u32,
-    x: NotedExpr,
-    y: NotedExpr,
+    array: Result<NotedExpr, AllocError>,
+    index: Result<NotedExpr, AllocError>,
 ) -> Result<NotedExpr, AllocError>
-    ensures { IfOk result (λ z. IsForm (typing.over_two at (typing.typed_in x.told scope.now) (typing.used (typing.typed_in y.told scope.now)) (typing.element scope.now.tables)) (λ shown. spec.subscript shown x.notes y.notes) z scope.now) }
+    ensures { IfOk result (λ z. IsOkAnd array (λ x. IsOkAnd index (λ y. IsForm (typing.over_two at (typing.typed_in x.told scope.now) (typing.used (typing.typed_in y.told scope.now)) (typing.element scope.now.tables)) (λ shown. spec.subscript shown x.notes y.notes) z scope.now))) }
 {
+    let (x, y) = both_ok(array, index)?;
     let fixed = is_moved(&x.notes, &y.notes);
-    let told = forms::subscript(alloc, scope, at, x.told, y.told)?;
-    let notes = both(x.notes, y.notes)?;
+    let told = forms::subscript(alloc, scope, at, x.told, y.told);
+    let (told, notes) = both_ok(told, both(x.notes, y.notes))?;
     Ok(as_place(fixed, told, notes))
 }
 
@@ -136,10 +146,11 @@ pub(crate) fn member(
     scope: &Scope,
     at: u32,
     name: &Name,
-    x: NotedExpr,
+    object: Result<NotedExpr, AllocError>,
 ) -> Result<NotedExpr, AllocError>
-    ensures { IfOk result (λ z. IsForm (typing.member at name.now (typing.typed_in x.told scope.now)) (λ shown. spec.member shown x.notes) z scope.now) }
+    ensures { IfOk result (λ z. IsOkAnd object (λ x. IsForm (typing.member at name.now (typing.typed_in x.told scope.now)) (λ shown. spec.member shown x.notes) z scope.now)) }
 {
+    let x = object?;
     let fixed = x.notes.is_place;
     let told = forms::member(alloc, scope, at, name, x.told)?;
     Ok(as_place(fixed, told, x.notes))
@@ -151,10 +162,11 @@ pub(crate) fn arrow(
     scope: &Scope,
     at: u32,
     name: &Name,
-    x: NotedExpr,
+    pointer: Result<NotedExpr, AllocError>,
 ) -> Result<NotedExpr, AllocError>
-    ensures { IfOk result (λ z. IsForm (typing.arrow at name.now (typing.typed_in x.told scope.now)) (λ shown. spec.arrow shown x.notes) z scope.now) }
+    ensures { IfOk result (λ z. IsOkAnd pointer (λ x. IsForm (typing.arrow at name.now (typing.typed_in x.told scope.now)) (λ shown. spec.arrow shown x.notes) z scope.now)) }
 {
+    let x = pointer?;
     let fixed = x.notes.is_address;
     let told = forms::arrow(alloc, scope, at, name, x.told)?;
     Ok(as_place(fixed, told, x.notes))
@@ -165,10 +177,11 @@ pub(crate) fn postfix(
     alloc: Global,
     scope: &Scope,
     at: u32,
-    x: NotedExpr,
+    operand: Result<NotedExpr, AllocError>,
 ) -> Result<NotedExpr, AllocError>
-    ensures { IfOk result (λ z. IsForm (typing.postfix at (typing.typed_in x.told scope.now)) (λ shown. spec.one_value shown x.notes) z scope.now) }
+    ensures { IfOk result (λ z. IsOkAnd operand (λ x. IsForm (typing.postfix at (typing.typed_in x.told scope.now)) (λ shown. spec.one_value shown x.notes) z scope.now)) }
 {
+    let x = operand?;
     let told = forms::postfix(alloc, scope, at, x.told)?;
     Ok(as_value(false, told, x.notes))
 }
@@ -200,10 +213,11 @@ pub(crate) fn unary(
     scope: &Scope,
     at: u32,
     operator: UnaryOperator,
-    x: NotedExpr,
+    operand: Result<NotedExpr, AllocError>,
 ) -> Result<NotedExpr, AllocError>
-    ensures { IfOk result (λ z. IsForm (typing.unary at operator (typing.typed_in x.told scope.now)) (λ shown. spec.unary operator shown x.notes) z scope.now) }
+    ensures { IfOk result (λ z. IsOkAnd operand (λ x. IsForm (typing.unary at operator (typing.typed_in x.told scope.now)) (λ shown. spec.unary operator shown x.notes) z scope.now)) }
 {
+    let x = operand?;
     let told = forms::unary(alloc, scope, at, operator, x.told)?;
     Ok(unary_notes(operator, told, x.notes))
 }
@@ -213,10 +227,11 @@ pub(crate) fn size_of_expression(
     alloc: Global,
     scope: &Scope,
     at: u32,
-    x: NotedExpr,
+    operand: Result<NotedExpr, AllocError>,
 ) -> Result<NotedExpr, AllocError>
-    ensures { IfOk result (λ z. IsForm (typing.size_of_expression at (typing.typed_in x.told scope.now)) (λ shown. spec.unevaluated shown x.notes) z scope.now) }
+    ensures { IfOk result (λ z. IsOkAnd operand (λ x. IsForm (typing.size_of_expression at (typing.typed_in x.told scope.now)) (λ shown. spec.unevaluated shown x.notes) z scope.now)) }
 {
+    let x = operand?;
     let told = forms::size_of_expression(alloc, scope, at, x.told)?;
     let mut notes = x.notes;
     notes.called = Items::new(alloc);
@@ -255,14 +270,15 @@ pub(crate) fn binary(
     scope: &Scope,
     at: u32,
     operator: BinaryOperator,
-    x: NotedExpr,
-    y: NotedExpr,
+    left: Result<NotedExpr, AllocError>,
+    right: Result<NotedExpr, AllocError>,
 ) -> Result<NotedExpr, AllocError>
-    ensures { IfOk result (λ z. IsForm (typing.over_two at (typing.typed_in x.told scope.now) (typing.used (typing.typed_in y.told scope.now)) (typing.operated scope.now.tables operator)) (λ shown. spec.binary operator shown x.notes y.notes) z scope.now) }
+    ensures { IfOk result (λ z. IsOkAnd left (λ x. IsOkAnd right (λ y. IsForm (typing.over_two at (typing.typed_in x.told scope.now) (typing.used (typing.typed_in y.told scope.now)) (typing.operated scope.now.tables operator)) (λ shown. spec.binary operator shown x.notes y.notes) z scope.now))) }
 {
+    let (x, y) = both_ok(left, right)?;
     let fixed = is_fixed_by(operator, &x.notes, &y.notes);
-    let told = forms::binary(alloc, scope, at, operator, x.told, y.told)?;
-    let notes = both(x.notes, y.notes)?;
+    let told = forms::binary(alloc, scope, at, operator, x.told, y.told);
+    let (told, notes) = both_ok(told, both(x.notes, y.notes))?;
     Ok(as_value(fixed, told, notes))
 }
 
@@ -271,11 +287,12 @@ pub(crate) fn cast(
     alloc: Global,
     scope: &Scope,
     at: u32,
-    to: TypeSaid,
-    x: NotedExpr,
+    named: Result<TypeSaid, AllocError>,
+    operand: Result<NotedExpr, AllocError>,
 ) -> Result<NotedExpr, AllocError>
-    ensures { IfOk result (λ z. IsForm (typing.cast at to.ctype to.faults (typing.typed_in x.told scope.now)) (λ shown. spec.cast shown x.notes) z scope.now) }
+    ensures { IfOk result (λ z. IsOkAnd named (λ to. IsOkAnd operand (λ x. IsForm (typing.cast at to.ctype to.faults (typing.typed_in x.told scope.now)) (λ shown. spec.cast shown x.notes) z scope.now))) }
 {
+    let (to, x) = both_ok(named, operand)?;
     let fixed = is_static(&x.notes);
     let told = forms::cast(alloc, scope, at, to, x.told)?;
     let fixed = fixed && is_pointer(&told.shown);
@@ -288,13 +305,14 @@ pub(crate) fn assignment(
     scope: &Scope,
     at: u32,
     operator: Option<BinaryOperator>,
-    x: NotedExpr,
-    y: NotedExpr,
+    target: Result<NotedExpr, AllocError>,
+    value: Result<NotedExpr, AllocError>,
 ) -> Result<NotedExpr, AllocError>
-    ensures { IfOk result (λ z. IsForm (typing.assignment at operator (typing.typed_in x.told scope.now) (typing.typed_in y.told scope.now)) (λ shown. spec.two_values shown x.notes y.notes) z scope.now) }
+    ensures { IfOk result (λ z. IsOkAnd target (λ x. IsOkAnd value (λ y. IsForm (typing.assignment at operator (typing.typed_in x.told scope.now) (typing.typed_in y.told scope.now)) (λ shown. spec.two_values shown x.notes y.notes) z scope.now))) }
 {
-    let told = forms::assignment(alloc, scope, at, operator, x.told, y.told)?;
-    let notes = both(x.notes, y.notes)?;
+    let (x, y) = both_ok(target, value)?;
+    let told = forms::assignment(alloc, scope, at, operator, x.told, y.told);
+    let (told, notes) = both_ok(told, both(x.notes, y.notes))?;
     Ok(as_value(false, told, notes))
 }
 
@@ -303,13 +321,14 @@ pub(crate) fn comma(
     alloc: Global,
     scope: &Scope,
     at: u32,
-    x: NotedExpr,
-    y: NotedExpr,
+    left: Result<NotedExpr, AllocError>,
+    right: Result<NotedExpr, AllocError>,
 ) -> Result<NotedExpr, AllocError>
-    ensures { IfOk result (λ z. IsForm (typing.comma at (typing.typed_in x.told scope.now) (typing.typed_in y.told scope.now)) (λ shown. spec.two_values shown x.notes y.notes) z scope.now) }
+    ensures { IfOk result (λ z. IsOkAnd left (λ x. IsOkAnd right (λ y. IsForm (typing.comma at (typing.typed_in x.told scope.now) (typing.typed_in y.told scope.now)) (λ shown. spec.two_values shown x.notes y.notes) z scope.now))) }
 {
-    let told = forms::comma(alloc, scope, at, x.told, y.told)?;
-    let notes = both(x.notes, y.notes)?;
+    let (x, y) = both_ok(left, right)?;
+    let told = forms::comma(alloc, scope, at, x.told, y.told);
+    let (told, notes) = both_ok(told, both(x.notes, y.notes))?;
     Ok(as_value(false, told, notes))
 }
 
@@ -318,29 +337,37 @@ pub(crate) fn size_of_type(
     alloc: Global,
     scope: &Scope,
     at: u32,
-    named: TypeSaid,
+    named: Result<TypeSaid, AllocError>,
 ) -> Result<NotedExpr, AllocError>
-    ensures { IfOk result (λ z. IsForm (typing.size_of_type at named.ctype named.faults scope.now) (λ shown. spec.leaf shown) z scope.now) }
+    ensures { IfOk result (λ z. IsOkAnd named (λ k. IsForm (typing.size_of_type at k.ctype k.faults scope.now) (λ shown. spec.leaf shown) z scope.now)) }
 {
-    let told = forms::size_of_type(alloc, scope, at, named)?;
-    Ok(leaf(alloc, told))
+    let told = forms::size_of_type(alloc, scope, at, named?)?;
+    Ok(as_value(false, told, nothing_noted(alloc)))
 }
 
-/// The conditional operator, of which the condition and the first choice are values already. It fails for want of memory
-/// alone.
+fn all_three(first: ExprNotes, second: ExprNotes, third: ExprNotes) -> Result<ExprNotes, AllocError>
+    ensures { IfOk result (λ n. n ≡ spec.both (spec.both first second) third) }
+{
+    let notes = both(first, second)?;
+    both(notes, third)
+}
+
+/// The conditional operator, of which the condition and the first choice are values already. It fails for want of
+/// memory alone.
 pub(crate) fn choice(
     alloc: Global,
     scope: &Scope,
     at: u32,
-    condition: NotedExpr,
-    x: NotedExpr,
-    y: NotedExpr,
+    condition: Result<NotedExpr, AllocError>,
+    positive: Result<NotedExpr, AllocError>,
+    negative: Result<NotedExpr, AllocError>,
 ) -> Result<NotedExpr, AllocError>
-    ensures { IfOk result (λ z. (z.told ≡ typing.choice_over at condition.told.shown x.told.shown (typing.used_told scope.now.tables y.told).shown (condition.told.faults ++ x.told.faults ++ (typing.used_told scope.now.tables y.told).faults)) × (z.notes ≡ spec.choice z.told.shown condition.notes x.notes y.notes)) }
+    ensures { IfOk result (λ z. IsOkAnd condition (λ c. IsOkAnd positive (λ x. IsOkAnd negative (λ y. (z.told ≡ typing.choice_over at c.told.shown x.told.shown (typing.used_told scope.now.tables y.told).shown (c.told.faults ++ x.told.faults ++ (typing.used_told scope.now.tables y.told).faults)) × (z.notes ≡ spec.choice z.told.shown c.notes x.notes y.notes))))) }
 {
-    let fixed = condition.notes.is_constant && is_static(&x.notes) && is_static(&y.notes);
-    let told = forms::choice(alloc, scope, at, condition.told, x.told, y.told)?;
-    let notes = both(condition.notes, x.notes)?;
-    let notes = both(notes, y.notes)?;
+    let (c, choices) = both_ok(condition, both_ok(positive, negative))?;
+    let (x, y) = choices;
+    let fixed = c.notes.is_constant && is_static(&x.notes) && is_static(&y.notes);
+    let told = forms::choice(alloc, scope, at, c.told, x.told, y.told);
+    let (told, notes) = both_ok(told, all_three(c.notes, x.notes, y.notes))?;
     Ok(as_value(fixed, told, notes))
 }

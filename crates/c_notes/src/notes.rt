@@ -1,6 +1,6 @@
 //! What is noted of an expression, and of one node over its parts.
 
-ghost use Rattle.std.specs.Prelude.{◌≡◌, ◌++◌, IfOk, is_some};
+ghost use Rattle.std.specs.Prelude.{◌≡◌, ◌++◌, IfOk, Ok, is_some};
 ghost use Rattle.c_language.specs.Typing as typing;
 ghost use Rattle.c_means.specs.Notes as told;
 ghost use Rattle.c_notes.specs.Tellings as spec;
@@ -30,6 +30,18 @@ pub struct ExprNotes {
 pub struct NotedExpr {
     pub told: Told,
     pub notes: ExprNotes,
+}
+
+/// Both results, where neither is an error.
+pub(crate) fn both_ok<T: Drop, U: Drop>(
+    first: Result<T, AllocError>,
+    second: Result<U, AllocError>,
+) -> Result<(T, U), AllocError>
+    ensures { IfOk result (λ both. (first ≡ Ok both.0) × (second ≡ Ok both.1)) }
+{
+    let x = first?;
+    let y = second?;
+    Ok((x, y))
 }
 
 pub(crate) fn joined<T: Drop>(first: Items<T>, second: Items<T>) -> Result<Items<T>, AllocError>
@@ -86,8 +98,8 @@ pub(crate) fn nothing_noted(alloc: Global) -> ExprNotes
 pub(crate) fn both(first: ExprNotes, second: ExprNotes) -> Result<ExprNotes, AllocError>
     ensures { IfOk result (λ n. n ≡ spec.both first second) }
 {
-    let calls = joined(first.calls, second.calls)?;
-    let called = joined(first.called, second.called)?;
+    let calls = joined(first.calls, second.calls);
+    let (calls, called) = both_ok(calls, joined(first.called, second.called))?;
     Ok(ExprNotes {
         text: None,
         calls,
