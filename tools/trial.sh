@@ -1,5 +1,5 @@
 #!/usr/bin/env bash
-# Prints the path of the trial program of `sherlog`: the same source, compiled by `rt try` in about half a minute,
+# Prints the path of the trial program of `sherlog`: the same source, compiled by `rt try` in some three minutes,
 # without proof and with checks of its memory at run time. It is built where it is missing or older than a source.
 #
 #     tools/trial.sh [--built]      with --built nothing is built: the script fails where no current program is there
