@@ -1,10 +1,10 @@
 -- What is found of pieces.
-use Rattle.std.proofs.Common.{◌≡◌, ℕ, zero, suc, ◌<◌, ◌≤◌, ◌⊎◌, Bool, true, false, ◌||◌, eqb, inl, inr, List, [], ◌∷◌, ◌++◌, Option, Some, None, length, get_or, set, refl, sym, ap, subst, ◌∙◌, arith}
+use Rattle.std.proofs.Common.{◌≡◌, ℕ, zero, suc, ◌<◌, ◌≤◌, false, ◌||◌, eqb, inl, inr, List, [], ◌∷◌, ◌++◌, Option, Some, None, length, get_or, set, refl, sym, ap, subst, arith}
 use Rattle.std.specs.Prelude.{slice_get}
 use Rattle.std.proofs.lemmas.Bool.{or_left, or_cases, eqb-true, eq-eqb}
 use Rattle.printf_text.specs.declared.piece.Conversion.{Conversion}
 use Rattle.printf_text.specs.declared.piece.Piece.{Piece}
-use Rattle.printf_text.specs.declared.piece.Piece.TheVariants.{Literal, Converted}
+use Rattle.printf_text.specs.declared.piece.Piece.TheVariants.{Converted}
 use Rattle.positions.specs.Sets.{has}
 use Rattle.format_match.specs.Spelled.{AddsEnds, EndsExactly, IsPieceSpelled, IsSpelled}
 use Rattle.format_match.proofs.Reached.{spelled_none, spelled_more, spelled_parts}

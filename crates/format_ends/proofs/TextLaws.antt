@@ -6,7 +6,7 @@ use Rattle.printf_text.specs.declared.piece.Piece.{Piece}
 use Rattle.printf_text.specs.declared.piece.Piece.TheVariants.{Literal, Converted}
 use Rattle.positions.specs.Sets.{has, ascends}
 use Rattle.format_match.specs.Splits.{begins, Spells}
-use Rattle.format_match.specs.Spelled.{IsPieceSpelled, IsBehind, EndsBehind, AreWithin, plain_text, is_printed, goes_on, may_end}
+use Rattle.format_match.specs.Spelled.{IsBehind, EndsBehind, AreWithin, plain_text, is_printed, goes_on, may_end}
 use Rattle.format_match.proofs.Reached.{spells_begins, spells_end, spells_from, stands, taken}
 use Rattle.format_match.proofs.PlainTexts.{texts_end, ends_one}
 use Rattle.format_ends.specs.Reached.{text_start, passing, reached, text_ends, StandExactly, EndsAtStop, IsPassed}

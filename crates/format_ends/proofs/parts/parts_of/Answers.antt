@@ -1,5 +1,5 @@
 use Rattle.std.proofs.Common.{◌++◌, ◌∷◌, ◌∙◌, [], ap, sym, subst, take}
-use Rattle.std.proofs.lemmas.List.{take_more, take_all}
+use Rattle.std.proofs.lemmas.List.{take_more}
 use Rattle.format_ends.specs.Found.{AreParts}
 use Rattle.format_ends.proofs.PartLaws.{parts_more}
 use Rattle.format_ends.proofs.parts.parts_of.Goals as goal
