@@ -1,17 +1,17 @@
 //! Where a format can end along one log, from many positions: piece by piece, over the positions that are reached.
 ghost use Rattle.std.specs.Prelude.{◌≡◌, ◌≤◌, ◌&&◌, ◌∷◌, [], ◌++◌, ℕ, true, length, IfOk, OnOk};
 ghost use Rattle.positions.specs.Sets.{has};
-ghost use Rattle.format_match.specs.Spelled.{AreWithin, EndsBehind, EndsExactly, is_plain_text, has_no_sizes, is_text};
+ghost use Rattle.format_match.specs.Spelled.{AreWithin, EndsBehind, EndsExactly, is_plain_text, has_no_sizes};
 ghost use Rattle.format_ends.specs.Reached.{reached};
 ghost use Rattle.format_ends.specs.Found.{AreParts, AreTexts, IsPart, IsReadyFor};
 
 use crate::literals::literal_ends;
-use crate::parts::{Part, converted_ends, parts_of};
+use crate::parts::{Part, converted_ends, is_text, parts_of};
 use crate::texts::{Texts, ends_at_stops, texts_of};
 use format_match::MatchFault;
 use plain_data::Bytes;
 use positions::Positions;
-use printf_text::{Conversion, Form, Piece, Pieces, Size};
+use printf_text::{Conversion, Piece, Pieces, Size};
 use std::alloc::{AllocError, Global};
 
 /// The positions that are reached: these, or where texts end that begin at some of them.
@@ -31,16 +31,6 @@ fn has_no_sizes(width: Size, precision: Size) -> bool
             Size::Written(_) | Size::Star => false,
         },
         Size::Written(_) | Size::Star => false,
-    }
-}
-
-/// Whether a form is that of texts.
-fn is_text(form: Form) -> bool
-    ensures { result ≡ is_text form }
-{
-    match form {
-        Form::Text => true,
-        Form::Signed(_) | Form::Unsigned(_, _) | Form::Char | Form::Pointer => false,
     }
 }
 
@@ -169,7 +159,8 @@ fn all_ends(
     Ok(ends)
 }
 
-/// A format made ready to be read along one log from many positions.
+/// A format made ready to be read along one log from many positions: each call is given the pieces and the log that it was
+/// made ready for.
 #[derive(Drop)]
 pub struct FormatEnds {
     texts: Texts,
@@ -196,7 +187,7 @@ impl FormatEnds {
     }
 
     /// Exactly the ends that some arguments of the pieces' kinds reach, which spell the log from a position on, in
-    /// ascending order. It fails for want of memory alone.
+    /// ascending order. It fails for want of memory alone, and is of no use afterwards.
     pub fn ends(
         &mut self,
         alloc: Global,

@@ -1,13 +1,13 @@
 //! What is found of a piece along a log. All fail for want of memory alone.
 ghost use Rattle.std.specs.Prelude.{◌≡◌, ◌≤◌, ◌∷◌, [], ℕ, List, Some, slice_get, length, option_copied, OnOk, IfOk};
-ghost use Rattle.format_match.specs.Spelled.{AddsEnds, AreWithin, EndsBehind, EndsExactly};
+ghost use Rattle.format_match.specs.Spelled.{AddsEnds, AreWithin, EndsBehind, EndsExactly, is_text};
 ghost use Rattle.format_ends.specs.Found.{AreParts, IsKept, IsPart, KnowsEnds};
 
 use crate::literals::stops_of;
 use format_match::ends;
 use plain_data::Items;
 use positions::Positions;
-use printf_text::{Conversion, Form, Piece, Pieces};
+use printf_text::{Conversion, Form, Piece, Pieces, Size};
 use std::alloc::{AllocError, Global};
 
 /// What is found of a piece along a log: where it stands, if it is a literal, and by position where it ends, if it is a
@@ -29,12 +29,38 @@ fn nothing_known(alloc: Global, len: usize) -> Result<Items<Option<Positions>>, 
     Ok(known)
 }
 
-/// Of how many positions the ends of a conversion are kept: of none where it prints a text, which has many.
-fn kept(form: Form, len: usize) -> usize {
+/// Whether a form is that of texts.
+pub(crate) fn is_text(form: Form) -> bool
+    ensures { result ≡ is_text form }
+{
     match form {
-        Form::Text => 0,
-        Form::Signed(_) | Form::Unsigned(_, _) | Form::Char | Form::Pointer => len,
+        Form::Text => true,
+        Form::Signed(_) | Form::Unsigned(_, _) | Form::Char | Form::Pointer => false,
     }
+}
+
+/// Whether a precision leaves few bytes of a text.
+fn is_short(precision: Size) -> bool {
+    match precision {
+        Size::Written(n) => n <= 16,
+        Size::Omitted | Size::Star => false,
+    }
+}
+
+/// Whether a conversion can have many ends from one position: with any width, or as a text that may be long.
+fn has_many_ends(c: Conversion) -> bool {
+    match c.width {
+        Size::Star => true,
+        Size::Omitted | Size::Written(_) => is_text(c.form) && !is_short(c.precision),
+    }
+}
+
+/// Of how many positions the ends of a conversion are kept: of none where it can have many, which would take much memory.
+fn kept(c: Conversion, len: usize) -> usize {
+    if has_many_ends(c) {
+        return 0;
+    }
+    len
 }
 
 /// What is found of a piece, before anything was asked for.
@@ -48,7 +74,7 @@ fn part_of(alloc: Global, piece: &Piece, log: &[u8]) -> Result<Part, AllocError>
             Ok(Part { stops, known })
         }
         Piece::Converted(c) => {
-            let known = nothing_known(alloc, kept(c.form, log.len() + 1))?;
+            let known = nothing_known(alloc, kept(*c, log.len() + 1))?;
             let stops = Positions::new(alloc);
             Ok(Part { stops, known })
         }
