@@ -3,11 +3,12 @@ use Rattle.std.specs.Prelude.{◌≡◌, ℕ, List, [], ◌∷◌, Option, Some,
 use Rattle.printf_text.specs.declared.piece.Conversion.{Conversion}
 use Rattle.printf_text.specs.declared.piece.Piece.{Piece}
 use Rattle.printf_text.specs.declared.piece.Piece.TheVariants.{Literal, Converted}
-use Rattle.format_match.specs.Spelled.{EndsExactly}
-use Rattle.format_ends.specs.Reached.{AreStarts, StandExactly}
+use Rattle.format_match.specs.Spelled.{EndsBehind, EndsExactly}
+use Rattle.format_ends.specs.Reached.{AreStarts, StandExactly, reached}
 use Rattle.format_ends.specs.declared.texts.Texts.{Texts}
 use Rattle.format_ends.specs.declared.parts.Part.{Part}
 use Rattle.format_ends.specs.declared.ending.FormatEnds.{FormatEnds}
+use Rattle.format_ends.specs.declared.ending.Reached.{Reached}
 
 -- where texts may begin, by the positions that they reach, and all positions
 pub record AreTexts (log : List ℕ) (texts : Texts) : Type 0 where
@@ -38,3 +39,12 @@ AreParts _ log _ = ⊥
 pub record IsReadyFor (pieces : List Piece) (log : List ℕ) (format : FormatEnds) : Type 0 where
   pub texts : AreTexts log format.texts
   pub parts : AreParts pieces log format.parts.items
+
+-- ---- from one piece to the next
+
+abbrev pub positions_of : List ℕ → Reached → List ℕ
+positions_of log from = reached log from.text from.before
+
+-- the piece leads from these positions to exactly those
+abbrev pub LeadsTo : Piece → List ℕ → Reached → Reached → Type 0
+LeadsTo piece log from ends = EndsBehind piece log (positions_of log from) (positions_of log ends)

@@ -2,8 +2,7 @@
 ghost use Rattle.std.specs.Prelude.{◌≡◌, ◌≤◌, ◌&&◌, ◌∷◌, [], ◌++◌, ℕ, true, length, IfOk, OnOk};
 ghost use Rattle.positions.specs.Sets.{has};
 ghost use Rattle.format_match.specs.Spelled.{AreWithin, EndsBehind, EndsExactly, is_plain_text, has_no_sizes};
-ghost use Rattle.format_ends.specs.Reached.{reached};
-ghost use Rattle.format_ends.specs.Found.{AreParts, AreTexts, IsPart, IsReadyFor};
+ghost use Rattle.format_ends.specs.Found.{AreParts, AreTexts, IsPart, IsReadyFor, LeadsTo, positions_of};
 
 use crate::literals::literal_ends;
 use crate::parts::{Part, converted_ends, is_text, parts_of};
@@ -44,7 +43,7 @@ fn is_plain_text(c: Conversion) -> bool
 /// The positions that are reached, one by one.
 fn each(alloc: Global, log: &[u8], texts: &Texts, from: Reached) -> Result<Positions, AllocError>
     requires { AreTexts log.now texts.now }
-    ensures { IfOk result (λ ends. (y : ℕ) → has ends y ≡ has (reached log.now from.text from.before) y) }
+    ensures { IfOk result (λ ends. (y : ℕ) → has ends y ≡ has (positions_of log.now from) y) }
 {
     if from.text {
         let ends = ends_at_stops(alloc, log, texts, &from.before, &texts.all, 0)?;
@@ -64,8 +63,8 @@ fn behind_literal(
 ) -> Result<Positions, AllocError>
     requires texts { AreTexts log.now texts.now }
     requires part { IsPart (Piece.Literal bytes.now) log.now part.now }
-    requires within { AreWithin log.now (reached log.now from.text from.before) }
-    ensures { IfOk result (EndsBehind (Piece.Literal bytes.now) log.now (reached log.now from.text from.before)) }
+    requires within { AreWithin log.now (positions_of log.now from) }
+    ensures { IfOk result (EndsBehind (Piece.Literal bytes.now) log.now (positions_of log.now from)) }
 {
     if from.text {
         let len = bytes.len();
@@ -87,8 +86,8 @@ fn behind_conversion(
 ) -> Result<Reached, AllocError>
     requires texts { AreTexts log.now texts.now }
     requires part { IsPart (Piece.Converted c) log.now part.old }
-    requires within { AreWithin log.now (reached log.now from.text from.before) }
-    ensures ends { IfOk result (λ ends. EndsBehind (Piece.Converted c) log.now (reached log.now from.text from.before) (reached log.now ends.text ends.before)) }
+    requires within { AreWithin log.now (positions_of log.now from) }
+    ensures ends { IfOk result (LeadsTo (Piece.Converted c) log.now from) }
     ensures part { OnOk result (IsPart (Piece.Converted c) log.now part.new) }
 {
     if is_plain_text(c) {
@@ -114,8 +113,8 @@ fn behind(
 ) -> Result<Reached, AllocError>
     requires texts { AreTexts log.now texts.now }
     requires part { IsPart piece.now log.now part.old }
-    requires within { AreWithin log.now (reached log.now from.text from.before) }
-    ensures ends { IfOk result (λ ends. EndsBehind piece.now log.now (reached log.now from.text from.before) (reached log.now ends.text ends.before)) }
+    requires within { AreWithin log.now (positions_of log.now from) }
+    ensures ends { IfOk result (LeadsTo piece.now log.now from) }
     ensures part { OnOk result (IsPart piece.now log.now part.new) }
 {
     match piece {
@@ -159,8 +158,8 @@ fn all_ends(
     Ok(ends)
 }
 
-/// A format made ready to be read along one log from many positions: each call is given the pieces and the log that it was
-/// made ready for.
+/// A format made ready to be read along one log from many positions: each call is given the pieces and the log for
+/// which it was made ready.
 #[derive(Drop)]
 pub struct FormatEnds {
     texts: Texts,

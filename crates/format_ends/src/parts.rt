@@ -55,7 +55,7 @@ fn has_many_ends(c: Conversion) -> bool {
     }
 }
 
-/// Of how many positions the ends of a conversion are kept: of none where it can have many, which would take much memory.
+/// Of how many positions the ends of a conversion are kept: of none where it can have many, which would take memory.
 fn kept(c: Conversion, len: usize) -> usize {
     if has_many_ends(c) {
         return 0;
@@ -118,7 +118,8 @@ fn known_at(known: &Items<Option<Positions>>, at: usize) -> Option<&Positions>
 
 /// Keeps where a conversion ends that begins at a position, if such are kept.
 fn keep(known: &mut Items<Option<Positions>>, at: usize, ends: Positions)
-    ensures { (from : ℕ) (got : List ℕ) → slice_get known.new from ≡ Some (Some got) → IsKept known.old at ends from got }
+    ensures { (from : ℕ) (got : List ℕ) → slice_get known.new from ≡ Some (Some got) →
+        IsKept known.old at ends from got }
 {
     if at < known.len() {
         known.set(at, Some(ends));

@@ -1,5 +1,6 @@
 //! How far texts reach along a log. All fail for want of memory alone.
-ghost use Rattle.std.specs.Prelude.{◌≡◌, ◌≤◌, ◌<◌, ◌+◌, ◌^◌, ◌↔◌, ℕ, List, suc, true, if◌then◌else◌, ◌==◌, length, take, IfOk};
+ghost use Rattle.std.specs.Prelude.{◌≡◌, ◌≤◌, ◌<◌, ◌+◌, ◌^◌, ◌↔◌, ◌==◌, ℕ, List, suc, true, if◌then◌else◌};
+ghost use Rattle.std.specs.Prelude.{length, take, IfOk};
 ghost use Rattle.positions.specs.Sets.{has, ascends};
 ghost use Rattle.format_match.specs.Spelled.{may_end};
 ghost use Rattle.format_ends.specs.Reached.{AreStarts, EndsAtStop, IsPassed, text_start};
@@ -72,7 +73,8 @@ fn is_reached(starts: &[usize], before: &[usize], passed: usize, stop: usize) ->
     requires ordered { ascends before.now ≡ true }
     requires within { passed ≤ length before.now }
     requires stop { stop < length starts.now }
-    ensures { (log : List ℕ) → AreStarts log starts.now → IsPassed before.now stop passed → result ≡ may_end before.now log stop }
+    ensures { (log : List ℕ) → AreStarts log starts.now → IsPassed before.now stop passed →
+        result ≡ may_end before.now log stop }
 {
     if passed == 0 {
         return false;

@@ -85,7 +85,8 @@ fn put_line(
 ) -> Result<(), AllocError>
     requires ready { IsReadyFor pieces.now log.now format.old }
     requires within { start ≤ length log.now }
-    ensures line { IfOk result (λ _. spec.Adds (spec.IsLineText places.now log.now at pieces.now (number, start)) text.old text.new) }
+    ensures line { let here = spec.IsLineText places.now log.now at pieces.now (number, start) in
+        IfOk result (λ _. spec.Adds here text.old text.new) }
     ensures ready { OnOk result (IsReadyFor pieces.now log.now format.new) }
 {
     let found = match format.ends(alloc, pieces, log.bytes(), start) {
