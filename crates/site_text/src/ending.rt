@@ -1,11 +1,12 @@
 //! Where prints of a log call can end along a log, line by line. All fail for want of memory alone.
-ghost use Rattle.std.specs.Prelude.{◌≡◌, ◌≤◌, ◌++◌, nat_lt, length, IfOk};
+ghost use Rattle.std.specs.Prelude.{◌≡◌, ◌≤◌, ◌++◌, nat_lt, length, IfOk, OnOk};
 ghost use Rattle.std.specs.List.{filter, flat_map};
+ghost use Rattle.format_ends.specs.Found.{IsReadyFor};
 ghost use Rattle.site_text.specs.Ends as spec;
 
 use crate::formats::pieces_in;
 use c_language::Places;
-use format_match::ends;
+use format_ends::FormatEnds;
 use log_text::LogText;
 use plain_data::{Bytes, Items};
 use printf_text::Pieces;
@@ -78,18 +79,33 @@ fn put_line(
     log: &LogText,
     at: u32,
     pieces: &Pieces,
+    format: &mut FormatEnds,
     number: u64,
     start: usize,
 ) -> Result<(), AllocError>
-    requires { start ≤ length log.now }
-    ensures { IfOk result (λ _. spec.Adds (spec.IsLineText places.now log.now at pieces.now (number, start)) text.old text.new) }
+    requires ready { IsReadyFor pieces.now log.now format.old }
+    requires within { start ≤ length log.now }
+    ensures line { let here = spec.IsLineText places.now log.now at pieces.now (number, start) in
+        IfOk result (λ _. spec.Adds here text.old text.new) }
+    ensures ready { OnOk result (IsReadyFor pieces.now log.now format.new) }
 {
-    let found = match ends(alloc, pieces, log.bytes(), start) {
+    let found = match format.ends(alloc, pieces, log.bytes(), start) {
         Ok(found) => found,
         Err(_) => return Err(AllocError),
     };
     let above = above(alloc, start, found.as_slice())?;
-    put_match_if(text, places, at, number, above.as_slice())
+    put_match_if(text, places, at, number, above.as_slice())?;
+    Ok(())
+}
+
+/// Makes the format of these pieces ready for a log.
+fn made_ready(alloc: Global, pieces: &Pieces, log: &LogText) -> Result<FormatEnds, AllocError>
+    ensures { IfOk result (IsReadyFor pieces.now log.now) }
+{
+    match FormatEnds::new(alloc, pieces, log.bytes()) {
+        Ok(format) => Ok(format),
+        Err(_) => Err(AllocError),
+    }
 }
 
 /// Puts the lines of a log call of these pieces, in the order of the log's lines.
@@ -103,6 +119,7 @@ fn put_each_line(
 ) -> Result<(), AllocError>
     ensures { IfOk result (λ _. spec.Adds (spec.AreLineTexts places.now log.now at pieces.now) text.old text.new) }
 {
+    let mut format = made_ready(alloc, pieces, log)?;
     let mut number = 0u64;
     'lines: for start in log.starts() {
         number += 1;
@@ -113,6 +130,7 @@ fn put_each_line(
             log,
             at,
             pieces,
+            &mut format,
             number,
             *start as usize,
         )?;

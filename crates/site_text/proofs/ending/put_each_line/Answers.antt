@@ -7,13 +7,14 @@ use Rattle.site_text.proofs.ending.put_each_line.Goals as goal
 
 pub lines-init : goal.lines-init
 lines-init c = record {
+  ready = c.in_ok-format.ensures;
   counted = refl;
   leads = begun (IsLineText c.args.places.now c.args.log.now c.args.at c.args.pieces.now)
       (numbered 1 (line_starts c.args.log.now)) c.args.text.now;
 }
 
-pub put_line-requires : goal.put_line-requires
-put_line-requires c =
+pub put_line-requires-clause-within : goal.put_line-requires-clause-within
+put_line-requires-clause-within c =
     let starts = c.starts-start-items.ensures in
     rw starts (starts_within c.args.log.now c.lines.start-index (rw starts at c.lines-test.true))
 
@@ -21,10 +22,11 @@ pub lines-preserved : goal.lines-preserved
 lines-preserved c =
     let starts = c.starts-start-items.ensures in
     record {
+      ready = c.in_ok-put_line.ensures.ready;
       counted = ap (λ n. n + 1) c.lines.invariant.counted;
       leads = line_put (IsLineText c.args.places.now c.args.log.now c.args.at c.args.pieces.now)
           (line_starts c.args.log.now) c.lines.start-index c.lines.number c.args.text.now c.lines.text c.put_line.new.text
-          (rw starts at c.lines-test.true) c.lines.invariant.leads (rw starts at c.in_ok-put_line.ensures);
+          (rw starts at c.lines-test.true) c.lines.invariant.leads (rw starts at c.in_ok-put_line.ensures.line);
     }
 
 pub returns : goal.returns
