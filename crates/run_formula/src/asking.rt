@@ -103,8 +103,8 @@ fn ask_told(
     Ok(any)
 }
 
-/// The answer on the state that stands, in every environment: no where none does. `events` are the nodes of events under
-/// the states', each behind those below it. It fails for want of memory alone.
+/// The answer on the state that stands, in every environment: no where none does. `events` are the nodes of events
+/// under the states', each behind those below it. It fails for want of memory alone.
 pub(crate) fn ask(
     alloc: Global,
     bank: &mut Bank,

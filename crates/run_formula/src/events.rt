@@ -27,7 +27,8 @@ pub(crate) fn is_in_line(log: &LogText, line: u32, printed: u64) -> bool
 
 /// Whether a fact speaks of a branch at a token that takes a side behind so many printed bytes.
 fn speaks_of_branch(fact: &Fact, log: &LogText, printed: u64, at: u32, side: Side) -> bool
-    ensures { (result ≡ true) ↔ IsMeant log.now fact.now (record { what = happening.Branch at side; printed = printed }) }
+    ensures { (result ≡ true) ↔
+        IsMeant log.now fact.now (record { what = happening.Branch at side; printed = printed }) }
 {
     match *fact {
         Fact::Branch {
@@ -249,8 +250,8 @@ fn tell_next(
     Err(BankFault::Memory)
 }
 
-/// The truth, of each of these nodes of events, that one of its events is sought. Each node stands behind those below it. It
-/// fails for want of memory alone.
+/// The truth, of each of these nodes of events, that one of its events is sought. Each node stands behind those below
+/// it. It fails for want of memory alone.
 pub(crate) fn tell_all(
     alloc: Global,
     bank: &mut Bank,

@@ -61,8 +61,8 @@ fn ask_all(
     Ok(nodes)
 }
 
-/// The formula of a program's runs along a log, for these facts and watched variables. It counts its walks: one for each
-/// key of the table of ends. It fails for want of memory, and where the walk can't do a step yet (`run_states`).
+/// The formula of a program's runs along a log, for these facts and watched variables. It counts its walks: one for
+/// each key of the table of ends. It fails for want of memory, and where the walk can't do a step yet (`run_states`).
 pub fn run_formula(
     alloc: Global,
     core: &Core,
@@ -136,9 +136,9 @@ impl RunFormula {
         Ok(node)
     }
 
-    /// What prints see of a watched variable: in every world whose run fits, some print by its site that begins in its line
-    /// sees a number exactly where it is observed with a truth that holds. The bank is the formula's, or has grown since. It
-    /// fails for want of memory alone.
+    /// What prints see of a watched variable: in every world whose run fits, some print by its site that begins in its
+    /// line sees a number exactly where it is observed with a truth that holds. The bank is the formula's, or has grown
+    /// since. It fails for want of memory alone.
     pub fn observe(
         &self,
         alloc: Global,

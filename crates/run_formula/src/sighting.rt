@@ -4,7 +4,8 @@ ghost use Rattle.std.specs.HashMap.{get};
 ghost use Rattle.log_text.specs.Lines.{line_of};
 ghost use Rattle.term_bank.specs.Banks.{IsBank};
 ghost use Rattle.path_states.specs.States.{AreStates, IsState};
-ghost use Rattle.run_formula.specs.Sighted.{AllSighted, AreSightings, AreTruths, IsJoining, JoinsBoth, JoinsState, PutsTruths, SightsAll, SightsPrint, SightsShape, StatesSighted};
+ghost use Rattle.run_formula.specs.Sighted.{AllSighted, AreSightings, AreTruths, IsJoining, JoinsBoth, JoinsState};
+ghost use Rattle.run_formula.specs.Sighted.{PutsTruths, SightsAll, SightsPrint, SightsShape, StatesSighted};
 
 use crate::events::{events_under, is_in_line};
 use crate::joining::{Joining, join_all, nevers};
@@ -142,7 +143,8 @@ fn with_print(
 ) -> Result<Items<Node>, BankFault>
     requires len { length before ≡ length look.now.lists.now }
     requires terms { AreTruths bank.old before }
-    ensures { IfOk result (SightsPrint bank.old bank.new look.now.log.now look.now.watch.now look.now.lists.now before printed at seen) }
+    ensures { IfOk result (SightsPrint bank.old bank.new look.now.log.now look.now.watch.now look.now.lists.now
+        before printed at seen) }
 {
     if !is_watched(look.watch, look.log, printed, at) {
         return Ok(before);
@@ -247,7 +249,8 @@ fn sight_next(
     look: &Look<'_>,
 ) -> Result<(), BankFault>
     requires { AllSighted bank.old look.now.log.now look.now.watch.now look.now.lists.now told.old }
-    ensures { IfOk result (λ _. SightsAll bank.old bank.new look.now.log.now look.now.watch.now look.now.lists.now told.new) }
+    ensures { IfOk result (λ _. SightsAll bank.old bank.new look.now.log.now look.now.watch.now look.now.lists.now
+        told.new) }
 {
     if let Some(shape) = bank.shape(number) {
         let nodes = sighted(alloc, bank, told, number, shape, look)?;
@@ -257,7 +260,8 @@ fn sight_next(
     Err(BankFault::Memory)
 }
 
-/// The truths of each of these nodes of events. Each node stands behind those below it. It fails for want of memory alone.
+/// The truths of each of these nodes of events. Each node stands behind those below it. It fails for want of memory
+/// alone.
 fn sight_all(
     alloc: Global,
     bank: &mut Bank,
@@ -307,7 +311,8 @@ fn of_states(
 ) -> Result<Items<Node>, BankFault>
     requires told { AllSighted bank.old look.now.log.now look.now.watch.now look.now.lists.now told.now }
     requires states { AreStates bank.old states.now }
-    ensures { IfOk result (StatesSighted bank.old bank.new look.now.log.now look.now.watch.now look.now.lists.now states.now) }
+    ensures { IfOk result (StatesSighted bank.old bank.new look.now.log.now look.now.watch.now look.now.lists.now
+        states.now) }
 {
     let mut all = nevers(alloc, bank, look.lists.len())?;
     for state in states {

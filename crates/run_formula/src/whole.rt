@@ -54,8 +54,8 @@ fn place_of_main(core: &Core, rooms: &[Option<u64>]) -> Result<u64, WalkFault>
 }
 
 /// The ends of the program's runs along the log in all worlds at once, as states over the world alone. It counts its
-/// walks: one for each key of the table of ends. It fails for want of memory, where the walk can't do a step yet, where `main` is given arguments, which isn't walked yet, and where
-/// there are more places than numbers.
+/// walks: one for each key of the table of ends. It fails for want of memory, where the walk can't do a step yet, where
+/// `main` is given arguments, which isn't walked yet, and where there are more places than numbers.
 pub fn run_states(
     alloc: Global,
     core: &Core,

@@ -1,15 +1,15 @@
-//! Answers what is found of a program along a log, for comparison with rows that were worked out by hand. Standard input
-//! has a preprocessed source, a byte 0, and a log.
+//! Answers what is found of a program along a log, for comparison with rows that were worked out by hand. Standard
+//! input has a preprocessed source, a byte 0, and a log.
 //!
 //! - `ends`: the table of ends (`ends`). `count`: how many keys it has, and how many ends.
 //! - `facts`, `lines`: the facts along the log, without and with those of each line, and the watched variables
 //!   (`facts`).
 //! - `sites`: the log calls (`sites`).
-//! - `values`: whether a run fits; how many worlds and refutations the questions on the facts come to, how many are open, and
-//!   how many answers don't hold; and of each watched variable that a run that fits has seen its value, or that it can have
-//!   several (`values`). `clauses`: how many clauses say that a run fits.
-//! - `observations`: what prints see of each watched variable, as terms: the line, the variable's place, and how many bits
-//!   each number has that some print sees, and whether it is read with its sign (`observations`).
+//! - `values`: whether a run fits; how many worlds and refutations the questions on the facts come to, how many are
+//!   open, and how many answers don't hold; and of each watched variable that a run that fits has seen its value, or
+//!   that it can have several (`values`). `clauses`: how many clauses say that a run fits.
+//! - `observations`: what prints see of each watched variable, as terms: the line, the variable's place, and how many
+//!   bits each number has that some print sees, and whether it is read with its sign (`observations`).
 //! - `walks`: how many bodies are walked. `nodes`: behind that, how many nodes the formula of the runs has (`walks`).
 //!
 //! A second word says how many turns a loop may take, a third how many levels of calls there may be.
@@ -86,8 +86,8 @@ fn answer_walks(
     Ok(())
 }
 
-/// Puts the answers to all questions at the end, or what else is asked of the runs: how many clauses there are, or what is
-/// observed of watched variables.
+/// Puts the answers to all questions at the end, or what else is asked of the runs: how many clauses there are, or what
+/// is observed of watched variables.
 fn answer_values(
     alloc: Global,
     program: &Accepted,

@@ -23,8 +23,8 @@ fn put_kind(text: &mut Bytes, seen: &Seen) -> Result<(), AllocError> {
     put_count(text, bits)
 }
 
-/// Puts what is observed of a watched variable at the end, in a line: the line of the log, and each number that some print
-/// sees, as `put_kind` has it; `none` where a print shows none.
+/// Puts what is observed of a watched variable at the end, in a line: the line of the log, and each number that some
+/// print sees, as `put_kind` has it; `none` where a print shows none.
 fn put_watch(text: &mut Bytes, watch: &Watch, all: &[Observation]) -> Result<(), AllocError> {
     put(text, "line")?;
     put_next(text, u64::from(watch.line))?;

@@ -10,8 +10,8 @@ use run_formula::run_formula;
 use std::alloc::Global;
 use term_bank::Bank;
 
-/// Puts a line with how many bodies are walked at the end, and behind it, where it is asked for, how many nodes the formula
-/// of the runs has, with no facts.
+/// Puts a line with how many bodies are walked at the end, and behind it, where it is asked for, how many nodes the
+/// formula of the runs has, with no facts.
 pub fn put_walks(
     alloc: Global,
     core: &Core,
