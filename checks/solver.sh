@@ -1,7 +1,9 @@
 #!/usr/bin/env bash
 # Asks the solver instances made here. The program examines each answer's evidence itself: an assignment by
 # `satisfies`, a refutation or a trail by `check`. The verdict is compared with what is known beforehand and, where
-# they are installed, with minisat's and cadical's. At the end stand the times, reading and examining included.
+# they are installed, with minisat's and cadical's. At the end stand the times, reading and examining included. Small
+# instances, those that take less than 200 ms, are asked again where the least open variable is decided in place of the
+# most marked one.
 set -u
 cd "$(dirname "$0")/.." || exit 2
 if ! command -v cc >/dev/null; then
@@ -49,8 +51,17 @@ verdict_of() {
     esac
 }
 
+# Whether the verdicts of an instance in $folder/answers are the same where the least open variable is decided.
+agrees_with_least() {
+    timeout 300 "$program" solve_least 200000 <"$1" >"$folder/least" 2>"$folder/error" || return 1
+    awk 'NR == FNR { verdict[FNR] = $1; count = FNR; next }
+        $1 != verdict[FNR] && $1 != "spent" { differs = 1 }
+        END { exit differs || FNR != count }' "$folder/answers" "$folder/least"
+}
+
 failed=0
 asked=0
+again=0
 ours=0
 declare -A theirs
 while read -r name known; do
@@ -64,6 +75,13 @@ while read -r name known; do
     took=$(($(now) - start))
     ours=$((ours + took))
     [ "$took" -lt 1000000 ] || echo "solver: $name: $((took / 1000)) ms"
+    if [ "$took" -lt 200000 ]; then
+        again=$((again + 1))
+        if ! agrees_with_least "$file"; then
+            echo "solver: $name: another answer where the least open variable is decided: $(head -n 1 "$folder/error")"
+            failed=1
+        fi
+    fi
     question=0
     while read -r answer _; do
         question=$((question + 1))
@@ -91,5 +109,5 @@ done <"$folder/list"
 for tool in "${others[@]}"; do
     echo "solver: $((ours / 1000)) ms; $tool: $((${theirs[$tool]:-0} / 1000)) ms"
 done
-[ "$failed" -eq 0 ] && echo "solver: $asked answers of $(wc -l <"$folder/list") instances hold"
+[ "$failed" -eq 0 ] && echo "solver: $asked answers of $(wc -l <"$folder/list") instances hold, $again of them by either chooser"
 exit "$failed"

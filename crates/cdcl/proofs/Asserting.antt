@@ -12,12 +12,12 @@ use Rattle.cdcl.specs.declared.assigned.Assigned.{Assigned}
 use Rattle.cdcl.specs.declared.assigned.Reading.{Reading}
 use Rattle.cdcl.specs.declared.assigned.Reading.TheVariants.{Satisfied, Falsified, Implied, Undecided}
 use Rattle.cdcl.specs.declared.search.Search.{Search}
-use Rattle.cdcl.specs.declared.choosing.Choice.{Choice}
+use Rattle.cdcl.specs.Scoreboards.{Scoreboard}
 use Rattle.cdcl.specs.declared.watching.Watches.{Watches}
 use Rattle.cdcl.specs.Sources.{named}
 use Rattle.cdcl.specs.Known.{known, Member, IsOpen, Reads}
 use Rattle.cdcl.specs.Fits.{Fits}
-use Rattle.cdcl.specs.Trails.{literal_at, PlacedBelow, AreDistinct, HaveLevels, HasRoom, IsConflict, IsCut, IsLevel, IsTrailOf}
+use Rattle.cdcl.specs.Trails.{literal_at, PlacedBelow, AreDistinct, HaveLevels, HasRoom, IsConflict, IsCut, IsLevel, IsTrailOf, AreOpen}
 use Rattle.cdcl.specs.Jumps.{FalseAt, FalseBelow, HasTop, IsJump}
 use Rattle.cdcl.specs.Searches.{Goes, Says, IsReady, ContainsNone, OneMore}
 use Rattle.cdcl.specs.Watches.{waiting, pair_of, WaitsLast}
@@ -26,7 +26,7 @@ use Rattle.cdcl.proofs.Searching.{named-fits, le-cases}
 use Rattle.cdcl.proofs.Placements.{code-within}
 use Rattle.cdcl.proofs.Visiting.{with_watches}
 use Rattle.cdcl.proofs.Turning.{name-cases}
-use Rattle.cdcl.proofs.Guarding.{entry-of, literal-of, true-more, true-now, heeded-more, heeded-left, settled-goes, ahead-goes, true-placed, open-left, said-undecided, said-satisfied, said-implied}
+use Rattle.cdcl.proofs.Guarding.{with_scores, entry-of, literal-of, true-more, true-now, heeded-more, heeded-left, settled-goes, ahead-goes, true-placed, open-left, said-undecided, said-satisfied, said-implied}
 
 -- no literal is its own negation
 apart : (l : Literal) → l ≡ negated l → ⊥
@@ -64,9 +64,29 @@ has-top s id ready settled one (c, is, falsified) =
           ]
     ]
 
--- the choice alone is another one
-pub ready-chosen : (s : Search) (choice : Choice) → IsReady s → IsReady (record { clauses = s.clauses; trail = s.trail; choice = choice; watches = s.watches; followed = s.followed })
-ready-chosen s choice r = record { learnt = r.learnt; trail = r.trail; fits = r.fits; learnt_fit = r.learnt_fit; assumed_fit = r.assumed_fit; holds = r.holds; begun = r.begun }
+-- the scores alone are others
+pub ready-scored : (s : Search) (board : Scoreboard) → board.unset ≡ s.trail.scores.unset → IsReady s → IsReady (record { clauses = s.clauses; trail = with_scores s.trail board; choice = s.choice; watches = s.watches; followed = s.followed })
+ready-scored s board same r =
+    let t = r.trail in
+    let P : List Bool → Type 0 = λ u. AreOpen u s.trail.taken.items (vec_len s.trail.levels) in
+    record {
+      learnt = r.learnt;
+      trail = record {
+        distinct = t.distinct;
+        reasons = t.reasons;
+        in_room = t.in_room;
+        have_levels = record { rising = t.have_levels.rising; within = t.have_levels.within; decided = t.have_levels.decided; first = t.have_levels.first; begun = t.have_levels.begun };
+        are_placed = t.are_placed;
+        paired = t.paired;
+        are_open = subst P (sym same) t.are_open;
+        small = t.small;
+      };
+      fits = r.fits;
+      learnt_fit = r.learnt_fit;
+      assumed_fit = r.assumed_fit;
+      holds = r.holds;
+      begun = r.begun;
+    }
 
 -- the literals of a clause learnt are false
 member-false : (entries : List Entry) (top level : ℕ) (clause : List Literal) (l : Literal) → IsJump entries top clause level → Member l clause → FalseBelow entries top l

@@ -15,7 +15,7 @@ use Rattle.cdcl.specs.declared.assigned.Entry.{Entry}
 use Rattle.cdcl.specs.declared.assigned.Assigned.{Assigned}
 use Rattle.cdcl.specs.Sources.{named}
 use Rattle.cdcl.specs.Known.{known, Member, HasTrue}
-use Rattle.cdcl.specs.Fits.{Fits}
+use Rattle.cdcl.specs.Fits.{Fits, IsNumbered}
 use Rattle.cdcl.specs.Tidy.{units}
 use Rattle.cdcl.specs.Trails.{literal_at, PlacedBelow, IsConflict, IsSource, Implies, ArePlaced, AreDistinct, HasRoom, HaveLevels}
 use Rattle.cdcl.specs.Searches.{AreHeld}
@@ -58,29 +58,32 @@ assumed-conflict clauses entries taken i a p at k =
     only l (suc j) e = absurd (cc)
 
 -- rooms
-pub fits-more : (room next : ℕ) (clause : List Literal) (i : ℕ) (l : Literal) → i < length clause → l ≡ get_or clause i l → room ≤ next → l.variable < next → Fits room (take i clause) → Fits next (take (i + 1) clause)
-fits-more room next clause i l h at le v f k m =
+pub fits-more : (room next : ℕ) (clause : List Literal) (i : ℕ) (l : Literal) → i < length clause → l ≡ get_or clause i l → room ≤ next → 1 ≤ l.variable → l.variable < next → IsNumbered room (take i clause) → IsNumbered next (take (i + 1) clause)
+fits-more room next clause i l h at le one v f k m =
     let grown : take (i + 1) clause ≡ take i clause ++ l ∷ [] = take_more clause i l h ∙ ap (λ t. take i clause ++ t ∷ []) (sym at) in
     let n : Member k (take i clause ++ l ∷ []) = (m.0, ap (λ t. slice_get t m.0) (sym grown) ∙ m.1) in
     elim (slice-cases (take i clause) l k n.0 n.1) [
-      | inl b ↦ let w = f k (n.0, b) in omega arith
-      | inr b ↦ let P : Literal → Type 0 = λ t. t.variable < next in subst P (sym b.1) v
+      | inl b ↦ let w = f k (n.0, b) in (w.0, omega (arith, w.1))
+      | inr b ↦ let P : Literal → Type 0 = λ t. (1 ≤ t.variable) × (t.variable < next) in subst P (sym b.1) (one, v)
     ]
 
-pub fits-whole : (room : ℕ) (clause : List Literal) (i : ℕ) → length clause ≤ i → Fits room (take i clause) → Fits room clause
+pub fits-whole : (room : ℕ) (clause : List Literal) (i : ℕ) → length clause ≤ i → IsNumbered room (take i clause) → IsNumbered room clause
 fits-whole room clause i h f = rw (take_all i clause h) at f
 
 pub fits-wider : (room next : ℕ) (clause : List Literal) → room ≤ next → Fits room clause → Fits next clause
 fits-wider room next clause h f l m = let w = f l m in omega arith
 
+pub numbered-wider : (room next : ℕ) (clause : List Literal) → room ≤ next → IsNumbered room clause → IsNumbered next clause
+numbered-wider room next clause h f l m = let w = f l m in (w.0, omega (arith, w.1))
+
 -- one clause more has room
-pub room-more : (clauses : List (List Literal)) (start index room next : ℕ) (clause : List Literal) → slice_get clauses index ≡ Some clause → room ≤ next → Fits next clause → ((i : ℕ) (c : List Literal) → start ≤ i → i < index → slice_get clauses i ≡ Some c → Fits room c) → (i : ℕ) (c : List Literal) → start ≤ i → i < index + 1 → slice_get clauses i ≡ Some c → Fits next c
+pub room-more : (clauses : List (List Literal)) (start index room next : ℕ) (clause : List Literal) → slice_get clauses index ≡ Some clause → room ≤ next → IsNumbered next clause → ((i : ℕ) (c : List Literal) → start ≤ i → i < index → slice_get clauses i ≡ Some c → IsNumbered room c) → (i : ℕ) (c : List Literal) → start ≤ i → i < index + 1 → slice_get clauses i ≡ Some c → IsNumbered next c
 room-more clauses start index room next clause is le now before i c from less at = elim (cases_eq i index) [
   | inl e ↦
       let here : slice_get clauses index ≡ Some c = ap (λ k. slice_get clauses k) (sym e) ∙ at in
       let one : clause ≡ c = cc in
-      let P : List Literal → Type 0 = λ t. Fits next t in subst P one now
-  | inr ne ↦ fits-wider room next c le (before i c from (omega arith) at)
+      let P : List Literal → Type 0 = λ t. IsNumbered next t in subst P one now
+  | inr ne ↦ numbered-wider room next c le (before i c from (omega arith) at)
 ]
 
 -- the assignment

@@ -14,7 +14,7 @@ use Rattle.cdcl.specs.declared.search.Search.{Search}
 use Rattle.cdcl.specs.declared.watching.Watches.{Watches}
 use Rattle.cdcl.specs.Sources.{named}
 use Rattle.cdcl.specs.Known.{known, Member, IsOpen, Reads}
-use Rattle.cdcl.specs.declared.choosing.Choice.{Choice}
+use Rattle.cdcl.specs.Scoreboards.{Scoreboard}
 use Rattle.cdcl.specs.Trails.{literal_at, PlacedBelow, AreDistinct, ArePlaced, HaveLevels, HasDecision, IsLevel, IsCut}
 use Rattle.cdcl.specs.Searches.{Extends, Goes, Says, IsReady}
 use Rattle.cdcl.specs.Watches.{waiting, IsWaiting}
@@ -289,7 +289,7 @@ said-implied old new c l r is says = let P : Reading → Type 0 = λ t. Says old
 pub code-fits : (s : Search) (id : ClauseId) (c : List Literal) (l : Literal) → IsReady s → AreSound s → named 1 s.clauses id ≡ Some c → Member l c → code_of l < vec_len s.watches.lists
 code-fits s id c l r sound is m = code-within l (vec_len s.trail.levels) (vec_len s.watches.lists) (named-fits (vec_len s.trail.levels) s.clauses id c r.fits r.learnt_fit is l m) sound.lists
 
-goes-guards : (entered : ℕ) (a b : Search) → Goes a b → b.watches ≡ a.watches → Guards entered a.followed a → Guards entered b.followed b
+pub goes-guards : (entered : ℕ) (a b : Search) → Goes a b → b.watches ≡ a.watches → Guards entered a.followed a → Guards entered b.followed b
 goes-guards entered a b g w guards = let P : ℕ → Type 0 = λ n. Guards entered n b in subst P (sym g.followed) (guards-goes entered a.followed a b g w guards)
 
 -- a search goes on at the same level
@@ -410,9 +410,12 @@ guards-decided a b e ready whole g entries level clauses watches followed room =
           subst P (sym followed) (heeded-more a.followed a.trail.entries.items b.trail.entries.items c y extends (omega (arith, whole)) heeded),
         )
 
--- the choice alone is another one
-pub guards-chosen : (entered n : ℕ) (a : Search) (choice : Choice) → Guards entered n a → Guards entered n (record { clauses = a.clauses; trail = a.trail; choice = choice; watches = a.watches; followed = a.followed })
-guards-chosen entered n a choice g = record {
+-- the scores alone are others
+abbrev pub with_scores : Assigned → Scoreboard → Assigned
+with_scores t board = record { entries = t.entries; taken = t.taken; levels = t.levels; level = t.level; scores = board }
+
+pub guards-scored : (entered n : ℕ) (a : Search) (board : Scoreboard) → Guards entered n a → Guards entered n (record { clauses = a.clauses; trail = with_scores a.trail board; choice = a.choice; watches = a.watches; followed = a.followed })
+guards-scored entered n a board g = record {
   sound = record { lists = g.sound.lists; given = g.sound.given; learnt = g.sound.learnt; watches = g.sound.watches };
   ahead = record { followed = g.ahead.followed; within = g.ahead.within; ahead = g.ahead.ahead };
   guarded = g.guarded;

@@ -121,6 +121,7 @@ trail-grown old new t names is = record {
   have_levels = is.have_levels;
   are_placed = is.are_placed;
   paired = is.paired;
+  are_open = is.are_open;
   small = is.small;
 }
 

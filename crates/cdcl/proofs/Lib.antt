@@ -17,4 +17,9 @@ pub mod Numbering
 pub mod Lessons
 pub mod Assuming
 pub mod Resting
+pub mod KeptSteps
 pub mod Spending
+pub mod RankLemmas
+pub mod Opening
+pub mod Deciding
+pub mod TallyLemmas

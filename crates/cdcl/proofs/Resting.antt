@@ -2,12 +2,12 @@
 use Rattle.std.proofs.Common.{◌≡◌, ◌<◌, ◌≤◌, ◌⊎◌, ◌+◌, ◌*◌, ◌++◌, ◌∷◌, [], ℕ, zero, suc, List, Some, refl, sym, ap, ◌∙◌, inl, inr, subst, arith, length, vec_len, map, take, drop, take_all, get_or}
 use Rattle.std.specs.List.{slice_get}
 use Rattle.std.specs.Option.{option_map}
-use Rattle.std.proofs.lemmas.List.{length-map, take-append-drop, take-append-le}
+use Rattle.std.proofs.lemmas.List.{length-drop, length-map, take-append-drop, take-append-le}
 use Rattle.std.proofs.lemmas.Option.{slice_get_within, slice_get-map}
 use Rattle.proof_check.proofs.ClauseLemmas.{slice_get-left}
 use Rattle.cnf_core.specs.Literal.{Literal, code_of}
 use Rattle.proof_check.specs.Steps.{Step, clause_of}
-use Rattle.proof_check.specs.Refutations.{AreValid}
+use Rattle.proof_check.specs.Refutations.{AreValid, IsTrail}
 use Rattle.cdcl.specs.declared.clauses.ClauseId.{ClauseId}
 use Rattle.cdcl.specs.declared.clauses.ClauseId.TheVariants.{Given, Assumed, Learnt}
 use Rattle.cdcl.specs.declared.clauses.Clauses.{Clauses}
@@ -15,18 +15,21 @@ use Rattle.cdcl.specs.declared.assigned.Entry.{Entry}
 use Rattle.cdcl.specs.declared.assigned.Assigned.{Assigned}
 use Rattle.cdcl.specs.declared.watching.Pair.{Pair}
 use Rattle.cdcl.specs.declared.watching.Watch.{Watch}
+use Rattle.cdcl.specs.declared.watching.Watches.{Watches}
 use Rattle.cdcl.specs.declared.search.Search.{Search}
 use Rattle.cdcl.specs.Sources.{named}
-use Rattle.cdcl.specs.Fits.{Fits, AllFit}
+use Rattle.cdcl.specs.Fits.{Fits, AllFit, IsNumbered, AreNumbered}
 use Rattle.cdcl.specs.Tidy.{IsTidy, AreTidy}
 use Rattle.cdcl.specs.Trails.{IsTrailOf}
-use Rattle.cdcl.specs.Watches.{pair_of}
+use Rattle.cdcl.specs.Watches.{list_of, pair_of, waiting}
 use Rattle.cdcl.specs.Guards.{HasTrueAt, IsHeeded, AtRest, Waits, IsEntered, AreSettled, Guards}
 use Rattle.cdcl.specs.Searches.{IsSearch, IsSearching, IsReady}
 use Rattle.cdcl.specs.Resting.{entered, IsResting, IsWidened}
+use Rattle.cdcl.specs.Stores.{AreKept, over_all}
+use Rattle.cdcl.proofs.KeptSteps.{none-raised}
 use Rattle.cdcl.proofs.Naming.{named-lower}
 use Rattle.cdcl.proofs.Searching.{le-cases}
-use Rattle.cdcl.proofs.Assuming.{fits-wider}
+use Rattle.cdcl.proofs.Assuming.{fits-wider, numbered-wider}
 use Rattle.cdcl.proofs.Lessons.{tidy-more}
 
 abbrev pub Names : Clauses → Clauses → Type 0
@@ -51,6 +54,7 @@ trail-root old new t root names is = record {
   have_levels = is.have_levels;
   are_placed = is.are_placed;
   paired = is.paired;
+  are_open = is.are_open;
   small = is.small;
 }
 
@@ -78,13 +82,12 @@ tidy-same formula (x ∷ xs) (y ∷ ys) e t (suc k) d h = let rest : map clause_
 
 -- what a question begins with
 pub record Opens (s w : Search) (clauses : Clauses) (size : ℕ) : Type 0 where
-  pub rest : IsResting s
+  pub rest : IsResting (length s.clauses.given) s
   pub given : clauses.given ≡ s.clauses.given
-  pub learnt : map clause_of clauses.learnt ≡ map clause_of s.clauses.learnt
-  pub valid : AreValid (entered s) s.clauses.learnt → AreValid clauses.given clauses.learnt
+  pub learnt : clauses.learnt ≡ s.clauses.learnt
   pub few : length clauses.given + length clauses.assumed + length clauses.learnt < 4294967296
   pub least : vec_len s.trail.levels ≤ size
-  pub fits : (i : ℕ) (c : List Literal) → vec_len s.watches.given ≤ i → slice_get clauses.given i ≡ Some c → Fits size c
+  pub fits : (i : ℕ) (c : List Literal) → vec_len s.watches.given ≤ i → slice_get clauses.given i ≡ Some c → IsNumbered size c
   pub assumed : Fits size clauses.assumed
   pub widened : IsWidened size (record { clauses = clauses; trail = s.trail; choice = s.choice; watches = s.watches; followed = s.followed }) w
 
@@ -92,33 +95,39 @@ abbrev with_clauses : Search → Clauses → Search
 with_clauses s c = record { clauses = c; trail = s.trail; choice = s.choice; watches = s.watches; followed = s.followed }
 
 opens-trail : (s w : Search) (clauses : Clauses) (size : ℕ) → Opens s w clauses size → IsTrailOf clauses w.trail
-opens-trail s w clauses size o = o.widened.trail clauses (trail-root s.clauses clauses s.trail o.rest.root (names-same s.clauses clauses o.given o.learnt) o.rest.trail)
+opens-trail s w clauses size o = o.widened.trail clauses (trail-root s.clauses clauses s.trail o.rest.root (names-same s.clauses clauses o.given (ap (map clause_of) o.learnt)) o.rest.trail)
+
+-- all clauses are the first so many
+all-first : (s : Search) → take (length s.clauses.given) s.clauses.given ≡ s.clauses.given
+all-first s = take_all (length s.clauses.given) s.clauses.given (omega arith)
 
 opens-tidy : (s w : Search) (clauses : Clauses) (size : ℕ) → Opens s w clauses size → AreTidy clauses.given clauses.learnt
 opens-tidy s w clauses size o =
-    let front = entered s in
-    let back = drop (vec_len s.watches.given) s.clauses.given in
-    let whole : front ++ back ≡ clauses.given = take-append-drop (vec_len s.watches.given) s.clauses.given ∙ sym o.given in
-    let P : List (List Literal) → Type 0 = λ f. AreTidy f clauses.learnt in
-    subst P whole (tidy-wider front back clauses.learnt (tidy-same front s.clauses.learnt clauses.learnt o.learnt o.rest.tidy))
+    let P : List (List Literal) → List Step → Type 0 = λ f t. AreTidy f t in
+    subst (λ f. P f clauses.learnt) (sym o.given) (subst (P s.clauses.given) (sym o.learnt) (subst (λ f. P f s.clauses.learnt) (all-first s) o.rest.tidy))
 
-opens-fits : (s w : Search) (clauses : Clauses) (size : ℕ) → Opens s w clauses size → AllFit size clauses.given
+opens-valid : (s w : Search) (clauses : Clauses) (size : ℕ) → Opens s w clauses size → AreValid clauses.given clauses.learnt
+opens-valid s w clauses size o =
+    let P : List (List Literal) → List Step → Type 0 = λ f t. AreValid f t in
+    subst (λ f. P f clauses.learnt) (sym o.given) (subst (P s.clauses.given) (sym o.learnt) (subst (λ f. P f s.clauses.learnt) (all-first s) o.rest.valid))
+
+opens-fits : (s w : Search) (clauses : Clauses) (size : ℕ) → Opens s w clauses size → AreNumbered size clauses.given
 opens-fits s w clauses size o i c at = elim (le-cases (vec_len s.watches.given) i) [
   | inl h ↦ o.fits i c h at
-  | inr h ↦ fits-wider (vec_len s.trail.levels) size c o.least (o.rest.fits i c (slice-take s.clauses.given (vec_len s.watches.given) i h ∙ ap (λ t. slice_get t i) (sym o.given) ∙ at))
+  | inr h ↦ numbered-wider (vec_len s.trail.levels) size c o.least (o.rest.fits i c (slice-take s.clauses.given (vec_len s.watches.given) i h ∙ ap (λ t. slice_get t i) (sym o.given) ∙ at))
 ]
 
 opens-ready : (s w : Search) (clauses : Clauses) (size : ℕ) → Opens s w clauses size → IsReady (with_clauses w clauses)
 opens-ready s w clauses size o =
-    let P : ℕ → Type 0 = λ n. AllFit n clauses.given in
+    let P : ℕ → Type 0 = λ n. AreNumbered n clauses.given in
     let Q : ℕ → Type 0 = λ n. AllFit n (map clause_of clauses.learnt) in
     let R : ℕ → Type 0 = λ n. Fits n clauses.assumed in
     let root : w.trail.level ≡ 0 = o.widened.level ∙ o.rest.root in
     record {
-      learnt = record { valid = o.valid o.rest.valid; tidy = opens-tidy s w clauses size o; few = o.few };
+      learnt = record { valid = opens-valid s w clauses size o; tidy = opens-tidy s w clauses size o; few = o.few };
       trail = opens-trail s w clauses size o;
       fits = subst P (sym o.widened.room) (opens-fits s w clauses size o);
-      learnt_fit = subst Q (sym o.widened.room) (λ i c at. fits-wider (vec_len s.trail.levels) size c o.least (o.rest.learnt_fit i c (ap (λ t. slice_get t i) (sym o.learnt) ∙ at)));
+      learnt_fit = subst Q (sym o.widened.room) (λ i c at. fits-wider (vec_len s.trail.levels) size c o.least (o.rest.learnt_fit i c (ap (λ t. slice_get (map clause_of t) i) (sym o.learnt) ∙ at)));
       assumed_fit = subst R (sym o.widened.room) o.assumed;
       holds = λ one. absurd (omega arith);
       begun = λ two. absurd (omega arith);
@@ -152,13 +161,13 @@ opens-guards s w clauses size o =
     let entries : w.trail.entries.items ≡ s.trail.entries.items = ap (λ t. t.items) o.widened.entries in
     let long = ap length entries in
     let followed = o.widened.followed in
-    let names = names-same s.clauses clauses o.given o.learnt in
-    let back = names-same clauses s.clauses (sym o.given) (sym o.learnt) in
+    let names = names-same s.clauses clauses o.given (ap (map clause_of) o.learnt) in
+    let back = names-same clauses s.clauses (sym o.given) (ap (map clause_of) (sym o.learnt)) in
     record {
       sound = record {
         lists = o.widened.lists ∙ ap (λ n. 2 * n) (sym o.widened.room);
         given = o.widened.given;
-        learnt = let n : length clauses.learnt ≡ length s.clauses.learnt = sym (length-map clauses.learnt clause_of) ∙ ap length o.learnt ∙ length-map s.clauses.learnt clause_of in ap vec_len o.widened.learnt ∙ o.rest.learnt ∙ sym n;
+        learnt = ap vec_len o.widened.learnt ∙ o.rest.learnt ∙ ap length (sym o.learnt);
         watches = λ k j x at. let t = o.rest.watches k j x (ap (λ t. slice_get t j) (sym (o.widened.waits k)) ∙ at) in (t.0, names x.id t.0 t.1, t.2);
       };
       ahead = record {
@@ -184,15 +193,16 @@ opened-guards s w clauses size o =
     let P : Search → Type 0 = λ t. Guards (vec_len s.watches.given) w.followed t in subst P (sym same) (opens-guards s w clauses size o)
 
 -- what a question leaves
-pub rested : (s : Search) → IsSearching s → Guards (length s.clauses.given) s.followed s → s.trail.level ≡ 0 → IsResting s
+pub rested : (s : Search) → IsSearching s → Guards (length s.clauses.given) s.followed s → s.trail.level ≡ 0 → IsResting (length s.clauses.given) s
 rested s (held, r) g root =
     let whole : entered s ≡ s.clauses.given = take_all (vec_len s.watches.given) s.clauses.given (omega (arith, g.sound.given)) in
     let P : List (List Literal) → Type 0 = λ f. AreValid f s.clauses.learnt in
     let Q : List (List Literal) → Type 0 = λ f. AreTidy f s.clauses.learnt in
-    let R : List (List Literal) → Type 0 = λ f. AllFit (vec_len s.trail.levels) f in
+    let R : List (List Literal) → Type 0 = λ f. AreNumbered (vec_len s.trail.levels) f in
     record {
-      valid = subst P (sym whole) r.learnt.valid;
-      tidy = subst Q (sym whole) r.learnt.tidy;
+      numbered = omega arith;
+      valid = subst P (sym (all-first s)) r.learnt.valid;
+      tidy = subst Q (sym (all-first s)) r.learnt.tidy;
       trail = r.trail;
       root = root;
       fits = subst R (sym whole) r.fits;
@@ -206,8 +216,9 @@ rested s (held, r) g root =
     }
 
 -- nothing was entered
-pub rests-none : (s : Search) → s.clauses.learnt ≡ [] → ((clauses : Clauses) → IsTrailOf clauses s.trail) → s.trail.entries.items ≡ [] → s.trail.level ≡ 0 → vec_len s.trail.levels ≡ 0 → s.watches.lists.items ≡ [] → vec_len s.watches.lists ≡ 0 → vec_len s.watches.given ≡ 0 → vec_len s.watches.learnt ≡ 0 → s.followed ≡ 0 → IsResting s
-rests-none s none trail entries root room lists size given learnt followed = record {
+pub rests-none : (n : ℕ) (s : Search) → n ≤ length s.clauses.given → s.clauses.learnt ≡ [] → ((clauses : Clauses) → IsTrailOf clauses s.trail) → s.trail.entries.items ≡ [] → s.trail.level ≡ 0 → vec_len s.trail.levels ≡ 0 → s.watches.lists.items ≡ [] → vec_len s.watches.lists ≡ 0 → vec_len s.watches.given ≡ 0 → vec_len s.watches.learnt ≡ 0 → s.followed ≡ 0 → IsResting n s
+rests-none n s few none trail entries root room lists size given learnt followed = record {
+  numbered = few;
   valid = rw none tt;
   tidy = rw none (λ k d h. absurd (omega arith));
   trail = trail s.clauses;
@@ -232,26 +243,28 @@ rests-none s none trail entries root room lists size given learnt followed = rec
     go (Learnt i) c en is = let z : option_map clause_of (slice_get {X = Step} [] i) ≡ Some c = ap (λ t. option_map clause_of (slice_get t i)) (sym none) ∙ is in absurd (cc)
 
 -- the same clauses were given
-pub rests-same : (s : Search) (given : List (List Literal)) → given ≡ s.clauses.given → IsResting s → IsResting (with_clauses s (record { given = given; assumed = s.clauses.assumed; learnt = s.clauses.learnt }))
-rests-same s given same r = let P : List (List Literal) → Type 0 = λ t. IsResting (with_clauses s (record { given = t; assumed = s.clauses.assumed; learnt = s.clauses.learnt })) in subst P (sym same) r
+pub rests-same : (s : Search) (given : List (List Literal)) → given ≡ s.clauses.given → (n : ℕ) → IsResting n s → IsResting n (with_clauses s (record { given = given; assumed = s.clauses.assumed; learnt = s.clauses.learnt }))
+rests-same s given same n r = let P : List (List Literal) → Type 0 = λ t. IsResting n (with_clauses s (record { given = t; assumed = s.clauses.assumed; learnt = s.clauses.learnt })) in subst P (sym same) r
 
 -- a clause more was given
-pub rests-more : (s : Search) (clause : List Literal) (given : List (List Literal)) → given ≡ s.clauses.given ++ clause ∷ [] → IsResting s → IsResting (with_clauses s (record { given = given; assumed = s.clauses.assumed; learnt = s.clauses.learnt }))
-rests-more s clause given more r =
+pub rests-more : (s : Search) (clause : List Literal) (given : List (List Literal)) → given ≡ s.clauses.given ++ clause ∷ [] → (n : ℕ) → IsResting n s → IsResting n (with_clauses s (record { given = given; assumed = s.clauses.assumed; learnt = s.clauses.learnt }))
+rests-more s clause given more n r =
     let whole : take (vec_len s.watches.given) given ≡ entered s = ap (take (vec_len s.watches.given)) more ∙ take-append-le (vec_len s.watches.given) s.clauses.given (clause ∷ []) r.given in
+    let first : take n given ≡ take n s.clauses.given = ap (take n) more ∙ take-append-le n s.clauses.given (clause ∷ []) r.numbered in
     let P : List (List Literal) → Type 0 = λ f. AreValid f s.clauses.learnt in
     let Q : List (List Literal) → Type 0 = λ f. AreTidy f s.clauses.learnt in
-    let R : List (List Literal) → Type 0 = λ f. AllFit (vec_len s.trail.levels) f in
+    let R : List (List Literal) → Type 0 = λ f. AreNumbered (vec_len s.trail.levels) f in
     let long = ap length more in
     record {
-      valid = subst P (sym whole) r.valid;
-      tidy = subst Q (sym whole) r.tidy;
+      numbered = let m = length-more s.clauses.given in let h = r.numbered in omega arith;
+      valid = subst P (sym first) r.valid;
+      tidy = subst Q (sym first) r.tidy;
       trail = trail-root s.clauses next s.trail r.root names r.trail;
       root = r.root;
       fits = subst R (sym whole) r.fits;
       learnt_fit = r.learnt_fit;
       lists = r.lists;
-      given = let n = length-more s.clauses.given in let h = r.given in omega arith;
+      given = let m = length-more s.clauses.given in let h = r.given in omega arith;
       learnt = r.learnt;
       watches = λ k j x at. let t = r.watches k j x at in (t.0, names x.id t.0 t.1, t.2);
       ahead = record { followed = r.ahead.followed; within = r.ahead.within; ahead = r.ahead.ahead };
@@ -275,9 +288,121 @@ rests-more s clause given more r =
     back (Assumed i) c en is = absurd (cc)
     back (Learnt i) c en is = is
 
+-- the steps learnt are numbered anew, over all clauses given
+pub rests-numbered : (s : Search) (n : ℕ) (clauses : Clauses) → IsResting n s → clauses.given ≡ s.clauses.given → map clause_of clauses.learnt ≡ map clause_of s.clauses.learnt
+    → (AreValid (take n s.clauses.given) s.clauses.learnt → AreValid clauses.given clauses.learnt) → IsResting (length clauses.given) (with_clauses s clauses)
+rests-numbered s n clauses r given learnt valid =
+    let new = with_clauses s clauses in
+    let names = names-same s.clauses clauses given learnt in
+    let back = names-same clauses s.clauses (sym given) (sym learnt) in
+    let P : List (List Literal) → Type 0 = λ f. AreValid f clauses.learnt in
+    let Q : List (List Literal) → Type 0 = λ f. AreTidy f clauses.learnt in
+    let R : List (List Literal) → Type 0 = λ f. AreNumbered (vec_len s.trail.levels) (take (vec_len s.watches.given) f) in
+    let size : length clauses.learnt ≡ length s.clauses.learnt = sym (length-map clauses.learnt clause_of) ∙ ap length learnt ∙ length-map s.clauses.learnt clause_of in
+    let whole : take n s.clauses.given ++ drop n s.clauses.given ≡ clauses.given = take-append-drop n s.clauses.given ∙ sym given in
+    let long = ap length given in
+    record {
+      numbered = omega arith;
+      valid = subst P (sym (all-first new)) (valid r.valid);
+      tidy = subst Q (sym (all-first new)) (subst Q whole (tidy-wider (take n s.clauses.given) (drop n s.clauses.given) clauses.learnt (tidy-same (take n s.clauses.given) s.clauses.learnt clauses.learnt learnt r.tidy)));
+      trail = trail-root s.clauses clauses s.trail r.root names r.trail;
+      root = r.root;
+      fits = subst R (sym given) r.fits;
+      learnt_fit = λ i c at. r.learnt_fit i c (ap (λ t. slice_get t i) (sym learnt) ∙ at);
+      lists = r.lists;
+      given = let h = r.given in omega arith;
+      learnt = r.learnt ∙ sym size;
+      watches = λ k j x at. let t = r.watches k j x at in (t.0, names x.id t.0 t.1, t.2);
+      ahead = record { followed = r.ahead.followed; within = r.ahead.within; ahead = r.ahead.ahead };
+      guarded = λ id c en is. r.guarded id c en (back id c is);
+    }
+
+-- the clauses given from an index on are left to the next question
+pub rests-left : (s : Search) (i : ℕ) (w : Watches) → IsReady s → s.trail.level ≡ 0 → i < length s.clauses.given → Guards i s.followed s → vec_len w.given ≡ i
+    → ((j : ℕ) → j < i → slice_get w.given.items j ≡ slice_get s.watches.given.items j) → w.lists ≡ s.watches.lists → w.learnt ≡ s.watches.learnt
+    → IsResting (length s.clauses.given) (record { clauses = s.clauses; trail = s.trail; choice = s.choice; watches = w; followed = s.followed })
+rests-left s i w r root less g count given lists learnt =
+    let P : List (List Literal) → Type 0 = λ f. AreValid f s.clauses.learnt in
+    let Q : List (List Literal) → Type 0 = λ f. AreTidy f s.clauses.learnt in
+    let waits : (k : ℕ) → waiting w k ≡ waiting s.watches k = λ k. ap (λ t. list_of (slice_get t.items k)) lists in
+    record {
+      numbered = omega arith;
+      valid = subst P (sym (all-first s)) r.learnt.valid;
+      tidy = subst Q (sym (all-first s)) r.learnt.tidy;
+      trail = r.trail;
+      root = root;
+      fits = λ j c at. r.fits j c (first-of s.clauses.given (vec_len w.given) j c at);
+      learnt_fit = r.learnt_fit;
+      lists = ap vec_len lists ∙ g.sound.lists;
+      given = omega arith;
+      learnt = ap vec_len learnt ∙ g.sound.learnt;
+      watches = λ k j x at. g.sound.watches k j x (ap (λ t. slice_get t j) (sym (waits k)) ∙ at);
+      ahead = record { followed = g.ahead.followed; within = g.ahead.within; ahead = g.ahead.ahead };
+      guarded = λ id c en is. elim (g.guarded id c (enters id en) is) [
+        | inl t ↦ inl t
+        | inr h ↦ inr (waits-left id c h waits (pairs id en))
+      ];
+    }
+  where
+    first-of : (xs : List (List Literal)) (n j : ℕ) (c : List Literal) → slice_get (take n xs) j ≡ Some c → slice_get xs j ≡ Some c
+    first-of xs n j c at = let h = slice_get_within (take n xs) j c at in let k = length-take-le-first xs n in sym (slice-take xs n j (omega arith)) ∙ at
+      where
+        length-take-le-first : (xs : List (List Literal)) (n : ℕ) → length (take n xs) ≤ n
+        length-take-le-first xs zero = omega arith
+        length-take-le-first [] (suc n) = omega arith
+        length-take-le-first (x ∷ xs) (suc n) = let h = length-take-le-first xs n in omega arith
+
+    enters : (id : ClauseId) → IsEntered (vec_len w.given) id → IsEntered i id
+    enters (Given j) en = omega arith
+    enters (Assumed j) en = tt
+    enters (Learnt j) en = tt
+
+    pairs : (id : ClauseId) → IsEntered (vec_len w.given) id → pair_of w id ≡ pair_of s.watches id
+    pairs (Given j) en = given j (omega arith)
+    pairs (Assumed j) en = refl
+    pairs (Learnt j) en = ap (λ t. slice_get t.items j) learnt
+
+    waits-left : (id : ClauseId) (c : List Literal) → Waits (AtRest s.followed s.trail.entries.items s.watches id c) s.watches id c → ((k : ℕ) → waiting w k ≡ waiting s.watches k)
+        → pair_of w id ≡ pair_of s.watches id → Waits (AtRest s.followed s.trail.entries.items w id c) w id c
+    waits-left id c h same pair = record {
+      pair = h.pair;
+      is = pair ∙ h.is;
+      first_in = h.first_in;
+      second_in = h.second_in;
+      apart = h.apart;
+      first = at h.pair.first h.first;
+      second = at h.pair.second h.second;
+    }
+      where
+        at : (y : Literal) → AtRest s.followed s.trail.entries.items s.watches id c y → AtRest s.followed s.trail.entries.items w id c y
+        at y ((k, x, is, same_id), heeded) = ((k, x, ap (λ t. slice_get t k) (same (code_of y)) ∙ is, same_id), heeded)
+
+-- what is kept between two questions
+pub rests-kept : (s : Search) (n : ℕ) → IsResting (length s.clauses.given) s → n ≡ length s.clauses.given → AreKept (record { clauses = s.clauses.given; kept = over_all s.clauses.given n s.clauses.learnt })
+rests-kept s n r is =
+    let P : List Step → Type 0 = λ t. AreKept (record { clauses = s.clauses.given; kept = t }) in
+    let V : List (List Literal) → Type 0 = λ f. AreValid f s.clauses.learnt in
+    let T : List (List Literal) → Type 0 = λ f. AreTidy f s.clauses.learnt in
+    subst P (sym (none-raised s.clauses.given n s.clauses.learnt (omega arith))) (record { valid = subst V (all-first s) r.valid; tidy = subst T (all-first s) r.tidy })
+
+no-steps : (xs : List Step) → length xs ≡ 0 → xs ≡ []
+no-steps [] none = refl
+no-steps (x ∷ xs) none = absurd (omega arith)
+
+-- where no conflict is allowed
+pub rests-spent : (s : Search) (kept steps : List Step) (k n : ℕ) → IsResting (length s.clauses.given) s → k ≡ length s.clauses.learnt → kept ≡ take k s.clauses.learnt → steps ≡ drop k s.clauses.learnt → n ≡ 0
+    → IsTrail s.clauses.given kept steps × AreTidy s.clauses.given kept × AreTidy s.clauses.given steps × (length steps ≡ n)
+rests-spent s kept steps k n r size kept_is steps_is none =
+    let V : List (List Literal) → Type 0 = λ f. AreValid f s.clauses.learnt in
+    let T : List (List Literal) → Type 0 = λ f. AreTidy f s.clauses.learnt in
+    let all : kept ≡ s.clauses.learnt = kept_is ∙ take_all k s.clauses.learnt (omega arith) in
+    let long = ap length steps_is ∙ length-drop k s.clauses.learnt in
+    let no : steps ≡ [] = no-steps steps (omega arith) in
+    rw (all, no) ((subst V (all-first s) r.valid, tt), subst T (all-first s) r.tidy, (λ j d h. absurd (omega arith)), sym none)
+
 -- the level of the assumptions begins
 abbrev at-one : Search → Search
-at-one s = record { clauses = s.clauses; trail = record { entries = s.trail.entries; taken = s.trail.taken; levels = s.trail.levels; level = 1 }; choice = s.choice; watches = s.watches; followed = s.followed }
+at-one s = record { clauses = s.clauses; trail = record { entries = s.trail.entries; taken = s.trail.taken; levels = s.trail.levels; level = 1; scores = s.trail.scores }; choice = s.choice; watches = s.watches; followed = s.followed }
 
 pub rises-search : (s : Search) → IsReady s → s.trail.level ≡ 0 → IsSearch 0 (at-one s)
 rises-search s r root =
@@ -298,6 +423,7 @@ rises-search s r root =
         };
         are_placed = t.are_placed;
         paired = t.paired;
+        are_open = t.are_open;
         small = t.small;
       };
       fits = r.fits;

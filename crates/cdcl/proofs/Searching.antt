@@ -14,7 +14,7 @@ use Rattle.proof_check.specs.Steps.{clause_of}
 use Rattle.std.proofs.lemmas.Option.{slice_get-map}
 use Rattle.cdcl.specs.declared.clauses.ClauseId.TheVariants.{Given, Assumed, Learnt}
 use Rattle.cdcl.specs.declared.assigned.Reading.{Reading}
-use Rattle.cdcl.specs.Fits.{Fits, AllFit}
+use Rattle.cdcl.specs.Fits.{Fits, AllFit, AreNumbered}
 use Rattle.cdcl.specs.Trails.{IsNext, IsSource, HasDecision, literal_at, Implies, ArePlaced, HaveLevels, AllReasoned, IsConflict, IsCut}
 use Rattle.std.specs.Prelude.{IfSome}
 use Rattle.cdcl.specs.Searches.{AreHeld, Extends, Goes, Says, IsSearch, IsReady, IsMet}
@@ -117,8 +117,8 @@ pub learnt-within : (now clauses : Clauses) (i end : ℕ) → now ≡ clauses �
 learnt-within now clauses i end same is h = let e : length now.learnt ≡ length clauses.learnt = ap (λ t. length t.learnt) same in omega arith
 
 -- each literal of a clause that a step may cite is below the room
-pub named-fits : (room : ℕ) (clauses : Clauses) (id : ClauseId) (c : List Literal) → AllFit room clauses.given → AllFit room (map clause_of clauses.learnt) → named 1 clauses id ≡ Some c → Fits room c
-named-fits room clauses (Given i) c given learnt is = given i c is
+pub named-fits : (room : ℕ) (clauses : Clauses) (id : ClauseId) (c : List Literal) → AreNumbered room clauses.given → AllFit room (map clause_of clauses.learnt) → named 1 clauses id ≡ Some c → Fits room c
+named-fits room clauses (Given i) c given learnt is = λ l m. (given i c is l m).1
 named-fits room clauses (Assumed i) c given learnt is = absurd (cc)
 named-fits room clauses (Learnt i) c given learnt is = learnt i c (slice_get-map clause_of clauses.learnt i ∙ is)
 

@@ -1,7 +1,7 @@
 -- The steps that a question learns, behind those kept.
-use Rattle.std.proofs.Common.{◌≡◌, ◌≤◌, ◌+◌, ◌-◌, ◌++◌, ◌∷◌, [], ℕ, zero, suc, List, Some, map, length, sym, ap, ◌∙◌, arith, take, drop, append-nil, append_assoc, length-append, get_or}
+use Rattle.std.proofs.Common.{◌≡◌, ◌≤◌, ◌+◌, ◌-◌, ◌++◌, ◌∷◌, [], ℕ, zero, suc, List, Some, map, length, sym, ap, ap₂, ◌∙◌, arith, take, drop, append-nil, append_assoc, length-append, get_or}
 use Rattle.std.specs.List.{slice_get}
-use Rattle.std.proofs.lemmas.List.{length-drop, get_or-drop, take_at, drop_at, take_more}
+use Rattle.std.proofs.lemmas.List.{take-append-drop, length-drop, get_or-drop, take_at, drop_at, take_more}
 use Rattle.std.proofs.lemmas.Option.{slice_get_within, get_or_from_slice_get}
 use Rattle.cnf_core.specs.Literal.{Literal}
 use Rattle.proof_check.specs.Steps.{Step, clause_of}
@@ -10,6 +10,7 @@ use Rattle.cdcl.specs.declared.clauses.Clauses.{Clauses}
 use Rattle.cdcl.specs.Tidy.{AreTidy}
 use Rattle.cdcl.specs.Searches.{AreLearnt, AreFresh, Appends}
 use Rattle.cdcl.specs.Answers.{IsFew}
+use Rattle.cdcl.specs.Stores.{KeepsMore}
 use Rattle.cdcl.proofs.Counting.{few-steps}
 
 pub between-more : (steps copy next : List Step) (start i : ℕ) (s : Step) → start ≤ i → slice_get steps i ≡ Some s → copy ≡ take (i - start) (drop start steps) → next ≡ copy ++ s ∷ [] → next ≡ take (i + 1 - start) (drop start steps)
@@ -68,3 +69,13 @@ spending old new kept steps k n f l size count kept_is steps_is =
     let valid : AreValid old.given (old.learnt ++ f.more) = rw (f.learnt, f.given) at l.valid in
     let tidy : AreTidy old.given (old.learnt ++ f.more) = rw (f.learnt, f.given) at l.tidy in
     rw (first, second) (spends old.given old.learnt f.more n valid tidy f.fresh (omega (arith, long, count, size)))
+
+-- those kept before, and those learnt behind them
+pub kept-whole : (old new : Clauses) (kept steps : List Step) (k : ℕ) → Appends old new → k ≡ length old.learnt → kept ≡ take k new.learnt → steps ≡ drop k new.learnt → (kept ≡ old.learnt) × (new.learnt ≡ kept ++ steps)
+kept-whole old new kept steps k f size kept_is steps_is = (
+  kept_is ∙ ap (take k) f.learnt ∙ take_at old.learnt f.more k (sym size),
+  sym (take-append-drop k new.learnt) ∙ ap₂ (λ (a b : List Step). a ++ b) (sym kept_is) (sym steps_is),
+)
+
+pub keeps-more : (old middle new : Clauses) → Appends old middle → new ≡ middle → KeepsMore old.learnt new.learnt
+keeps-more old middle new f same = record { more = f.more; kept = ap (λ (c : Clauses). c.learnt) same ∙ f.learnt }

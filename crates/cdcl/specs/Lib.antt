@@ -10,3 +10,7 @@ pub mod Watches
 pub mod Guards
 pub mod Resting
 pub mod Answers
+pub mod Stores
+pub mod Ranks
+pub mod Scoreboards
+pub mod Tallies

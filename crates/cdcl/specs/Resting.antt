@@ -7,22 +7,24 @@ use Rattle.cdcl.specs.declared.clauses.Clauses.{Clauses}
 use Rattle.cdcl.specs.declared.watching.Pair.{Pair}
 use Rattle.cdcl.specs.declared.search.Search.{Search}
 use Rattle.cdcl.specs.Tidy.{AreTidy}
-use Rattle.cdcl.specs.Fits.{AllFit}
+use Rattle.cdcl.specs.Fits.{AllFit, AreNumbered}
 use Rattle.cdcl.specs.Trails.{IsTrailOf}
 use Rattle.cdcl.specs.Watches.{waiting}
 use Rattle.cdcl.specs.Guards.{AreWatches, AreAhead, AreGuarded, AtRest}
 
--- the clauses given that were entered by the last question
+-- the clauses given that were entered
 abbrev pub entered : Search → List (List Literal)
 entered s = take (vec_len s.watches.given) s.clauses.given
 
--- between two questions no literal stands above level 0, and the clauses entered and learnt are watched
-pub record IsResting (s : Search) : Type 0 where
-  pub valid : AreValid (entered s) s.clauses.learnt
-  pub tidy : AreTidy (entered s) s.clauses.learnt
+-- Between two questions no literal stands above level 0, and the clauses entered and learnt are watched. The steps learnt are
+-- numbered over the first n clauses given.
+pub record IsResting (n : ℕ) (s : Search) : Type 0 where
+  pub numbered : n ≤ length s.clauses.given
+  pub valid : AreValid (take n s.clauses.given) s.clauses.learnt
+  pub tidy : AreTidy (take n s.clauses.given) s.clauses.learnt
   pub trail : IsTrailOf s.clauses s.trail
   pub root : s.trail.level ≡ 0
-  pub fits : AllFit (vec_len s.trail.levels) (entered s)
+  pub fits : AreNumbered (vec_len s.trail.levels) (entered s)
   pub learnt_fit : AllFit (vec_len s.trail.levels) (map clause_of s.clauses.learnt)
   pub lists : vec_len s.watches.lists ≡ 2 * vec_len s.trail.levels
   pub given : vec_len s.watches.given ≤ length s.clauses.given

@@ -8,20 +8,18 @@ use Rattle.cdcl.specs.declared.assigned.Entry.{Entry}
 use Rattle.cdcl.specs.declared.assigned.Reading.{Reading}
 use Rattle.cdcl.specs.declared.assigned.Reading.TheVariants.{Falsified, Satisfied, Implied, Undecided}
 use Rattle.cdcl.specs.declared.search.Search.{Search}
-use Rattle.cdcl.specs.declared.search.Next.{Next}
-use Rattle.cdcl.specs.declared.search.Next.TheVariants.{Decide, Conflict as NextConflict, Satisfied as NextSatisfied}
 use Rattle.cdcl.specs.declared.search.Event.{Event}
 use Rattle.cdcl.specs.declared.search.Event.TheVariants.{Conflict, Satisfied as EventSatisfied}
 use Rattle.cdcl.specs.declared.watching.Visit.{Visit}
 use Rattle.cdcl.specs.declared.watching.Visit.TheVariants.{Stays, Moves, Conflict as VisitConflict}
-use Rattle.cdcl.specs.Known.{Member, known, HasTrue, AllFalse, Reads, IsOpen, open_count}
+use Rattle.cdcl.specs.Known.{Member, known, HasTrue, AllFalse, Reads, open_count}
 use Rattle.cdcl.specs.Trails.{IsTrailOf, IsConflict, HasDecision}
 use Rattle.cdcl.specs.declared.assigned.Assigned.{Assigned}
 use Rattle.cdcl.specs.declared.clauses.ClauseId.TheVariants.{Learnt}
 use Rattle.cdcl.specs.Sources.{named}
 use Rattle.proof_check.specs.Steps.{Step, clause_of}
 use Rattle.cdcl.specs.Tidy.{AreTidy}
-use Rattle.cdcl.specs.Fits.{Fits, AllFit}
+use Rattle.cdcl.specs.Fits.{Fits, AllFit, AreNumbered}
 
 -- the first assumptions stand among the entries of levels 0 and 1
 abbrev pub AreHeld : ℕ → List Literal → List Entry → Type 0
@@ -63,7 +61,7 @@ pub record Appends (old new : Clauses) : Type 0 where
 pub record IsSearch (held : ℕ) (s : Search) : Type 0 where
   pub learnt : AreLearnt s.clauses
   pub trail : IsTrailOf s.clauses s.trail
-  pub fits : AllFit (vec_len s.trail.levels) s.clauses.given
+  pub fits : AreNumbered (vec_len s.trail.levels) s.clauses.given
   pub learnt_fit : AllFit (vec_len s.trail.levels) (map clause_of s.clauses.learnt)
   pub assumed_fit : Fits (vec_len s.trail.levels) s.clauses.assumed
   pub holds : 1 ≤ s.trail.level → AreHeld held s.clauses.assumed s.trail.entries.items
@@ -102,11 +100,6 @@ Says old new c (Undecided l k) = (new ≡ old) × Reads (known new.taken.items) 
 -- each clause given has a true literal
 abbrev pub AllTrue : Search → Type 0
 AllTrue s = (i : ℕ) (c : List Literal) → slice_get s.clauses.given i ≡ Some c → HasTrue (known s.trail.taken.items) c
-
-abbrev pub IsNext : Search → Next → Type 0
-IsNext s (Decide l) = (l.variable < vec_len s.trail.levels) × IsOpen (known s.trail.taken.items) l
-IsNext s (NextConflict id) = IsConflict 1 s.clauses s.trail.entries.items id
-IsNext s NextSatisfied = AllTrue s
 
 -- the named clause is false, and above level 1 a clause may be learnt from it
 pub record IsMet (s : Search) (id : ClauseId) : Type 0 where

@@ -11,7 +11,8 @@ use Rattle.cdcl.specs.declared.clauses.Clauses.{Clauses}
 use Rattle.cdcl.specs.declared.assigned.Entry.{Entry}
 use Rattle.cdcl.specs.declared.assigned.Assigned.{Assigned}
 use Rattle.cdcl.specs.Sources.{Lookup, named}
-use Rattle.cdcl.specs.Known.{known, Member}
+use Rattle.cdcl.specs.Known.{known, Member, IsOpen}
+use Rattle.cdcl.specs.Ranks.{IsUnset}
 
 abbrev pub seen_at : List Bool → ℕ → Bool
 seen_at seen v = slice_index_or seen v false
@@ -92,6 +93,13 @@ pub record ArePlaced (entries : List Entry) (taken : List Bool) : Type 0 where
   pub placed : (l : Literal) → known taken l ≡ true → PlacedBelow (length entries) entries l
   pub kept : (i : ℕ) (l : Literal) → literal_at entries i ≡ Some l → known taken l ≡ true
 
+-- of the variables below the room, those of which no literal is taken are open
+pub record AreOpen (unset taken : List Bool) (room : ℕ) : Type 0 where
+  pub size : length unset ≡ room
+  pub none : IsUnset unset 0 → ⊥
+  pub is_open : (l : Literal) → IsUnset unset l.variable → IsOpen (known taken) l
+  pub has : (l : Literal) → 1 ≤ l.variable → l.variable < room → IsOpen (known taken) l → IsUnset unset l.variable
+
 -- what holds of the literals that are taken as true, over these clauses
 pub record IsTrailOf (clauses : Clauses) (t : Assigned) : Type 0 where
   pub distinct : AreDistinct t.entries.items
@@ -100,6 +108,7 @@ pub record IsTrailOf (clauses : Clauses) (t : Assigned) : Type 0 where
   pub have_levels : HaveLevels t.level t.entries.items
   pub are_placed : ArePlaced t.entries.items t.taken.items
   pub paired : vec_len t.taken ≡ 2 * vec_len t.levels
+  pub are_open : AreOpen t.scores.unset t.taken.items (vec_len t.levels)
   pub small : vec_len t.levels ≤ 2 ^ 31
 
 -- no entry is a decision

@@ -10,12 +10,14 @@ ghost use Rattle.cdcl.specs.Guards.{Guards};
 ghost use Rattle.cdcl.specs.Resting.{IsResting};
 ghost use Rattle.cdcl.specs.Searches.{IsSearch, IsSearching, IsReady, IsMet, IsModel, IsEvent, AreFresh, Appends};
 ghost use Rattle.cdcl.specs.Answers.{IfSat, IfUnsat, IfSpent, IsSpent, IsFew};
+ghost use Rattle.cdcl.specs.Stores.{KeepsMore, over_all};
 
 use crate::answer::Answer;
 use crate::assigned::Entry;
+use crate::chooser::Chooser;
 use crate::clauses::ClauseId;
 use crate::restarts::Restarts;
-use crate::search::{Event, Next, Search};
+use crate::search::{Event, Search};
 use cnf_core::{Assignment, Lit};
 use proof_check::{Steps, Trail};
 use std::alloc::{AllocError, Global};
@@ -133,7 +135,7 @@ impl Search {
     }
 
     /// Propagates and decides up to a false clause, or till each clause given has a true literal.
-    fn until_event(&mut self, alloc: Global) -> Result<Event, AllocError>
+    fn until_event<C: Chooser>(&mut self, alloc: Global, chooser: &C) -> Result<Event, AllocError>
         requires ready { IsReady self.old }
         requires guards { Guards (length self.old.clauses.given) self.old.followed self.old }
         ensures searching { OnOk result (IsSearching self.new) }
@@ -145,10 +147,9 @@ impl Search {
             if let Some(id) = self.settle(alloc)? {
                 return Ok(Event::Conflict(id));
             }
-            match self.next() {
-                Next::Decide(literal) => self.decide(literal)?,
-                Next::Conflict(id) => return Ok(Event::Conflict(id)),
-                Next::Satisfied => return Ok(Event::Satisfied),
+            match self.next(chooser) {
+                Some(literal) => self.decide(literal)?,
+                None => return Ok(Event::Satisfied),
             }
         }
     }
@@ -219,7 +220,12 @@ impl Search {
     }
 
     /// Searches on, learning from at most so many conflicts.
-    fn run(&mut self, alloc: Global, conflicts: u32) -> Result<Answer, AllocError>
+    fn run<C: Chooser>(
+        &mut self,
+        alloc: Global,
+        chooser: &C,
+        conflicts: u32,
+    ) -> Result<Answer, AllocError>
         requires ready { IsReady self.old }
         requires guards { Guards (length self.old.clauses.given) self.old.followed self.old }
         requires some { 1 ≤ conflicts }
@@ -228,6 +234,8 @@ impl Search {
         ensures spent { IfOk result (λ a. IfSpent a (λ kept steps. IsTrail self.old.clauses.given kept steps × AreTidy self.old.clauses.given kept × AreTidy self.old.clauses.given steps × (length steps ≡ conflicts))) }
         ensures fresh { IfOk result (λ a. IfSpent a (λ kept steps. AreFresh (self.old.clauses.given ++ map clause_of kept) steps)) }
         ensures few { IfOk result (λ a. IfSpent a (λ kept steps. IsFew self.old.clauses.given conflicts)) }
+        ensures kept { IfOk result (λ a. IfSpent a (λ kept steps. (kept ≡ self.old.clauses.learnt) × (self.new.clauses.learnt ≡ kept ++ steps))) }
+        ensures keeps { OnOk result (KeepsMore self.old.clauses.learnt self.new.clauses.learnt) }
         ensures searching { OnOk result (IsSearching self.new) }
         ensures guards { OnOk result (Guards (length self.new.clauses.given) self.new.followed self.new) }
         ensures given { self.new.clauses.given ≡ self.old.clauses.given }
@@ -235,7 +243,7 @@ impl Search {
         let kept = self.clauses.learnt.len();
         let mut restarts = Restarts::new();
         for _met in 0..conflicts {
-            match self.until_event(alloc)? {
+            match self.until_event(alloc, chooser)? {
                 Event::Satisfied => return Ok(Answer::Sat(self.assignment(alloc)?)),
                 Event::Conflict(id) => {
                     if self.trail.level <= 1 {
@@ -253,43 +261,70 @@ impl Search {
     fn rest(&mut self)
         requires searching { IsSearching self.old }
         requires guards { Guards (length self.old.clauses.given) self.old.followed self.old }
-        ensures resting { IsResting self.new }
-        ensures given { self.new.clauses.given ≡ self.old.clauses.given }
+        ensures resting { IsResting (length self.new.clauses.given) self.new }
+        ensures clauses { self.new.clauses ≡ self.old.clauses }
     {
         self.go_back(0);
     }
 
     /// The answer to a question.
-    pub fn answer(
+    pub fn answer<C: Chooser>(
         &mut self,
         alloc: Global,
+        chooser: &C,
         assume: &[Lit],
         conflicts: u32,
     ) -> Result<Answer, AllocError>
-        requires { IsResting self.old }
+        requires { IsResting (length self.old.clauses.given) self.old }
         ensures sat { IfOk result (λ a. IfSat a (λ values. formula_holds (value_of values) (self.old.clauses.given ++ units assume.now) ≡ true)) }
         ensures unsat { IfOk result (λ a. IfUnsat a (λ r. IsRefutation (self.old.clauses.given ++ units assume.now) r × AreTidy (self.old.clauses.given ++ units assume.now) r)) }
         ensures spent { IfOk result (λ a. IfSpent a (λ kept steps. IsTrail self.old.clauses.given kept steps × AreTidy self.old.clauses.given kept × AreTidy self.old.clauses.given steps × (length steps ≡ conflicts))) }
         ensures fresh { IfOk result (λ a. IfSpent a (λ kept steps. AreFresh (self.old.clauses.given ++ map clause_of kept) steps)) }
         ensures few { IfOk result (λ a. IfSpent a (λ kept steps. IsFew self.old.clauses.given conflicts)) }
         ensures at_once { conflicts ≡ 0 → IfOk result IsSpent }
-        ensures resting { OnOk result (IsResting self.new) }
+        ensures kept { IfOk result (λ a. IfSpent a (λ kept steps. (kept ≡ self.old.clauses.learnt) × (self.new.clauses.learnt ≡ kept ++ steps))) }
+        ensures keeps { OnOk result (KeepsMore self.old.clauses.learnt self.new.clauses.learnt) }
+        ensures resting { OnOk result (IsResting (length self.new.clauses.given) self.new) }
         ensures given { self.new.clauses.given ≡ self.old.clauses.given }
     {
         if conflicts == 0 {
-            return Ok(Answer::Spent(Trail {
-                kept: Steps::new(alloc),
-                steps: Steps::new(alloc),
-            }));
+            let trail = self.spent(alloc, self.clauses.learnt.len())?;
+            return Ok(Answer::Spent(trail));
         }
         let entered = self.begin(alloc, assume)?;
-        if let Some(id) = self.enter_given(entered)? {
-            let refutation = self.refute(alloc, id)?;
-            self.forget(alloc);
+        if let Some(index) = self.enter_given(entered)? {
+            let refutation = self.refute(alloc, ClauseId::Given(index))?;
+            self.leave_from(index);
             return Ok(Answer::Unsat(refutation));
         }
-        let answer = self.run(alloc, conflicts)?;
+        let answer = self.run(alloc, chooser, conflicts)?;
         self.rest();
+        Ok(answer)
+    }
+
+    /// The answer to a question, where the steps learnt are numbered over so many of the clauses given.
+    pub fn reply<C: Chooser>(
+        &mut self,
+        alloc: Global,
+        chooser: &C,
+        numbered: usize,
+        assume: &[Lit],
+        conflicts: u32,
+    ) -> Result<Answer, AllocError>
+        requires { IsResting numbered self.old }
+        ensures sat { IfOk result (λ a. IfSat a (λ values. formula_holds (value_of values) (self.old.clauses.given ++ units assume.now) ≡ true)) }
+        ensures unsat { IfOk result (λ a. IfUnsat a (λ r. IsRefutation (self.old.clauses.given ++ units assume.now) r × AreTidy (self.old.clauses.given ++ units assume.now) r)) }
+        ensures spent { IfOk result (λ a. IfSpent a (λ kept steps. IsTrail self.old.clauses.given kept steps × AreTidy self.old.clauses.given kept × AreTidy self.old.clauses.given steps × (length steps ≡ conflicts))) }
+        ensures fresh { IfOk result (λ a. IfSpent a (λ kept steps. AreFresh (self.old.clauses.given ++ map clause_of kept) steps)) }
+        ensures few { IfOk result (λ a. IfSpent a (λ kept steps. IsFew self.old.clauses.given conflicts)) }
+        ensures at_once { conflicts ≡ 0 → IfOk result IsSpent }
+        ensures kept { IfOk result (λ a. IfSpent a (λ kept steps. (kept ≡ over_all self.old.clauses.given numbered self.old.clauses.learnt) × (self.new.clauses.learnt ≡ kept ++ steps))) }
+        ensures keeps { OnOk result (KeepsMore (over_all self.old.clauses.given numbered self.old.clauses.learnt) self.new.clauses.learnt) }
+        ensures resting { OnOk result (IsResting (length self.new.clauses.given) self.new) }
+        ensures given { self.new.clauses.given ≡ self.old.clauses.given }
+    {
+        self.number_from(alloc, numbered)?;
+        let answer = self.answer(alloc, chooser, assume, conflicts)?;
         Ok(answer)
     }
 }

@@ -7,7 +7,7 @@ ghost use Rattle.cdcl.specs.Known.{known, Reads, IsOpen, open_count};
 ghost use Rattle.cdcl.specs.Trails.{IsTrailOf, IsNext, IsCut, top_level};
 
 use crate::clauses::ClauseId;
-use crate::order::Order;
+use crate::scores::Scores;
 use cnf_core::Lit;
 use std::alloc::{AllocError, Global};
 
@@ -41,6 +41,8 @@ pub struct Assigned {
     pub taken: Vec<bool>,
     pub levels: Vec<u32>,
     pub level: u32,
+    /// What a chooser may ask of the variables.
+    pub scores: Scores,
 }
 
 impl Assigned {
@@ -56,14 +58,31 @@ impl Assigned {
             taken: Vec::new(alloc),
             levels: Vec::new(alloc),
             level: 0,
+            scores: Scores::new(alloc),
         }
     }
 
+    /// Forgets all but the marks of the variables.
+    pub fn forget(&mut self, alloc: Global)
+        ensures trail { (clauses : ClausesValue) → IsTrailOf clauses self.new }
+        ensures entries { self.new.entries.items ≡ [] }
+        ensures room { vec_len self.new.levels ≡ 0 }
+        ensures level { self.new.level ≡ 0 }
+        ensures marks { self.new.scores.marks ≡ self.old.scores.marks }
+    {
+        self.entries = Vec::new(alloc);
+        self.taken = Vec::new(alloc);
+        self.levels = Vec::new(alloc);
+        self.level = 0;
+        self.scores.forget(alloc);
+    }
+
     /// Makes room for variables below `room`.
-    pub fn grow(&mut self, room: usize) -> Result<(), AllocError>
+    pub fn grow(&mut self, alloc: Global, room: usize) -> Result<(), AllocError>
         requires small { room ≤ 2 ^ 31 }
         requires least { vec_len self.old.levels ≤ room }
         requires paired { vec_len self.old.taken ≡ 2 * vec_len self.old.levels }
+        requires scored { length self.old.scores.unset ≡ vec_len self.old.levels }
         ensures trail { OnOk result ((clauses : ClausesValue) → IsTrailOf clauses self.old → IsTrailOf clauses self.new) }
         ensures room { OnOk result (vec_len self.new.levels ≡ room) }
         ensures entries { self.new.entries ≡ self.old.entries }
@@ -71,6 +90,7 @@ impl Assigned {
     {
         self.taken.resize(2 * room, false)?;
         self.levels.resize(room, 0)?;
+        self.scores.grow(alloc, room)?;
         Ok(())
     }
 
@@ -79,13 +99,6 @@ impl Assigned {
         ensures { result ≡ known self.now.taken.items literal }
     {
         self.taken.get(literal.code() as usize) == Some(&true)
-    }
-
-    /// Whether neither the literal nor its negation is taken as true.
-    pub fn is_open(&self, literal: Lit) -> bool
-        ensures { result ≡ true → IsOpen (known self.now.taken.items) literal }
-    {
-        !self.holds(literal) && !self.holds(literal.negated())
     }
 
     /// The level of a literal's variable.
@@ -139,22 +152,23 @@ impl Assigned {
         self.level = level;
         self.taken[literal.code() as usize] = true;
         self.levels[literal.variable() as usize] = level;
+        self.scores.close(literal.variable());
         Ok(())
     }
 
-    /// Takes the last literal back, and answers it.
-    fn pop(&mut self) -> Option<Lit>
+    /// Takes the last literal back.
+    fn pop(&mut self)
         requires { (clauses : ClausesValue) × IsTrailOf clauses self.old }
         ensures trail { (clauses : ClausesValue) → IsTrailOf clauses self.old → IsTrailOf clauses self.new }
         ensures shorter { (self.old.entries.items ≡ []) ⊎ ((e : _) × (self.old.entries.items ≡ self.new.entries.items ++ e ∷ [])) }
         ensures room { vec_len self.new.levels ≡ vec_len self.old.levels }
         ensures level { self.new.level ≡ self.old.level }
     {
-        if let Some(entry) = self.entries.pop() {
-            self.taken[entry.literal.code() as usize] = false;
-            return Some(entry.literal);
-        }
-        None
+        let Some(entry) = self.entries.pop() else {
+            return;
+        };
+        self.taken[entry.literal.code() as usize] = false;
+        self.scores.reopen(entry.literal.variable());
     }
 
     /// The level of the last entry, or 0.
@@ -167,16 +181,16 @@ impl Assigned {
         }
     }
 
-    /// Takes back the literals above a level, and puts their variables back into the order of those to be decided.
-    pub fn backjump(&mut self, level: u32, order: &mut Order)
+    /// Takes back the literals above a level.
+    pub fn backjump(&mut self, level: u32)
         requires { (clauses : ClausesValue) × IsTrailOf clauses self.old }
         ensures trail { (clauses : ClausesValue) → IsTrailOf clauses self.old → IsTrailOf clauses self.new }
         ensures cut { IsCut level self.old.entries.items self.new.entries.items }
         ensures level { self.new.level ≡ level }
         ensures room { vec_len self.new.levels ≡ vec_len self.old.levels }
     {
-        while self.last_level() > level {
-            order.release(self.pop());
+        'entries: while self.last_level() > level {
+            self.pop();
         }
         self.level = level;
     }

@@ -1,9 +1,10 @@
 ghost use Rattle.std.specs.Prelude.{◌≡◌, ◌<◌, ◌≤◌, ◌++◌, ◌^◌, ◌*◌, ◌∷◌, [], ℕ, Some, length, slice_get, vec_len, IfOk, OnOk, OnErr};
 ghost use Rattle.cnf_core.specs.Literal.{Literal};
-ghost use Rattle.cdcl.specs.Fits.{Fits};
+ghost use Rattle.cdcl.specs.Fits.{IsNumbered};
 ghost use Rattle.cdcl.specs.Guards.{Guards};
 ghost use Rattle.cdcl.specs.Resting.{IsResting, IsWidened};
 ghost use Rattle.cdcl.specs.Searches.{IsReady};
+ghost use Rattle.cdcl.specs.Stores.{over_all};
 
 use crate::assigned::Assigned;
 use crate::choosing::Choice;
@@ -20,7 +21,7 @@ fn room_for(literals: &[Lit], least: usize) -> usize
     requires { least ≤ 2 ^ 31 }
     ensures small { result ≤ 2 ^ 31 }
     ensures least { least ≤ result }
-    ensures fits { Fits result literals.now }
+    ensures fits { IsNumbered result literals.now }
 {
     let mut room = least;
     for literal in literals {
@@ -35,7 +36,7 @@ fn room_from(clauses: &Formula, start: usize, least: usize) -> usize
     requires least { least ≤ 2 ^ 31 }
     ensures small { result ≤ 2 ^ 31 }
     ensures least { least ≤ result }
-    ensures fits { (i : ℕ) (c : _) → start ≤ i → slice_get clauses.now i ≡ Some c → Fits result c }
+    ensures fits { (i : ℕ) (c : _) → start ≤ i → slice_get clauses.now i ≡ Some c → IsNumbered result c }
 {
     let mut room = least;
     for index in start..clauses.len() {
@@ -48,7 +49,8 @@ impl Search {
     /// No clauses.
     pub fn new(alloc: Global) -> Search
         ensures given { result.clauses.given ≡ [] }
-        ensures resting { IsResting result }
+        ensures learnt { result.clauses.learnt ≡ [] }
+        ensures resting { IsResting 0 result }
     {
         Search {
             clauses: Clauses {
@@ -63,10 +65,10 @@ impl Search {
         }
     }
 
-    /// Adds a clause at the end.
+    /// Adds a clause at the end. The steps learnt are numbered over the clauses as before.
     pub fn add(&mut self, clause: &[Lit]) -> Result<(), AllocError>
-        requires { IsResting self.old }
-        ensures resting { IsResting self.new }
+        ensures resting { (n : ℕ) → IsResting n self.old → IsResting n self.new }
+        ensures learnt { self.new.clauses.learnt ≡ self.old.clauses.learnt }
         ensures ok { OnOk result (self.new.clauses.given ≡ self.old.clauses.given ++ clause.now ∷ []) }
         ensures err { OnErr result (self.new.clauses.given ≡ self.old.clauses.given) }
     {
@@ -76,11 +78,12 @@ impl Search {
 
     /// Forgets all but the clauses given, so that the next question begins anew.
     pub fn forget(&mut self, alloc: Global)
-        ensures resting { IsResting self.new }
+        ensures resting { IsResting (length self.new.clauses.given) self.new }
+        ensures learnt { self.new.clauses.learnt ≡ [] }
         ensures given { self.new.clauses.given ≡ self.old.clauses.given }
     {
         self.clauses.learnt = Steps::new(alloc);
-        self.trail = Assigned::new(alloc);
+        self.trail.forget(alloc);
         self.choice = Choice::new(alloc);
         self.watches = Watches::new(alloc);
         self.followed = 0;
@@ -91,25 +94,41 @@ impl Search {
         requires small { room ≤ 2 ^ 31 }
         requires least { vec_len self.old.trail.levels ≤ room }
         requires paired { vec_len self.old.trail.taken ≡ 2 * vec_len self.old.trail.levels }
+        requires scored { length self.old.trail.scores.unset ≡ vec_len self.old.trail.levels }
         requires lists { vec_len self.old.watches.lists ≡ 2 * vec_len self.old.trail.levels }
         requires given { vec_len self.old.watches.given ≤ length self.old.clauses.given }
         ensures widened { OnOk result (IsWidened room self.old self.new) }
         ensures clauses { self.new.clauses ≡ self.old.clauses }
     {
-        self.trail.grow(room)?;
+        self.trail.grow(alloc, room)?;
         self.choice.grow(room)?;
         self.watches.grow(alloc, room, self.clauses.given.len())?;
+        Ok(())
+    }
+
+    /// Numbers the clauses that the steps learnt cite anew, where they are numbered over the first clauses given.
+    pub fn number_from(&mut self, alloc: Global, before: usize) -> Result<(), AllocError>
+        requires { IsResting before self.old }
+        ensures resting { OnOk result (IsResting (length self.new.clauses.given) self.new) }
+        ensures learnt { OnOk result (self.new.clauses.learnt ≡ over_all self.old.clauses.given before self.old.clauses.learnt) }
+        ensures given { self.new.clauses.given ≡ self.old.clauses.given }
+    {
+        if self.clauses.given.len() >= 0x8000_0000 || self.clauses.learnt.len() >= 0x3fff_ffff {
+            return Err(AllocError);
+        }
+        self.clauses.renumber(alloc, before)?;
         Ok(())
     }
 
     /// Begins a question under assumptions, with room for their variables and those of the clauses added since the last
     /// one. It answers how many clauses were entered before.
     pub fn begin(&mut self, alloc: Global, assume: &[Lit]) -> Result<u32, AllocError>
-        requires { IsResting self.old }
+        requires { IsResting (length self.old.clauses.given) self.old }
         ensures ready { OnOk result (IsReady self.new) }
         ensures entered { IfOk result (λ n. (n ≤ length self.new.clauses.given) × Guards n self.new.followed self.new) }
         ensures root { OnOk result (self.new.trail.level ≡ 0) }
         ensures assumed { OnOk result (self.new.clauses.assumed ≡ assume.now) }
+        ensures learnt { OnOk result (self.new.clauses.learnt ≡ self.old.clauses.learnt) }
         ensures given { self.new.clauses.given ≡ self.old.clauses.given }
     {
         let entered = self.watches.given.len();
@@ -120,10 +139,21 @@ impl Search {
             return Err(AllocError);
         }
         self.clauses.assumed = Items::from_slice(alloc, assume)?;
-        self.clauses.renumber(alloc, entered)?;
         let least = room_for(assume, self.trail.levels.len());
         let room = room_from(&self.clauses.given, entered, least);
         self.widen(alloc, room)?;
         Ok(entered as u32)
+    }
+
+    /// Leaves the clauses given from an index on to the next question, which begins with them.
+    pub fn leave_from(&mut self, index: u32)
+        requires ready { IsReady self.old }
+        requires root { self.old.trail.level ≡ 0 }
+        requires within { index < length self.old.clauses.given }
+        requires guards { Guards index self.old.followed self.old }
+        ensures resting { IsResting (length self.new.clauses.given) self.new }
+        ensures clauses { self.new.clauses ≡ self.old.clauses }
+    {
+        self.watches.keep_given(index as usize);
     }
 }

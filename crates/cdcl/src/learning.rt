@@ -9,6 +9,7 @@ ghost use Rattle.cdcl.specs.Tidy.{AreApart, AreTidy, units};
 ghost use Rattle.cdcl.specs.Searches.{AreLearnt, IsReady, ContainsNone, OneMore, Appends};
 ghost use Rattle.cdcl.specs.Guards.{Guards, GuardsBut};
 ghost use Rattle.cdcl.specs.Fits.{Fits};
+ghost use Rattle.cdcl.specs.Stores.{over_all};
 
 use crate::analysis::{Lesson, analyze};
 use crate::clauses::{ClauseId, Clauses};
@@ -98,6 +99,7 @@ impl Clauses {
     pub fn renumber(&mut self, alloc: Global, before: usize) -> Result<(), AllocError>
         requires before { before ≤ length self.old.given }
         requires few { length self.old.given + length self.old.learnt < 2 ^ 32 }
+        ensures learnt { OnOk result (self.new.learnt ≡ over_all self.old.given before self.old.learnt) }
         ensures valid { OnOk result (AreValid (take before self.old.given) self.old.learnt → AreValid self.new.given self.new.learnt) }
         ensures clauses { OnOk result (map clause_of self.new.learnt ≡ map clause_of self.old.learnt) }
         ensures given { self.new.given ≡ self.old.given }
@@ -190,7 +192,7 @@ impl Search {
             return Err(AllocError);
         }
         let lesson = analyze(alloc, &self.clauses, &self.trail, conflict, 1)?;
-        self.choice.mark_all(&self.clauses, &lesson.hints);
+        self.count_conflict(&lesson.hints);
         self.go_back(lesson.level);
         self.keep(alloc, &lesson)?;
         self.assert_last(&lesson.clause)

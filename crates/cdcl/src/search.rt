@@ -3,19 +3,21 @@ ghost use Rattle.cnf_core.specs.Literal.{Literal, code_of};
 ghost use Rattle.cdcl.specs.Sources.{named};
 ghost use Rattle.cdcl.specs.Known.{known, IsOpen, open_count};
 ghost use Rattle.cdcl.specs.Trails.{IsNext as IsNextEntry, IsConflict, IsLevel, IsCut};
-ghost use Rattle.cdcl.specs.Searches.{IsSearch, IsSearching, IsReady, Goes, Says, IsNext, IfFalsified, IfConflict};
+ghost use Rattle.cdcl.specs.Searches.{IsSearch, IsSearching, IsReady, Goes, Says, AllTrue, IfFalsified, IfConflict};
+ghost use Rattle.cdcl.specs.Tallies.{occurs, AreMarked};
 ghost use Rattle.cdcl.specs.Guards.{Guards, AreSound, left_of, IsWatch, InTurn, Moved, Visited, IsAtRest};
 ghost use Rattle.cdcl.specs.declared.clauses.ClauseId.TheVariants.{Given};
 ghost use Rattle.cdcl.specs.declared.watching.Visit.TheVariants.{Stays};
 
 use crate::assigned::{Assigned, Entry, Reading};
+use crate::chooser::Chooser;
 use crate::choosing::Choice;
 use crate::clauses::{ClauseId, Clauses};
 use crate::watching::{Pair, Visit, Watch, Watches};
 use cnf_core::Lit;
 use std::alloc::{AllocError, Global};
 
-/// The clauses of a question, the literals taken as true, and the choice of the next. The literals of level 0 and the
+/// The clauses of a question, the literals taken as true, and the signs of the next. The literals of level 0 and the
 /// clauses learnt stay from question to question.
 #[derive(Drop)]
 pub struct Search {
@@ -25,15 +27,6 @@ pub struct Search {
     pub watches: Watches,
     /// How many entries of the trail have been followed.
     pub followed: usize,
-}
-
-/// What a search goes on with where propagation has ended.
-#[derive(Clone, Copy)]
-pub enum Next {
-    Decide(Lit),
-    Conflict(ClauseId),
-    /// Each clause given has a true literal.
-    Satisfied,
 }
 
 /// What a search comes to.
@@ -123,6 +116,7 @@ impl Search {
         ensures goes { OnOk result (Goes self.old self.new) }
         ensures clauses { self.new.clauses ≡ self.old.clauses }
         ensures guards { IfOk result (λ b. b ≡ false → Guards (index + 1) self.new.followed self.new) }
+        ensures left { IfOk result (λ b. b ≡ true → Guards index self.new.followed self.new) }
         ensures conflict { IfOk result (λ b. b ≡ true → IsConflict 1 self.new.clauses self.new.trail.entries.items (Given index)) }
     {
         let id = ClauseId::Given(index);
@@ -137,8 +131,8 @@ impl Search {
         }
     }
 
-    /// Reads the clauses given from an index on, up to a false one.
-    pub fn enter_given(&mut self, start: u32) -> Result<Option<ClauseId>, AllocError>
+    /// Reads the clauses given from an index on, up to a false one, whose index it answers.
+    pub fn enter_given(&mut self, start: u32) -> Result<Option<u32>, AllocError>
         requires ready { IsReady self.old }
         requires start { start ≤ length self.old.clauses.given }
         requires guards { Guards start self.old.followed self.old }
@@ -147,11 +141,12 @@ impl Search {
         ensures goes { OnOk result (Goes self.old self.new) }
         ensures clauses { self.new.clauses ≡ self.old.clauses }
         ensures guards { IfOk result (λ o. o ≡ None → Guards (length self.new.clauses.given) self.new.followed self.new) }
-        ensures conflict { IfOk result (λ o. IfSome o (λ id. IsConflict 1 self.new.clauses self.new.trail.entries.items id)) }
+        ensures left { IfOk result (λ o. IfSome o (λ i. (i < length self.new.clauses.given) × Guards i self.new.followed self.new)) }
+        ensures conflict { IfOk result (λ o. IfSome o (λ i. IsConflict 1 self.new.clauses self.new.trail.entries.items (Given i))) }
     {
         for index in start..self.clauses.given.len() as u32 {
             if self.enter(index)? {
-                return Ok(Some(ClauseId::Given(index)));
+                return Ok(Some(index));
             }
         }
         Ok(None)
@@ -301,37 +296,29 @@ impl Search {
         Ok(None)
     }
 
-    /// The first clause given that has no true literal, by what it says.
-    fn weigh(&self) -> Next
-        requires { IsReady self.now }
-        ensures { IsNext self.now result }
+    /// The literal to decide next, or none where each clause given has a true literal.
+    pub fn next<C: Chooser>(&self, chooser: &C) -> Option<Lit>
+        requires ready { IsReady self.now }
+        requires guards { Guards (length self.now.clauses.given) self.now.followed self.now }
+        requires whole { self.now.followed ≡ length self.now.trail.entries.items }
+        ensures open { IfSome result (λ l. (l.variable < vec_len self.now.trail.levels) × IsOpen (known self.now.trail.taken.items) l) }
+        ensures none { result ≡ None → AllTrue self.now }
     {
-        for index in 0..self.clauses.given.len() {
-            match self.trail.read(self.clauses.given.clause(index)) {
-                Reading::Satisfied(_) => {}
-                Reading::Falsified => return Next::Conflict(ClauseId::Given(index as u32)),
-                Reading::Implied(literal) => return Next::Decide(literal),
-                Reading::Undecided(literal, _) => return Next::Decide(literal),
-            }
-        }
-        Next::Satisfied
+        self.choice.pick(chooser, &self.trail)
     }
 
-    /// A literal to decide; where each variable has a value, what the clauses given say.
-    pub fn next(&mut self) -> Next
-        requires { IsReady self.old }
-        ensures ready { IsReady self.new }
-        ensures next { IsNext self.new result }
+    /// Tally a conflict for the variables of the clauses that had a part in it.
+    pub fn count_conflict(&mut self, ids: &[ClauseId])
+        ensures ready { IsReady self.old → IsReady self.new }
         ensures guards { (n : ℕ) → Guards (length self.old.clauses.given) n self.old → Guards (length self.new.clauses.given) n self.new }
-        ensures trail { self.new.trail ≡ self.old.trail }
-        ensures clauses { self.new.clauses ≡ self.old.clauses }
-        ensures watches { self.new.watches ≡ self.old.watches }
+        ensures entries { self.new.trail.entries ≡ self.old.trail.entries }
+        ensures levels { self.new.trail.levels ≡ self.old.trail.levels }
+        ensures level { self.new.trail.level ≡ self.old.trail.level }
         ensures followed { self.new.followed ≡ self.old.followed }
+        ensures clauses { self.new.clauses ≡ self.old.clauses }
+        ensures marks { AreMarked (occurs self.old.clauses ids.now) self.old.trail.scores.marks self.new.trail.scores.marks }
     {
-        match self.choice.pick(&self.trail) {
-            Some(literal) => Next::Decide(literal),
-            None => self.weigh(),
-        }
+        self.trail.scores.count_conflict(&self.clauses, ids);
     }
 
     /// Takes an open literal as true at a level of its own. It fails where the level would have no number below 2^32.
@@ -370,7 +357,7 @@ impl Search {
         ensures whole { level < self.old.trail.level → self.new.followed ≡ length self.new.trail.entries.items }
         ensures clauses { self.new.clauses ≡ self.old.clauses }
     {
-        self.trail.backjump(level, &mut self.choice.order);
+        self.trail.backjump(level);
         self.followed = self.followed.min(self.trail.entries.len());
     }
 }

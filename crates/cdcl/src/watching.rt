@@ -93,6 +93,17 @@ impl Watches {
         Ok(())
     }
 
+    /// Keeps the places of so many of the clauses given.
+    pub fn keep_given(&mut self, count: usize)
+        requires { count ≤ vec_len self.old.given }
+        ensures count { vec_len self.new.given ≡ count }
+        ensures given { (i : ℕ) → i < count → slice_get self.new.given.items i ≡ slice_get self.old.given.items i }
+        ensures lists { self.new.lists ≡ self.old.lists }
+        ensures learnt { self.new.learnt ≡ self.old.learnt }
+    {
+        self.given.truncate(count);
+    }
+
     /// A clause waits at a literal.
     fn push(&mut self, literal: Lit, watch: Watch) -> Result<(), AllocError>
         requires { code_of literal < vec_len self.old.lists }

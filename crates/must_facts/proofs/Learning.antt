@@ -10,15 +10,48 @@ use Rattle.plain_data.specs.Worlds.{WorldTables}
 use Rattle.log_text.specs.Shown.{Holds}
 use Rattle.proof_check.specs.Steps.{Step}
 use Rattle.proof_check.specs.declared.steps.Trail.{Trail}
+use Rattle.cdcl.specs.Stores.{KeepsMore}
+use Rattle.log_expr.specs.Tours.{tour_of}
+use Rattle.query_core.specs.declared.query.Query.{Query}
+use Rattle.query_core.specs.Claims.{GoesOn, with_kept}
 use Rattle.query_core.specs.Replies.{Spends}
 use Rattle.diagnoses.specs.declared.verdict.Open.{Open}
 use Rattle.diagnoses.specs.declared.verdict.Open.TheVariants as side
 use Rattle.diagnoses.specs.declared.verdict.Verdict.{Verdict}
 use Rattle.diagnoses.specs.declared.verdict.Verdict.TheVariants.{Must, MustNot, May, Unknown}
 use Rattle.must_facts.specs.declared.known.Known.{Known}
-use Rattle.must_facts.specs.Verdicts.{Matter, AreVerdicts, FailsOn, FitsOn, HoldsOn, IsMust, IsMustNot, IsUnknown, IsVerdict, LeavesOpen, OfWorld, named_after, world_at}
-use Rattle.must_facts.specs.Knowing.{Answers, FindsWorld, IsKnown, Learns, Weighs, WeighsAll}
+use Rattle.must_facts.specs.Verdicts.{Matter, AreVerdicts, FailsOn, FitsOn, HoldsOn, IsMust, IsMustNot, IsUnknown, IsVerdict, LeavesOpen, OfWorld, kept_after, named_after, world_at}
+use Rattle.must_facts.specs.declared.inquiry.Inquiry.{Inquiry}
+use Rattle.must_facts.specs.Inquiries.{IsQueryOf, matter_of}
+use Rattle.must_facts.specs.Knowing.{Answers, FindsWorld, IsKnown, Learns, Weighs, WeighsAll, kept_over}
 use Rattle.must_facts.proofs.Lists.{all_at, all_of_made, all_one, at_most, get_end, length_end, longer, made_at, map_append, take_left, take_whole}
+
+-- ---- steps are kept
+
+pub keeps_both : (a b c : List Step) → KeepsMore a b → KeepsMore b c → KeepsMore a c
+keeps_both a b c first second = record {
+  more = first.more ++ second.more;
+  kept = second.kept ∙ ap (λ l. l ++ second.more) first.kept ∙ append_assoc a first.more second.more;
+}
+
+-- ---- queries go on
+
+pub goes_same : (q : Query) → GoesOn q q
+goes_same q = record { same = refl; whole = λ h. h; query = λ t fs h. h }
+
+pub goes_both : (a b c : Query) → GoesOn a b → GoesOn b c → GoesOn a c
+goes_both a b c first second = record {
+  same = second.same ∙ ap (λ q. with_kept q c.solver.kept) first.same;
+  whole = λ h. second.whole (first.whole h);
+  query = λ t fs h. second.query t fs (first.query t fs h);
+}
+
+-- the same is asked of it
+pub query_goes : (x : Inquiry) (a b : Query) → GoesOn a b → IsQueryOf x a → IsQueryOf x b
+query_goes x a b g h = record { ends = h.ends; is = g.query (tour_of x.program.now.core x.log.now x.bounds.now h.ends) x.facts.now h.is }
+
+pub matter_goes : (x : Inquiry) (a b : Query) → GoesOn a b → matter_of x b ≡ matter_of x a
+matter_goes x a b g = ap (matter_of x) g.same
 
 -- ---- worlds are learnt
 
@@ -113,15 +146,17 @@ found_answers m x f wanted (suc i) known h =
 
 -- ---- verdicts by what is known
 
-pub weighs_found : (m : Matter) (k : ℕ) (f : Fact) (x : Known) (i j : ℕ) → IsKnown m x → FindsWorld true m.log f x (Some i)
-    → FindsWorld false m.log f x (Some j) → Weighs m k f x x (May i j)
-weighs_found m k f x i j known has lacks = record {
+pub weighs_found : (m : Matter) (k : ℕ) (f : Fact) (x : Known) (ss : List Step) (i j : ℕ) → IsKnown m x
+    → FindsWorld true m.log f x (Some i) → FindsWorld false m.log f x (Some j) → Weighs m k f x x ss ss (May i j)
+weighs_found m k f x ss i j known has lacks = record {
   known = known;
   learns = learns_none x;
-  is = λ named h. record { has = found_answers m x f true i known has; lacks = found_answers m x f false j known lacks };
+  is = λ named kept h among. record { has = found_answers m x f true i known has; lacks = found_answers m x f false j known lacks };
+  stays = λ kept among. among;
 }
 
-module _ (m : Matter) (k : ℕ) (f : Fact) (old new : Known) (w : WorldTables) (known : IsKnown m old)
+module _ (m : Matter) (k : ℕ) (f : Fact) (old new : Known) (before behind : List Step) (more : KeepsMore before behind)
+    (w : WorldTables) (known : IsKnown m old)
     (worlds : new.worlds ≡ old.worlds ++ w ∷ []) (runs : new.runs ≡ old.runs ++ m.run w ∷ []) (fits : FitsOn m w) where
   first_still : (wanted : Bool) → All (Answers wanted m.log f) old.runs
       → OfWorld (λ w. FitsOn m w × Answers wanted m.log f (m.run w)) (world_at new.worlds 1)
@@ -139,115 +174,144 @@ module _ (m : Matter) (k : ℕ) (f : Fact) (old new : Known) (w : WorldTables) (
       (subst (λ ws. OfWorld P (world_at ws (suc (length old.worlds)))) (sym worlds) (numbered_end P old.worlds w (fits, answers)))
 
   pub weighs_lacking : (n : ℕ) → n ≡ length new.worlds → All (Answers true m.log f) old.runs → FailsOn m f w
-      → Weighs m k f old new (May 1 n)
+      → Weighs m k f old new before behind (May 1 n)
   weighs_lacking n count all fails = record {
     known = known_more m old new w known worlds runs fits;
     learns = learns_one old new w worlds;
-    is = λ named h. record { has = first_still true all; lacks = last_answers false n count fails };
+    is = λ named kept h among. record { has = first_still true all; lacks = last_answers false n count fails };
+    stays = λ kept among. keeps_both kept before behind among more;
   }
 
   pub weighs_having : (n : ℕ) → n ≡ length new.worlds → All (Answers false m.log f) old.runs → HoldsOn m f w
-      → Weighs m k f old new (May n 1)
+      → Weighs m k f old new before behind (May n 1)
   weighs_having n count all holds = record {
     known = known_more m old new w known worlds runs fits;
     learns = learns_one old new w worlds;
-    is = λ named h. record { has = last_answers true n count holds; lacks = first_still false all };
+    is = λ named kept h among. record { has = last_answers true n count holds; lacks = first_still false all };
+    stays = λ kept among. keeps_both kept before behind among more;
   }
 
-pub weighs_must : (m : Matter) (k : ℕ) (f : Fact) (x : Known) (steps : List Step) → IsKnown m x → IsMust m k f steps
-    → Weighs m k f x x (Must steps)
-weighs_must m k f x steps known must = record { known = known; learns = learns_none x; is = λ named h. must }
+pub weighs_must : (m : Matter) (k : ℕ) (f : Fact) (x : Known) (before behind : List Step) (steps : List Step)
+    → KeepsMore before behind → IsKnown m x → IsMust m k f steps → Weighs m k f x x before behind (Must steps)
+weighs_must m k f x before behind steps more known must = record {
+  known = known;
+  learns = learns_none x;
+  is = λ named kept h among. must;
+  stays = λ kept among. keeps_both kept before behind among more;
+}
 
-pub weighs_mustnot : (m : Matter) (k : ℕ) (f : Fact) (x : Known) (steps : List Step) → IsKnown m x → IsMustNot m k f steps
-    → Weighs m k f x x (MustNot steps)
-weighs_mustnot m k f x steps known mustnot = record { known = known; learns = learns_none x; is = λ named h. mustnot }
+pub weighs_mustnot : (m : Matter) (k : ℕ) (f : Fact) (x : Known) (before behind : List Step) (steps : List Step)
+    → KeepsMore before behind → IsKnown m x → IsMustNot m k f steps → Weighs m k f x x before behind (MustNot steps)
+weighs_mustnot m k f x before behind steps more known mustnot = record {
+  known = known;
+  learns = learns_none x;
+  is = λ named kept h among. mustnot;
+  stays = λ kept among. keeps_both kept before behind among more;
+}
 
 taken : (P : WorldTables → Type 0) (ws : List WorldTables) (n : ℕ) → n ≡ length ws → All P ws → All P (take n ws)
 taken P ws n e all = subst (All P) (sym (ap (λ k. take k ws) e ∙ take_whole ws)) all
 
-module _ (m : Matter) (k : ℕ) (f : Fact) (x : Known) (n : ℕ) (trail : Trail) (known : IsKnown m x)
-    (count : n ≡ length x.worlds) (spent : Spends m.query m.conflicts trail) where
-  unknown : (o : Open) → All (λ w. LeavesOpen m f o w) x.worlds → (named : ℕ) → named ≤ length x.worlds
-      → IsUnknown m x.worlds named f o n trail
-  unknown o all named h = record {
+module _ (m : Matter) (k : ℕ) (f : Fact) (x : Known) (before behind : List Step) (n : ℕ) (trail : Trail) (known : IsKnown m x)
+    (count : n ≡ length x.worlds) (spent : Spends m.query m.conflicts trail) (begins : trail.kept ≡ before)
+    (ends : behind ≡ trail.kept ++ trail.steps) where
+  unknown : (o : Open) → All (λ w. LeavesOpen m f o w) x.worlds → (named : ℕ) (kept : List Step) → named ≤ length x.worlds
+      → KeepsMore kept before → IsUnknown m x.worlds named kept f o n trail
+  unknown o all named kept h among = record {
     some = subst (λ c. 1 ≤ c) (sym count) known.some;
     within = omega (arith, count);
     enough = omega (arith, count, h);
     unanswered = taken (λ w. LeavesOpen m f o w) x.worlds n count all;
     spent = spent;
+    keeps = subst (KeepsMore kept) (sym begins) among;
   }
 
-  pub weighs_open_lacking : All (Answers true m.log f) x.runs → Weighs m k f x x (Unknown side.Lacking n trail)
+  -- the trail's steps are kept
+  spent_stays : (kept : List Step) → KeepsMore kept before → KeepsMore (trail.kept ++ trail.steps) behind
+  spent_stays kept among = record { more = []; kept = ends ∙ sym (append-nil (trail.kept ++ trail.steps)) }
+
+  pub weighs_open_lacking : All (Answers true m.log f) x.runs → Weighs m k f x x before behind (Unknown side.Lacking n trail)
   weighs_open_lacking all = record {
     known = known;
     learns = learns_none x;
-    is = λ named h. unknown side.Lacking (all_answer m x f true known all) named h;
+    is = λ named kept h among. unknown side.Lacking (all_answer m x f true known all) named kept h among;
+    stays = spent_stays;
   }
 
-  pub weighs_open_having : All (Answers false m.log f) x.runs → Weighs m k f x x (Unknown side.Having n trail)
+  pub weighs_open_having : All (Answers false m.log f) x.runs → Weighs m k f x x before behind (Unknown side.Having n trail)
   weighs_open_having all = record {
     known = known;
     learns = learns_none x;
-    is = λ named h. unknown side.Having (all_answer m x f false known all) named h;
+    is = λ named kept h among. unknown side.Having (all_answer m x f false known all) named kept h among;
+    stays = spent_stays;
   }
 
 -- ---- verdicts over more worlds
 
-is_left : (m : Matter) (ws more : List WorldTables) (named k : ℕ) (f : Fact) (v : Verdict) → IsVerdict m ws named k f v
-    → IsVerdict m (ws ++ more) named k f v
-is_left m ws more named k f (Must steps) h = h
-is_left m ws more named k f (MustNot steps) h = h
-is_left m ws more named k f (May i j) h = record {
+is_left : (m : Matter) (ws more : List WorldTables) (named : ℕ) (kept : List Step) (k : ℕ) (f : Fact) (v : Verdict)
+    → IsVerdict m ws named kept k f v → IsVerdict m (ws ++ more) named kept k f v
+is_left m ws more named kept k f (Must steps) h = h
+is_left m ws more named kept k f (MustNot steps) h = h
+is_left m ws more named kept k f (May i j) h = record {
   has = numbered_left (λ w. FitsOn m w × HoldsOn m f w) ws more i h.has;
   lacks = numbered_left (λ w. FitsOn m w × FailsOn m f w) ws more j h.lacks;
 }
-is_left m ws more named k f (Unknown o n trail) h = record {
+is_left m ws more named kept k f (Unknown o n trail) h = record {
   some = h.some;
   within = omega (arith, h.within, longer ws more);
   enough = h.enough;
   unanswered = subst (All (λ w. LeavesOpen m f o w)) (sym (take_left ws more n h.within)) h.unanswered;
   spent = h.spent;
+  keeps = h.keeps;
 }
 
-after_within : (m : Matter) (ws : List WorldTables) (named k : ℕ) (f : Fact) (v : Verdict) → named ≤ length ws
-    → IsVerdict m ws named k f v → named_after named v ≤ length ws
-after_within m ws named k f (Must steps) h is = h
-after_within m ws named k f (MustNot steps) h is = h
-after_within m ws named k f (May i j) h is =
+after_within : (m : Matter) (ws : List WorldTables) (named : ℕ) (kept : List Step) (k : ℕ) (f : Fact) (v : Verdict)
+    → named ≤ length ws → IsVerdict m ws named kept k f v → named_after named v ≤ length ws
+after_within m ws named kept k f (Must steps) h is = h
+after_within m ws named kept k f (MustNot steps) h is = h
+after_within m ws named kept k f (May i j) h is =
     at_most named (max i j) (length ws) h (at_most i j (length ws)
     (numbered_within (λ w. FitsOn m w × HoldsOn m f w) ws i is.has)
     (numbered_within (λ w. FitsOn m w × FailsOn m f w) ws j is.lacks))
-after_within m ws named k f (Unknown o n trail) h is = h
+after_within m ws named kept k f (Unknown o n trail) h is = h
 
 -- One verdict more, at the end: it is so over more worlds, whatever numbers of fewer worlds are named.
-are_more : (m : Matter) (ws more : List WorldTables) (named k : ℕ) (fs : List Fact) (f : Fact) (vs : List Verdict) (v : Verdict)
-    → named ≤ length ws → AreVerdicts m ws named k fs vs
-    → ((n : ℕ) → n ≤ length ws → IsVerdict m (ws ++ more) n (length fs + k) f v)
-    → AreVerdicts m (ws ++ more) named k (fs ++ f ∷ []) (vs ++ v ∷ [])
-are_more m ws more named k [] f [] v h are is =
-    let at : 0 + k ≡ k = omega arith in (subst (λ p. IsVerdict m (ws ++ more) named p f v) at (is named h), tt)
-are_more m ws more named k [] f (u ∷ us) v h are is = absurd are
-are_more m ws more named k (g ∷ gs) f [] v h are is = absurd are
-are_more m ws more named k (g ∷ gs) f (u ∷ us) v h are is =
+are_more : (m : Matter) (ws more : List WorldTables) (named : ℕ) (kept : List Step) (k : ℕ) (fs : List Fact) (f : Fact)
+    (vs : List Verdict) (v : Verdict)
+    → named ≤ length ws → AreVerdicts m ws named kept k fs vs
+    → ((n : ℕ) → n ≤ length ws → IsVerdict m (ws ++ more) n (kept_over kept vs) (length fs + k) f v)
+    → AreVerdicts m (ws ++ more) named kept k (fs ++ f ∷ []) (vs ++ v ∷ [])
+are_more m ws more named kept k [] f [] v h are is =
+    let at : 0 + k ≡ k = omega arith in (subst (λ p. IsVerdict m (ws ++ more) named kept p f v) at (is named h), tt)
+are_more m ws more named kept k [] f (u ∷ us) v h are is = absurd are
+are_more m ws more named kept k (g ∷ gs) f [] v h are is = absurd are
+are_more m ws more named kept k (g ∷ gs) f (u ∷ us) v h are is =
     let at : suc (length gs) + k ≡ length gs + suc k = omega arith in (
-      is_left m ws more named k g u are.0,
-      are_more m ws more (named_after named u) (suc k) gs f us v (after_within m ws named k g u h are.0) are.1
-          (λ n below. subst (λ p. IsVerdict m (ws ++ more) n p f v) at (is n below)),
+      is_left m ws more named kept k g u are.0,
+      are_more m ws more (named_after named u) (kept_after kept u) (suc k) gs f us v (after_within m ws named kept k g u h are.0) are.1
+          (λ n below. subst (λ p. IsVerdict m (ws ++ more) n (kept_over (kept_after kept u) us) p f v) at (is n below)),
     )
 
-pub weighs_none : (m : Matter) (x : Known) → IsKnown m x → WeighsAll m [] x []
-weighs_none m x known = record { known = known; are = tt }
+-- the steps that are kept behind one verdict more
+kept_more : (kept : List Step) (vs : List Verdict) (v : Verdict) → kept_over kept (vs ++ v ∷ []) ≡ kept_after (kept_over kept vs) v
+kept_more kept [] v = refl
+kept_more kept (u ∷ us) v = kept_more (kept_after kept u) us v
 
-pub weighs_more : (m : Matter) (old new : Known) (fs : List Fact) (f : Fact) (vs : List Verdict) (v : Verdict)
-    → WeighsAll m fs old vs → Weighs m (suc (length fs)) f old new v → WeighsAll m (fs ++ f ∷ []) new (vs ++ v ∷ [])
-weighs_more m old new fs f vs v all one = record {
+pub weighs_none : (m : Matter) (x : Known) (ss : List Step) → IsKnown m x → WeighsAll m [] x ss []
+weighs_none m x ss known = record { known = known; are = tt; stays = record { more = ss; kept = refl } }
+
+pub weighs_more : (m : Matter) (old new : Known) (before behind : List Step) (fs : List Fact) (f : Fact) (vs : List Verdict)
+    (v : Verdict) → WeighsAll m fs old before vs → Weighs m (suc (length fs)) f old new before behind v
+    → WeighsAll m (fs ++ f ∷ []) new behind (vs ++ v ∷ [])
+weighs_more m old new before behind fs f vs v all one = record {
   known = one.known;
   are =
       let at : suc (length fs) ≡ length fs + 1 = omega arith in
-      subst (λ ws. AreVerdicts m ws 0 1 (fs ++ f ∷ []) (vs ++ v ∷ [])) (sym one.learns.worlds)
-      (are_more m old.worlds one.learns.more 0 1 fs f vs v (omega arith) all.are
-      (λ n below. subst (λ ws. IsVerdict m ws n (length fs + 1) f v) one.learns.worlds
-      (subst (λ p. IsVerdict m new.worlds n p f v) at (one.is n below))));
+      subst (λ ws. AreVerdicts m ws 0 [] 1 (fs ++ f ∷ []) (vs ++ v ∷ [])) (sym one.learns.worlds)
+      (are_more m old.worlds one.learns.more 0 [] 1 fs f vs v (omega arith) all.are
+      (λ n below. subst (λ ws. IsVerdict m ws n (kept_over [] vs) (length fs + 1) f v) one.learns.worlds
+      (subst (λ p. IsVerdict m new.worlds n (kept_over [] vs) p f v) at (one.is n (kept_over [] vs) below all.stays))));
+  stays = subst (λ ss. KeepsMore ss behind) (sym (kept_more [] vs v)) (one.stays (kept_over [] vs) all.stays);
 }
 
 -- ---- what a test of a run says

@@ -1,13 +1,15 @@
 -- Worlds that are known while facts are weighed.
-use Rattle.std.specs.Prelude.{◌≡◌, ◌≤◌, ◌++◌, ℕ, List, length, map, slice_get, zero, suc, Bool, true, false, not, Option, Some, None}
+use Rattle.std.specs.Prelude.{◌≡◌, ◌≤◌, ◌++◌, ℕ, List, [], ◌∷◌, length, map, slice_get, zero, suc, Bool, true, false, not, Option, Some, None}
 use Rattle.std.specs.List.{All}
 use Rattle.plain_data.specs.declared.fact.Fact.{Fact}
 use Rattle.plain_data.specs.declared.run.Run.{Run}
 use Rattle.plain_data.specs.Worlds.{WorldTables}
 use Rattle.log_text.specs.Shown.{Holds}
+use Rattle.proof_check.specs.Steps.{Step}
+use Rattle.cdcl.specs.Stores.{KeepsMore}
 use Rattle.diagnoses.specs.declared.verdict.Verdict.{Verdict}
 use Rattle.must_facts.specs.declared.known.Known.{Known}
-use Rattle.must_facts.specs.Verdicts.{Matter, FitsOn, IsVerdict, AreVerdicts}
+use Rattle.must_facts.specs.Verdicts.{Matter, FitsOn, IsVerdict, AreVerdicts, kept_after}
 
 -- at least one world, each with its run, which fits
 pub record IsKnown (m : Matter) (x : Known) : Type 0 where
@@ -20,12 +22,15 @@ pub record Learns (old new : Known) : Type 0 where
   pub more : List WorldTables
   pub worlds : new.worlds ≡ old.worlds ++ more
 
--- The verdict on the fact of a number, over the worlds that are known behind it; whatever worlds are named before it
--- were known before it.
-pub record Weighs (m : Matter) (k : ℕ) (f : Fact) (old new : Known) (v : Verdict) : Type 0 where
-  pub known : IsKnown m new
-  pub learns : Learns old new
-  pub is : (named : ℕ) → named ≤ length old.worlds → IsVerdict m new.worlds named k f v
+-- The verdict on the fact of a number, over the worlds that are known behind it, where these steps are kept before and
+-- behind it; whatever worlds are named before it were known before it, and whatever steps were spent were kept.
+pub record Weighs (m : Matter) (k : ℕ) (f : Fact) (old new : Known) (before behind : List Step) (v : Verdict) : Type 0
+  where
+    pub known : IsKnown m new
+    pub learns : Learns old new
+    pub is : (named : ℕ) (kept : List Step) → named ≤ length old.worlds → KeepsMore kept before
+        → IsVerdict m new.worlds named kept k f v
+    pub stays : (kept : List Step) → KeepsMore kept before → KeepsMore (kept_after kept v) behind
 
 -- ---- searching
 
@@ -53,7 +58,13 @@ FindsWorld wanted log f x (Some (suc i)) = AnswersAt wanted log f x.runs i
 
 -- ---- all facts
 
--- each fact has its verdict, over the worlds that are known in the end
-pub record WeighsAll (m : Matter) (fs : List Fact) (x : Known) (vs : List Verdict) : Type 0 where
+-- the steps that stand among those that are kept, after verdicts
+abbrev pub kept_over : List Step → List Verdict → List Step
+kept_over kept [] = kept
+kept_over kept (v ∷ vs) = kept_over (kept_after kept v) vs
+
+-- each fact has its verdict, over the worlds that are known in the end, where these steps are kept
+pub record WeighsAll (m : Matter) (fs : List Fact) (x : Known) (behind : List Step) (vs : List Verdict) : Type 0 where
   pub known : IsKnown m x
-  pub are : AreVerdicts m x.worlds 0 1 fs vs
+  pub are : AreVerdicts m x.worlds 0 [] 1 fs vs
+  pub stays : KeepsMore (kept_over [] vs) behind

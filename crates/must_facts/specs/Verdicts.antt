@@ -1,5 +1,5 @@
 -- What a diagnosis says of the runs of a program in all worlds.
-use Rattle.std.specs.Prelude.{◌≤◌, ℕ, zero, suc, List, [], ◌∷◌, length, take, max, slice_get, Option, Some, None}
+use Rattle.std.specs.Prelude.{◌≤◌, ℕ, zero, suc, List, [], ◌∷◌, ◌++◌, length, take, max, slice_get, Option, Some, None}
 use Rattle.std.specs.List.{All}
 use Rattle.plain_data.specs.declared.fact.Fact.{Fact}
 use Rattle.plain_data.specs.declared.run.Run.{Run}
@@ -8,6 +8,7 @@ use Rattle.log_text.specs.Shown.{Fits, Holds}
 use Rattle.proof_check.specs.Steps.{Step}
 use Rattle.proof_check.specs.declared.steps.Trail.{Trail}
 use Rattle.proof_check.specs.Refutations.{IsRefutation}
+use Rattle.cdcl.specs.Stores.{KeepsMore}
 use Rattle.query_core.specs.declared.query.Query.{Query}
 use Rattle.query_core.specs.declared.target.Target.TheVariants.{Fits as Fitting, Having, Lacking}
 use Rattle.query_core.specs.Claims.{claim}
@@ -71,33 +72,40 @@ LeavesOpen m f side.Having w = FailsOn m f w
 LeavesOpen m f side.Lacking w = HoldsOn m f w
 
 -- None of so many worlds, the first of the list, answers the question, and neither did as many conflicts as were
--- allowed. They are as many as the greatest number of a world that an earlier verdict names, and one at least.
-pub record IsUnknown (m : Matter) (ws : List WorldTables) (named : ℕ) (f : Fact) (o : Open) (known : ℕ) (trail : Trail)
-    : Type 0 where
+-- allowed. They are as many as the greatest number of a world that an earlier verdict names, and one at least. The steps
+-- that earlier questions spent stand among the trail's kept steps, so that no step serves two verdicts.
+pub record IsUnknown (m : Matter) (ws : List WorldTables) (named : ℕ) (kept : List Step) (f : Fact) (o : Open) (known : ℕ)
+    (trail : Trail) : Type 0 where
   pub some : 1 ≤ known
   pub within : known ≤ length ws
   pub enough : named ≤ known
   pub unanswered : All (λ w. LeavesOpen m f o w) (take known ws)
   pub spent : Spends m.query m.conflicts trail
+  pub keeps : KeepsMore kept trail.kept
 
-abbrev pub IsVerdict : Matter → List WorldTables → ℕ → ℕ → Fact → Verdict → Type 0
-IsVerdict m ws named k f (Must steps) = IsMust m k f steps
-IsVerdict m ws named k f (MustNot steps) = IsMustNot m k f steps
-IsVerdict m ws named k f (May having lacking) = IsMay m ws f having lacking
-IsVerdict m ws named k f (Unknown o known trail) = IsUnknown m ws named f o known trail
+abbrev pub IsVerdict : Matter → List WorldTables → ℕ → List Step → ℕ → Fact → Verdict → Type 0
+IsVerdict m ws named kept k f (Must steps) = IsMust m k f steps
+IsVerdict m ws named kept k f (MustNot steps) = IsMustNot m k f steps
+IsVerdict m ws named kept k f (May having lacking) = IsMay m ws f having lacking
+IsVerdict m ws named kept k f (Unknown o known trail) = IsUnknown m ws named kept f o known trail
 
 -- the greatest number of a world that is named, after one verdict more
 abbrev pub named_after : ℕ → Verdict → ℕ
 named_after named (May having lacking) = max named (max having lacking)
 named_after named _ = named
 
+-- the steps that stand among those that are kept, after one verdict more
+abbrev pub kept_after : List Step → Verdict → List Step
+kept_after kept (Unknown o known trail) = trail.kept ++ trail.steps
+kept_after kept _ = kept
+
 -- one for each fact, in order, from this number on
-abbrev pub AreVerdicts : Matter → List WorldTables → ℕ → ℕ → List Fact → List Verdict → Type 0
-AreVerdicts m ws named k [] [] = Unit {0}
-AreVerdicts m ws named k [] (v ∷ vs) = ⊥
-AreVerdicts m ws named k (f ∷ fs) [] = ⊥
-AreVerdicts m ws named k (f ∷ fs) (v ∷ vs) =
-    IsVerdict m ws named k f v × AreVerdicts m ws (named_after named v) (suc k) fs vs
+abbrev pub AreVerdicts : Matter → List WorldTables → ℕ → List Step → ℕ → List Fact → List Verdict → Type 0
+AreVerdicts m ws named kept k [] [] = Unit {0}
+AreVerdicts m ws named kept k [] (v ∷ vs) = ⊥
+AreVerdicts m ws named kept k (f ∷ fs) [] = ⊥
+AreVerdicts m ws named kept k (f ∷ fs) (v ∷ vs) =
+    IsVerdict m ws named kept k f v × AreVerdicts m ws (named_after named v) (kept_after kept v) (suc k) fs vs
 
 -- ---- diagnoses
 
@@ -105,7 +113,7 @@ AreVerdicts m ws named k (f ∷ fs) (v ∷ vs) =
 pub record AreFindings (m : Matter) (fs : List Fact) (x : Findings) : Type 0 where
   pub some : 1 ≤ length x.worlds
   pub fit : All (λ w. FitsOn m w) x.worlds
-  pub verdicts : AreVerdicts m x.worlds 0 1 fs x.verdicts
+  pub verdicts : AreVerdicts m x.worlds 0 [] 1 fs x.verdicts
 
 -- no run fits
 pub record IsNothing (m : Matter) (steps : List Step) : Type 0 where

@@ -1,5 +1,6 @@
 //! The diagnosis.
-ghost use Rattle.std.specs.Prelude.{◌≡◌, IfOk};
+ghost use Rattle.std.specs.Prelude.{IfOk, OnOk};
+ghost use Rattle.query_core.specs.Claims.{GoesOn};
 ghost use Rattle.must_facts.specs.Inquiries.{IsQueryOf, matter_of};
 ghost use Rattle.must_facts.specs.Verdicts.{AreFindings, FitsOn, IsDiagnosis};
 
@@ -20,7 +21,7 @@ fn findings(
 ) -> Result<Findings, AskFault>
     requires query { IsQueryOf inquiry.now query.old }
     requires fits { FitsOn (matter_of inquiry.now query.old) world }
-    ensures same { query.new ≡ query.old }
+    ensures goes { OnOk result (GoesOn query.old query.new) }
     ensures found { IfOk result (AreFindings (matter_of inquiry.now query.old) inquiry.now.facts.now) }
 {
     let mut known = Known::new(alloc);
@@ -39,7 +40,7 @@ pub fn diagnose(
     query: &mut Query,
 ) -> Result<Diagnosis, AskFault>
     requires query { IsQueryOf inquiry.now query.old }
-    ensures same { query.new ≡ query.old }
+    ensures goes { OnOk result (GoesOn query.old query.new) }
     ensures diagnosis { IfOk result (IsDiagnosis (matter_of inquiry.now query.old) inquiry.now.facts.now) }
 {
     match query.ask(alloc, Target::Fits, inquiry.conflicts)? {

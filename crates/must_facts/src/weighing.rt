@@ -1,6 +1,6 @@
 //! Verdicts on facts: by worlds that are known, else by a question.
-ghost use Rattle.std.specs.Prelude.{◌≡◌, Some, All, IfOk, true, false};
-ghost use Rattle.query_core.specs.Claims.{fact_at};
+ghost use Rattle.std.specs.Prelude.{◌≡◌, Some, All, IfOk, OnOk, true, false};
+ghost use Rattle.query_core.specs.Claims.{fact_at, GoesOn};
 ghost use Rattle.must_facts.specs.Inquiries.{IsQueryOf, matter_of};
 ghost use Rattle.must_facts.specs.Knowing.{Answers, IsKnown, Weighs, WeighsAll};
 
@@ -24,8 +24,8 @@ fn weigh_lacking(
     requires known { IsKnown (matter_of inquiry.now query.old) known.old }
     requires fact { fact_at inquiry.now.facts.now number ≡ Some fact.now }
     requires hold { All (Answers true inquiry.now.log.now fact.now) known.old.runs }
-    ensures same { query.new ≡ query.old }
-    ensures weighs { IfOk result (Weighs (matter_of inquiry.now query.old) number fact.now known.old known.new) }
+    ensures goes { OnOk result (GoesOn query.old query.new) }
+    ensures weighs { IfOk result (Weighs (matter_of inquiry.now query.old) number fact.now known.old known.new query.old.solver.kept query.new.solver.kept) }
 {
     match query.ask(alloc, Target::Lacking(number), inquiry.conflicts)? {
         Reply::World(world) => {
@@ -58,8 +58,8 @@ fn weigh_having(
     requires known { IsKnown (matter_of inquiry.now query.old) known.old }
     requires fact { fact_at inquiry.now.facts.now number ≡ Some fact.now }
     requires fail { All (Answers false inquiry.now.log.now fact.now) known.old.runs }
-    ensures same { query.new ≡ query.old }
-    ensures weighs { IfOk result (Weighs (matter_of inquiry.now query.old) number fact.now known.old known.new) }
+    ensures goes { OnOk result (GoesOn query.old query.new) }
+    ensures weighs { IfOk result (Weighs (matter_of inquiry.now query.old) number fact.now known.old known.new query.old.solver.kept query.new.solver.kept) }
 {
     match query.ask(alloc, Target::Having(number), inquiry.conflicts)? {
         Reply::World(world) => {
@@ -91,8 +91,8 @@ fn weigh(
     requires query { IsQueryOf inquiry.now query.old }
     requires known { IsKnown (matter_of inquiry.now query.old) known.old }
     requires fact { fact_at inquiry.now.facts.now number ≡ Some fact.now }
-    ensures same { query.new ≡ query.old }
-    ensures weighs { IfOk result (Weighs (matter_of inquiry.now query.old) number fact.now known.old known.new) }
+    ensures goes { OnOk result (GoesOn query.old query.new) }
+    ensures weighs { IfOk result (Weighs (matter_of inquiry.now query.old) number fact.now known.old known.new query.old.solver.kept query.new.solver.kept) }
 {
     let Some(having) = known.find(inquiry, fact, true)? else {
         return weigh_having(alloc, inquiry, query, known, number, fact);
@@ -112,8 +112,8 @@ pub(crate) fn weigh_all(
 ) -> Result<Items<Verdict>, AskFault>
     requires query { IsQueryOf inquiry.now query.old }
     requires known { IsKnown (matter_of inquiry.now query.old) known.old }
-    ensures same { query.new ≡ query.old }
-    ensures weighs { IfOk result (λ vs. WeighsAll (matter_of inquiry.now query.old) inquiry.now.facts.now known.new vs) }
+    ensures goes { OnOk result (GoesOn query.old query.new) }
+    ensures weighs { IfOk result (λ vs. WeighsAll (matter_of inquiry.now query.old) inquiry.now.facts.now known.new query.new.solver.kept vs) }
 {
     let mut verdicts = Items::new(alloc);
     for index in 0..inquiry.facts.len() {

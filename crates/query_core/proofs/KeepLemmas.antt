@@ -5,6 +5,7 @@ use Rattle.std.specs.Ordering.{int_eq}
 use Rattle.std.proofs.lemmas.Bool.{and_from, and_parts}
 use Rattle.std.proofs.lemmas.Bool.Decides.{Decides-int_eq, nat_tests}
 use Rattle.term_bank.specs.declared.shape.Shape.{Shape}
+use Rattle.proof_check.specs.Steps.{Step}
 use Rattle.term_bank.specs.Banks.{IsBank}
 use Rattle.term_bank.specs.Values.{Grows}
 use Rattle.plain_data.specs.declared.fact.Fact.{Fact}
@@ -24,7 +25,7 @@ use Rattle.query_core.specs.declared.others.Other.{Other as OtherLiteral}
 use Rattle.query_core.specs.declared.others.Made.{Made}
 use Rattle.query_core.specs.declared.target.Target.{Target}
 use Rattle.query_core.specs.declared.target.Target.TheVariants.{Fits, Having, Lacking, Other}
-use Rattle.query_core.specs.Claims.{claim, claimed, is_of, other_at, other_bit, other_clauses, watch_at, with_others, HasMade, IsBankOf, IsAbout, IsDefined, IsFoundAt, IsLiteral, IsMadeOf, IsQuery, IsWhole, Keeps, OfSome}
+use Rattle.query_core.specs.Claims.{claim, claimed, is_of, other_at, other_bit, other_clauses, watch_at, with_others, with_kept, GoesOn, HasMade, IsBankOf, IsAbout, IsDefined, IsFoundAt, IsLiteral, IsMadeOf, IsQuery, IsWhole, Keeps, OfSome}
 
 -- ---- literals by watched variable and value
 
@@ -162,7 +163,7 @@ module _ (q : Query) (bank : Option (List Shape)) (others : List OtherLiteral)
   claims (Lacking k) h = (tt, refl)
   claims (Other k x) h = (
     (h.0, stay k x h.0 h.1),
-    ap (λ z. (q.solver ++ other_clauses z) ++ claimed (other_bit z)) (stay k x h.0 h.1 ∙ sym h.1),
+    ap (λ z. (q.solver.clauses ++ other_clauses z) ++ claimed (other_bit z)) (stay k x h.0 h.1 ∙ sym h.1),
   )
 
   about : (x : Target) → IsAbout q x → IsAbout (with_others q bank others) x
@@ -182,6 +183,37 @@ keeps-same q = record {
   whole = λ h. h;
   query = λ t fs h. h;
   claims = λ x h. (h, refl);
+}
+
+-- ---- queries whose solver keeps other steps
+
+whole-kept : (q : Query) (steps : List Step) → IsWhole q → IsWhole (with_kept q steps)
+whole-kept q steps h = record {
+  words = h.words;
+  bytes = h.bytes;
+  clauses = h.clauses;
+  number = h.number;
+  first = h.first;
+  blasted = h.blasted;
+  bank = h.bank;
+  literals = h.literals;
+}
+
+query-kept : (q : Query) (steps : List Step) (t : Tour) (fs : List Fact) → IsQuery t fs q → IsQuery t fs (with_kept q steps)
+unfolding whole-kept
+query-kept q steps t fs h = record {
+  whole = whole-kept q steps h.whole;
+  run = h.run;
+  count = h.count;
+  models = λ e honest fits. let r = h.models e honest fits in record { model = r.model; holds = r.holds; tells = r.tells };
+  worlds = λ v world k decoded e of. let r = h.worlds v world k decoded e of in record { fits = r.fits; tells = r.tells };
+}
+
+pub goes-on : (old new : Query) → new ≡ with_kept old new.solver.kept → GoesOn old new
+goes-on old new is = record {
+  same = is;
+  whole = λ h. subst IsWhole (sym is) (whole-kept old new.solver.kept h);
+  query = λ t fs h. subst (IsQuery t fs) (sym is) (query-kept old new.solver.kept t fs h);
 }
 
 -- the bank was lost

@@ -32,7 +32,8 @@ use Rattle.query_core.specs.declared.reply.Reply.{Reply}
 use Rattle.query_core.specs.declared.reply.Reply.TheVariants.{World, Refuted, Spent}
 use Rattle.query_core.specs.declared.target.Target.TheVariants.{Other}
 use Rattle.query_core.specs.Claims.{asked_nodes, claim, claimed, first_bit, other_at, other_bit, other_claim, other_clauses, root_bit, run_clauses, watch_at, IsDecoded, IsFoundAt, IsLiteral, IsMet, IsQuery, IsWhole, OfWatch}
-use Rattle.query_core.specs.Replies.{IsReply, Seeks, SpendsOver}
+use Rattle.cdcl.specs.Stores.{Store}
+use Rattle.query_core.specs.Replies.{IsReply, Seeks, SpendsBehind}
 use Rattle.query_core.proofs.BitLemmas.{holds-both, holds-parts}
 use Rattle.query_core.proofs.QueryLemmas.{fits-bit, truth-bit}
 
@@ -116,7 +117,7 @@ module _ (t : Tour) (fs : List Fact) (q : Query) (h : IsQuery t fs q) (k : ℕ) 
   claim-from v y fits other =
       let p = parts-hold v q.blasted.formula o.more.formula y in
       let run = subst (λ s. formula_holds v s ≡ true) (sym h.whole.clauses) (holds-both v q.blasted.formula (root_bit q.blasted.roots 0) p.0 fits) in
-      holds-both v (q.solver ++ o.more.formula) (root_bit o.more.roots 0) (both-hold v q.solver o.more.formula run p.1) other
+      holds-both v (q.solver.clauses ++ o.more.formula) (root_bit o.more.roots 0) (both-hold v q.solver.clauses o.more.formula run p.1) other
 
   record Parts (v : Valuation) : Type 0 where
     whole : formula_holds v (q.blasted.formula ++ o.more.formula) ≡ true
@@ -125,8 +126,8 @@ module _ (t : Tour) (fs : List Fact) (q : Query) (h : IsQuery t fs q) (k : ℕ) 
 
   claim-parts : (v : Valuation) → formula_holds v (other_claim q o) ≡ true → Parts v
   claim-parts v y =
-      let p = holds-parts v (q.solver ++ o.more.formula) (root_bit o.more.roots 0) y in
-      let r = parts-hold v q.solver o.more.formula p.0 in
+      let p = holds-parts v (q.solver.clauses ++ o.more.formula) (root_bit o.more.roots 0) y in
+      let r = parts-hold v q.solver.clauses o.more.formula p.0 in
       let s = holds-parts v q.blasted.formula (root_bit q.blasted.roots 0) (subst (λ s. formula_holds v s ≡ true) h.whole.clauses r.0) in
       record { whole = both-hold v q.blasted.formula o.more.formula s.0 r.1; fits = s.1; other = p.1 }
 
@@ -161,7 +162,7 @@ module _ (t : Tour) (fs : List Fact) (q : Query) (h : IsQuery t fs q) (k : ℕ) 
 
 -- the claim of a literal that was made
 pub claim-made : (q : Query) (k : ℕ) (x : ℤ) (o : OtherLiteral) → other_at q.others k x ≡ Some o → claim q (Other k x) ≡ other_claim q o
-claim-made q k x o is = ap (λ z. (q.solver ++ other_clauses z) ++ claimed (other_bit z)) is
+claim-made q k x o is = ap (λ z. (q.solver.clauses ++ other_clauses z) ++ claimed (other_bit z)) is
 
 -- the widths of a literal's inputs
 other-blasted : (q : Query) (h : IsWhole q) (k : ℕ) (x : ℤ) (o : OtherLiteral) → other_at q.others k x ≡ Some o
@@ -186,19 +187,20 @@ pub found-within : (os : List OtherLiteral) (k : ℕ) (x : ℤ) (i : ℕ) → Is
 found-within os k x i at = slice_get_within os i at.other at.at
 
 -- what a solver over the query's clauses and those of a literal answers where the literal is to be true
-pub other-replies : (q : Query) (k : ℕ) (x : ℤ) (n : ℕ) (reply : Reply) (o : OtherLiteral) (clauses : List (List Literal)) (bit : Bit)
-    → other_at q.others k x ≡ Some o → clauses ≡ q.solver ++ o.more.formula → bit ≡ root_bit o.more.roots 0
-    → Seeks clauses (joined q.blasted o.more) bit n reply → IsReply q (Other k x) n reply
-other-replies q k x n (World world) o clauses bit found is_clauses is_bit h = record {
+pub other-replies : (q : Query) (k : ℕ) (x : ℤ) (n : ℕ) (reply : Reply) (o : OtherLiteral) (s : Store) (bit : Bit)
+    → other_at q.others k x ≡ Some o → s.clauses ≡ q.solver.clauses ++ o.more.formula → s.kept ≡ [] → bit ≡ root_bit o.more.roots 0
+    → Seeks s (joined q.blasted o.more) bit n reply → IsReply q (Other k x) n reply
+other-replies q k x n (World world) o s bit found is_clauses none is_bit h = record {
   met = λ t fs isq e of.
       other-met t fs q isq k x o found h.model world
-      (subst (λ s. formula_holds h.model s ≡ true) (λ i. is_clauses i ++ claimed (is_bit i)) h.holds) h.decoded e of;
+      (subst (λ c. formula_holds h.model c ≡ true) (λ i. is_clauses i ++ claimed (is_bit i)) h.holds) h.decoded e of;
 }
-other-replies q k x n (Refuted steps) o clauses bit found is_clauses is_bit h =
-    let refuted : IsRefutation (other_claim q o) steps = subst (λ s. IsRefutation s steps) (λ i. is_clauses i ++ claimed (is_bit i)) h in
+other-replies q k x n (Refuted steps) o s bit found is_clauses none is_bit h =
+    let refuted : IsRefutation (other_claim q o) steps = subst (λ c. IsRefutation c steps) (λ i. is_clauses i ++ claimed (is_bit i)) h in
     record {
       refutes = subst (λ cs. IsRefutation cs steps) (sym (claim-made q k x o found)) refuted;
       never = λ t fs isq e honest is_met. never-other t fs q isq k x o found steps refuted e honest is_met;
     }
-other-replies q k x n (Spent trail) o clauses bit found is_clauses is_bit h =
-    subst (λ z. SpendsOver (q.solver ++ other_clauses z) n trail) (sym found) (subst (λ cs. SpendsOver cs n trail) is_clauses h)
+other-replies q k x n (Spent trail) o s bit found is_clauses none is_bit h =
+    subst (λ z. SpendsBehind [] (q.solver.clauses ++ other_clauses z) n trail) (sym found)
+    (subst (λ cs. SpendsBehind [] cs n trail) is_clauses (subst (λ ss. SpendsBehind ss s.clauses n trail) none h))

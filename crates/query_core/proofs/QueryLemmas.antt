@@ -5,6 +5,7 @@ use Rattle.plain_data.specs.declared.fact.Fact.{Fact}
 use Rattle.plain_data.specs.Worlds.{WorldTables}
 use Rattle.cnf_core.specs.Truth.{Valuation, formula_holds}
 use Rattle.c_store.specs.Store.{initial}
+use Rattle.proof_check.specs.Steps.{Step}
 use Rattle.gates.specs.declared.bit.Bit.{Bit}
 use Rattle.gates.specs.Nets.{bit_holds}
 use Rattle.word_gates.specs.Spelling.{spelled}
@@ -123,20 +124,20 @@ empty_environment = record {
 -- ---- the query
 
 -- a query over clauses
-abbrev made-query : Blasted → RunFormula → List Shape → Query
-made-query b r bank = record {
+abbrev made-query : Blasted → RunFormula → List Shape → List Step → Query
+made-query b r bank kept = record {
   blasted = b;
-  solver = run_clauses b;
+  solver = record { clauses = run_clauses b; kept = kept };
   last = length (run_clauses b) + 1;
   formula = r;
   bank = Some bank;
   others = [];
 }
 
-made-so : (b : Blasted) (r : RunFormula) (bank : List Shape) (q : Query) → IsMade b r bank q → made-query b r bank ≡ q
+made-so : (b : Blasted) (r : RunFormula) (bank : List Shape) (q : Query) → IsMade b r bank q → made-query b r bank q.solver.kept ≡ q
 made-so b r bank q m = λ i. record {
   blasted = sym m.same i;
-  solver = sym m.clauses i;
+  solver = record { clauses = sym m.clauses i; kept = q.solver.kept };
   last = sym m.number i;
   formula = sym m.formula i;
   bank = sym m.bank i;
@@ -146,9 +147,9 @@ made-so b r bank q m = λ i. record {
 no-literal : {A : Type 0} (o : OtherLiteral) → ◌≡◌ {A = Option OtherLiteral} None (Some o) → A
 no-literal o e = absurd (cc)
 
-whole-made : (c : List Shape) (b : Blasted) (r : RunFormula) → IsBlasted c (asked_nodes r) b → IsReady c b → IsBank c
-    → AreStates c r.states → IsWhole (made-query b r c)
-whole-made c b r h ready bank ends = record {
+whole-made : (c : List Shape) (b : Blasted) (r : RunFormula) (kept : List Step) → IsBlasted c (asked_nodes r) b → IsReady c b → IsBank c
+    → AreStates c r.states → IsWhole (made-query b r c kept)
+whole-made c b r kept h ready bank ends = record {
   words = h.words;
   bytes = h.bytes;
   clauses = refl;
@@ -161,13 +162,13 @@ whole-made c b r h ready bank ends = record {
 
 pub whole-is : (c : List Shape) (b : Blasted) (r : RunFormula) (q : Query) → IsBlasted c (asked_nodes r) b → IsReady c b → IsBank c
     → AreStates c r.states → IsMade b r c q → IsWhole q
-whole-is c b r q h ready bank ends m = subst IsWhole (made-so b r c q m) (whole-made c b r h ready bank ends)
+whole-is c b r q h ready bank ends m = subst IsWhole (made-so b r c q m) (whole-made c b r q.solver.kept h ready bank ends)
 
 module _ (t : Tour) (a b c : List Shape) (fs : List Fact) (r : RunFormula) (x : Blasted)
-    (h : IsFormula t a b fs r) (g : Grows b c) (bank : IsBank c)
+    (kept : List Step) (h : IsFormula t a b fs r) (g : Grows b c) (bank : IsBank c)
     (blasted : IsBlasted c (asked_nodes r) x) (ready : IsReady c x) (ends : AreStates c r.states) where
   abbrev q : Query
-  q = made-query x r c
+  q = made-query x r c kept
 
   clauses-hold : (v : Valuation) → formula_holds v x.formula ≡ true
       → bit_holds v (root_bit x.roots 0) ≡ true → formula_holds v (run_clauses x) ≡ true
@@ -211,7 +212,7 @@ module _ (t : Tour) (a b c : List Shape) (fs : List Fact) (r : RunFormula) (x : 
   query-is : IsQuery t fs q
   unfolding whole-made
   query-is = record {
-    whole = whole-made c x r blasted ready bank ends;
+    whole = whole-made c x r kept blasted ready bank ends;
     run = record { begun = a; given = b; is = h; grows = g };
     count = has-count;
     models = λ e honest fits. let valued = bank.valued e in has-run e honest fits valued.0 valued.1;
@@ -223,7 +224,7 @@ pub query-made : (t : Tour) (a b c : List Shape) (fs : List Fact) (r : RunFormul
     → Grows b c → IsBank c → IsBlasted c (asked_nodes r) x → IsReady c x → AreStates c r.states → IsMade x r c q
     → IsFormula t a b fs r → IsQuery t fs q
 query-made t a b c fs r x q g bank blasted ready ends made h =
-    subst (IsQuery t fs) (made-so x r c q made) (query-is t a b c fs r x h g bank blasted ready ends)
+    subst (IsQuery t fs) (made-so x r c q made) (query-is t a b c fs r x q.solver.kept h g bank blasted ready ends)
 
 -- a target may name the number of each fact
 pub about-fact : (t : Tour) (fs : List Fact) (q : Query) (k : ℕ) → IsQuery t fs q → 1 ≤ k → k ≤ length fs

@@ -1,5 +1,5 @@
 -- What the answers to questions mean.
-use Rattle.std.proofs.Common.{◌≡◌, ◌<◌, ◌≤◌, ◌+◌, ◌++◌, ◌∷◌, [], ℕ, zero, suc, List, Option, Some, None, Bool, true, false, not, length, refl, sym, ap, ◌∙◌, subst, arith}
+use Rattle.std.proofs.Common.{◌≡◌, ◌<◌, ◌≤◌, ◌+◌, ◌++◌, ◌∷◌, [], ℕ, zero, suc, List, Option, Some, None, Bool, true, false, not, length, refl, sym, ap, ◌∙◌, subst, arith, append-nil}
 use Rattle.std.specs.List.{slice_get}
 use Rattle.plain_data.specs.declared.fact.Fact.{Fact}
 use Rattle.plain_data.specs.Worlds.{WorldTables}
@@ -9,6 +9,7 @@ use Rattle.proof_check.specs.Steps.{Step}
 use Rattle.proof_check.specs.Refutations.{IsRefutation}
 use Rattle.proof_check.proofs.Soundness.{refutation-sound}
 use Rattle.cdcl.specs.Tidy.{units}
+use Rattle.cdcl.specs.Stores.{Store, KeepsMore}
 use Rattle.gates.specs.declared.bit.Bit.{Bit}
 use Rattle.gates.specs.declared.bit.Bit.TheVariants.{Known}
 use Rattle.gates.specs.Nets.{bit_holds, opposite}
@@ -25,7 +26,7 @@ use Rattle.query_core.specs.declared.target.Target.TheVariants.{Fits, Having, La
 use Rattle.query_core.specs.declared.reply.Reply.{Reply}
 use Rattle.query_core.specs.declared.reply.Reply.TheVariants.{World, Refuted, Spent}
 use Rattle.query_core.specs.Claims.{fact_at, OfFact, IsMet, root_bit, claimed, asked_bit, wanted_bit, premises, claim, refuting, IsOfRun, IsAbout, IsDecoded, TellsFacts, IsQuery}
-use Rattle.query_core.specs.Replies.{IsWitness, Refutes, SpendsOver, IsReply, IsSought, Seeks}
+use Rattle.query_core.specs.Replies.{IsWitness, Refutes, SpendsBehind, kept_for, IsReply, IsSought, Seeks}
 use Rattle.query_core.proofs.BitLemmas.{holds-both, holds-parts, empty-refuted}
 
 -- ---- facts by number
@@ -114,11 +115,17 @@ told t fs q v e (Lacking k) run tells h =
 told t fs q v e (Other k x) run tells h = absurd run
 
 -- the clauses of a claim that is no value's
-run-premises : (q : Query) (x : Target) → IsOfRun x → premises q x ≡ q.solver
+run-premises : (q : Query) (x : Target) → IsOfRun x → premises q x ≡ q.solver.clauses
 run-premises q Fits run = refl
 run-premises q (Having k) run = refl
 run-premises q (Lacking k) run = refl
 run-premises q (Other k x) run = absurd run
+
+run-kept : (q : Query) (x : Target) → IsOfRun x → kept_for q x ≡ q.solver.kept
+run-kept q Fits run = refl
+run-kept q (Having k) run = refl
+run-kept q (Lacking k) run = refl
+run-kept q (Other k x) run = absurd run
 
 asked-wanted : (q : Query) (x : Target) → IsOfRun x → asked_bit q.blasted.roots x ≡ wanted_bit q x
 asked-wanted q Fits run = refl
@@ -127,17 +134,17 @@ asked-wanted q (Lacking k) run = refl
 asked-wanted q (Other k x) run = absurd run
 
 -- the claim of a target that is no value's
-pub run-claim : (q : Query) (x : Target) → IsOfRun x → claim q x ≡ q.solver ++ claimed (asked_bit q.blasted.roots x)
+pub run-claim : (q : Query) (x : Target) → IsOfRun x → claim q x ≡ q.solver.clauses ++ claimed (asked_bit q.blasted.roots x)
 run-claim q x run = λ i. run-premises q x run i ++ claimed (sym (asked-wanted q x run) i)
 
 -- where a claim's clauses are refuted, the target is met in no honest environment
 never-met : (t : Tour) (fs : List Fact) (q : Query) (x : Target) (steps : List Step) → IsOfRun x → IsQuery t fs q
-    → IsRefutation (q.solver ++ claimed (wanted_bit q x)) steps → (e : Environment) → IsHonest e
+    → IsRefutation (q.solver.clauses ++ claimed (wanted_bit q x)) steps → (e : Environment) → IsHonest e
     → IsMet t fs q.formula.watches e x → ⊥
 never-met t fs q x steps of h refutes e honest is =
     let run = h.models e honest (fits-of t fs q.formula.watches e x is) in
-    refutation-sound (q.solver ++ claimed (wanted_bit q x)) steps refutes run.model
-    (holds-both run.model q.solver (wanted_bit q x) run.holds (told t fs q run.model e x of run.tells is))
+    refutation-sound (q.solver.clauses ++ claimed (wanted_bit q x)) steps refutes run.model
+    (holds-both run.model q.solver.clauses (wanted_bit q x) run.holds (told t fs q run.model e x of run.tells is))
 
 -- ---- replies
 
@@ -147,36 +154,42 @@ pub run-replies : (q : Query) (x : Target) (bit : Bit) (n : ℕ) (reply : Reply)
 run-replies q x bit n (World world) run about is h = record {
   met = λ t fs isq e of.
       let same : bit ≡ wanted_bit q x = is ∙ asked-wanted q x run in
-      let parts = holds-parts h.model q.solver (wanted_bit q x)
-      (subst (λ b. formula_holds h.model (q.solver ++ claimed b) ≡ true) same h.holds) in
+      let parts = holds-parts h.model q.solver.clauses (wanted_bit q x)
+      (subst (λ b. formula_holds h.model (q.solver.clauses ++ claimed b) ≡ true) same h.holds) in
       let there = isq.worlds h.model world parts.0 h.decoded e of in
       met t fs q h.model e x run isq.count about there.fits there.tells parts.1;
 }
 run-replies q x bit n (Refuted steps) run about is h =
     let same : bit ≡ wanted_bit q x = is ∙ asked-wanted q x run in
-    let refuted = subst (λ b. IsRefutation (q.solver ++ claimed b) steps) same h in
+    let refuted = subst (λ b. IsRefutation (q.solver.clauses ++ claimed b) steps) same h in
     record {
       refutes = subst (λ cs. IsRefutation (cs ++ claimed (wanted_bit q x)) steps) (sym (run-premises q x run)) refuted;
       never = λ t fs isq e honest is_met. never-met t fs q x steps run isq refuted e honest is_met;
     }
-run-replies q x bit n (Spent trail) run about is h = subst (λ cs. SpendsOver cs n trail) (sym (run-premises q x run)) h
+run-replies q x bit n (Spent trail) run about is h =
+    subst (λ ss. SpendsBehind ss (premises q x) n trail) (sym (run-kept q x run))
+    (subst (λ cs. SpendsBehind q.solver.kept cs n trail) (sym (run-premises q x run)) h)
 
 -- ---- a bit that is to be true
 
-pub seeks-sought : (clauses : List (List Literal)) (b : Blasted) (bit : Bit) (assume : List Literal) (n : ℕ) (reply : Reply)
-    → claimed bit ≡ units assume → IsSought clauses b assume n reply → Seeks clauses b bit n reply
-seeks-sought clauses b bit assume n (World world) same h = record {
+pub seeks-sought : (s : Store) (b : Blasted) (bit : Bit) (assume : List Literal) (n : ℕ) (reply : Reply)
+    → claimed bit ≡ units assume → IsSought s b assume n reply → Seeks s b bit n reply
+seeks-sought s b bit assume n (World world) same h = record {
   model = h.model;
-  holds = subst (λ s. formula_holds h.model (clauses ++ s) ≡ true) (sym same) h.holds;
+  holds = subst (λ c. formula_holds h.model (s.clauses ++ c) ≡ true) (sym same) h.holds;
   decoded = h.decoded;
 }
-seeks-sought clauses b bit assume n (Refuted steps) same h = subst (λ s. IsRefutation (clauses ++ s) steps) (sym same) h
-seeks-sought clauses b bit assume n (Spent trail) same h = h
+seeks-sought s b bit assume n (Refuted steps) same h = subst (λ c. IsRefutation (s.clauses ++ c) steps) (sym same) h
+seeks-sought s b bit assume n (Spent trail) same h = h
 
 -- the bit is known to be false
-pub seeks-false : (clauses : List (List Literal)) (b : Blasted) (bit : Bit) (n number : ℕ) (steps : List Step)
-    → bit ≡ Known false → number ≡ length clauses + 1 → steps ≡ refuting number → Seeks clauses b bit n (Refuted steps)
-seeks-false clauses b bit n number steps is last e =
-    let made : IsRefutation (clauses ++ [] ∷ []) (refuting number) = empty-refuted clauses number last in
-    subst (λ x. IsRefutation (clauses ++ claimed x) steps) (sym is)
-    (subst (λ s. IsRefutation (clauses ++ [] ∷ []) s) (sym e) made)
+pub seeks-false : (s : Store) (b : Blasted) (bit : Bit) (n number : ℕ) (steps : List Step)
+    → bit ≡ Known false → number ≡ length s.clauses + 1 → steps ≡ refuting number → Seeks s b bit n (Refuted steps)
+seeks-false s b bit n number steps is last e =
+    let made : IsRefutation (s.clauses ++ [] ∷ []) (refuting number) = empty-refuted s.clauses number last in
+    subst (λ x. IsRefutation (s.clauses ++ claimed x) steps) (sym is)
+    (subst (λ t. IsRefutation (s.clauses ++ [] ∷ []) t) (sym e) made)
+
+-- nothing was sought
+pub keeps-all : (steps : List Step) → KeepsMore steps steps
+keeps-all steps = record { more = []; kept = sym (append-nil steps) }

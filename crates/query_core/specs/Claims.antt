@@ -7,6 +7,7 @@ use Rattle.plain_data.specs.Worlds.{WorldTables}
 use Rattle.cnf_core.specs.Literal.{Literal}
 use Rattle.cnf_core.specs.Truth.{Valuation, formula_holds}
 use Rattle.proof_check.specs.Steps.{Step}
+use Rattle.cdcl.specs.Stores.{Store}
 use Rattle.gates.specs.declared.bit.Bit.{Bit}
 use Rattle.gates.specs.declared.bit.Bit.TheVariants.{Known, Unknown}
 use Rattle.gates.specs.Nets.{bit_holds, opposite}
@@ -120,10 +121,10 @@ other_bit (Some o) = root_bit o.more.roots 0
 
 -- what a claim's last clause stands behind: the clauses that say that the run fits, and those that define a value's literal
 abbrev pub premises : Query → Target → List (List Literal)
-premises q Fits = q.solver
-premises q (Having k) = q.solver
-premises q (Lacking k) = q.solver
-premises q (Other k x) = q.solver ++ other_clauses (other_at q.others k x)
+premises q Fits = q.solver.clauses
+premises q (Having k) = q.solver.clauses
+premises q (Lacking k) = q.solver.clauses
+premises q (Other k x) = q.solver.clauses ++ other_clauses (other_at q.others k x)
 
 -- the bit that is to be true
 abbrev pub wanted_bit : Query → Target → Bit
@@ -138,7 +139,7 @@ claim q x = premises q x ++ claimed (wanted_bit q x)
 
 -- those of a literal
 abbrev pub other_claim : Query → OtherLiteral → List (List Literal)
-other_claim q o = (q.solver ++ o.more.formula) ++ claimed (root_bit o.more.roots 0)
+other_claim q o = (q.solver.clauses ++ o.more.formula) ++ claimed (root_bit o.more.roots 0)
 
 -- the target's literal was made, if it has one of its own
 abbrev pub IsDefined : Query → Target → Type 0
@@ -158,12 +159,16 @@ IsOfRun (Other k x) = ⊥
 abbrev pub refuting : ℕ → List Step
 refuting n = (record { clause = []; hints = n ∷ [] }) ∷ []
 
+-- nothing is kept, where nothing was
+abbrev pub KeepsNone : Store → Store → Type 0
+KeepsNone old new = old.kept ≡ [] → new.kept ≡ []
+
 -- ---- queries
 
 -- a query over these clauses
 pub record IsMade (b : Blasted) (r : RunFormula) (shapes : List Shape) (q : Query) : Type 0 where
   pub same : q.blasted ≡ b
-  pub clauses : q.solver ≡ run_clauses b
+  pub clauses : q.solver.clauses ≡ run_clauses b
   pub number : q.last ≡ length (run_clauses b) + 1
   pub formula : q.formula ≡ r
   pub bank : q.bank ≡ Some shapes
@@ -208,8 +213,8 @@ pub record IsLiteral (first : List Shape) (r : RunFormula) (b : Blasted) (k : �
 pub record IsWhole (q : Query) : Type 0 where
   pub words : HasWidth 64 q.blasted.inputs.words
   pub bytes : HasWidth 8 q.blasted.inputs.bytes
-  pub clauses : q.solver ≡ run_clauses q.blasted
-  pub number : q.last ≡ length q.solver + 1
+  pub clauses : q.solver.clauses ≡ run_clauses q.blasted
+  pub number : q.last ≡ length q.solver.clauses + 1
   pub first : List Shape
   pub blasted : IsBlasted first (asked_nodes q.formula) q.blasted
   pub bank : IfSome q.bank (IsBankOf first q.blasted q.formula)
@@ -239,7 +244,7 @@ pub record TellsFacts (t : Tour) (fs : List Fact) (roots : List (List Bit)) (v :
 -- a model of the query's clauses that tells the facts of the run
 pub record HasRun (t : Tour) (fs : List Fact) (q : Query) (e : Environment) : Type 0 where
   pub model : Valuation
-  pub holds : formula_holds model q.solver ≡ true
+  pub holds : formula_holds model q.solver.clauses ≡ true
   pub tells : TellsFacts t fs q.blasted.roots model e
 
 -- the run fits, and the valuation tells its facts
@@ -261,7 +266,7 @@ pub record IsQuery (t : Tour) (fs : List Fact) (q : Query) : Type 0 where
   pub run : HasFormula t fs q.formula whole.first
   pub count : length q.blasted.roots ≡ suc (length fs)
   pub models : (e : Environment) → IsHonest e → FitsIn t e → HasRun t fs q e
-  pub worlds : (v : Valuation) (world : WorldTables) → formula_holds v q.solver ≡ true
+  pub worlds : (v : Valuation) (world : WorldTables) → formula_holds v q.solver.clauses ≡ true
       → IsDecoded q.blasted v world → (e : Environment) → IsOfWorld world e → FitsAs t fs q v e
 
 -- what stands for a formula's truths without reads isn't plain, in a bank that has grown
@@ -297,11 +302,35 @@ pub record Keeps (old new : Query) : Type 0 where
   pub query : (t : Tour) (fs : List Fact) → IsQuery t fs old → IsQuery t fs new
   pub claims : (x : Target) → IsDefined old x → IsDefined new x × (claim new x ≡ claim old x)
 
--- a question on facts leaves the query as it was
+-- whose solver keeps these steps
+abbrev pub with_kept : Query → List Step → Query
+with_kept q steps = record {
+  blasted = q.blasted;
+  solver = record { clauses = q.solver.clauses; kept = steps };
+  last = q.last;
+  formula = q.formula;
+  bank = q.bank;
+  others = q.others;
+}
+
+-- It is the same query of the same runs, but for the steps that its solver keeps.
+pub record GoesOn (old new : Query) : Type 0 where
+  pub same : new ≡ with_kept old new.solver.kept
+  pub whole : IsWhole old → IsWhole new
+  pub query : (t : Tour) (fs : List Fact) → IsQuery t fs old → IsQuery t fs new
+
+-- what is asked for without a search leaves a query as it was, unless a literal is made
+abbrev pub StaysFor : Target → Query → Query → Type 0
+StaysFor Fits old new = new ≡ old
+StaysFor (Having k) old new = new ≡ old
+StaysFor (Lacking k) old new = new ≡ old
+StaysFor (Other k x) old new = Keeps old new
+
+-- a question on facts leaves the query as it was, but for the steps that are kept
 abbrev pub KeepsFor : Target → Query → Query → Type 0
-KeepsFor Fits old new = new ≡ old
-KeepsFor (Having k) old new = new ≡ old
-KeepsFor (Lacking k) old new = new ≡ old
+KeepsFor Fits old new = GoesOn old new
+KeepsFor (Having k) old new = GoesOn old new
+KeepsFor (Lacking k) old new = GoesOn old new
 KeepsFor (Other k x) old new = Keeps old new
 
 -- the query of which the answer to a target speaks: behind a question on a value it has its literal

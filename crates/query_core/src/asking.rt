@@ -1,7 +1,7 @@
 //! Questions.
-ghost use Rattle.std.specs.Prelude.{◌≡◌, ◌++◌, ◌+◌, length, IfOk};
-ghost use Rattle.query_core.specs.Claims.{IsAbout, IsFoundAt, IsOfRun, IsWhole, KeepsFor, replying};
-ghost use Rattle.query_core.specs.Replies.{IsReply};
+ghost use Rattle.std.specs.Prelude.{◌≡◌, ◌++◌, ◌+◌, [], length, IfOk};
+ghost use Rattle.query_core.specs.Claims.{GoesOn, IsAbout, IsFoundAt, IsOfRun, IsWhole, KeepsFor, replying};
+ghost use Rattle.query_core.specs.Replies.{IsReply, KeepsBehind, KeepsBehindFor};
 ghost use Rattle.query_core.specs.declared.target.Target.TheVariants.{Other as OtherTarget};
 
 use crate::bits::{bit_of_root, bit_of_target};
@@ -33,7 +33,8 @@ impl Query {
     /// A solver over the query's clauses and those of a literal.
     fn solver_for(&self, alloc: Global, other: &Other) -> Result<Solver, AllocError>
         requires whole { IsWhole self.now }
-        ensures { IfOk result (λ solver. solver ≡ self.now.solver ++ other.now.more.formula) }
+        ensures clauses { IfOk result (λ solver. solver.clauses ≡ self.now.solver.clauses ++ other.now.more.formula) }
+        ensures kept { IfOk result (λ solver. solver.kept ≡ []) }
     {
         let fits = bit_of_root(&self.blasted.roots, 0);
         let mut solver = solver_of(alloc, &self.blasted, &fits)?;
@@ -77,7 +78,8 @@ impl Query {
         requires target { IsAbout self.old target }
         requires run { IsOfRun target }
         ensures reply { IfOk result (IsReply self.old target conflicts) }
-        ensures same { self.new ≡ self.old }
+        ensures kept { IfOk result (KeepsBehind self.old.solver.kept self.new.solver.kept) }
+        ensures goes { GoesOn self.old self.new }
     {
         let bit = bit_of_target(&self.blasted.roots, target);
         let reply = seek(
@@ -94,14 +96,16 @@ impl Query {
     /// Whether some run fits and is as it is asked for, by at most so many conflicts.
     ///
     /// `World` has a world whose run is so, `Refuted` a refutation of the clauses of `claim_formula`, and then no
-    /// world's run is so; `Spent` comes where so many conflicts were met, with the clauses learnt from them. Where the
-    /// bits alone say that no run that fits is so, nothing is searched for. A question on a value has a solver of its own.
+    /// world's run is so; `Spent` comes where so many conflicts were met, with the clauses learnt from them behind those that
+    /// earlier questions learnt: of questions on facts all steps are kept. Where the bits alone say that no run that fits is so,
+    /// nothing is searched for. A question on a value has a solver of its own.
     /// It fails for want of memory, and `Unwalked` where what a print sees of the watched variable isn't walked yet; it may
     /// be asked again whatever it answers.
     pub fn ask(&mut self, alloc: Global, target: Target, conflicts: u32) -> Result<Reply, AskFault>
         requires whole { IsWhole self.old }
         requires target { IsAbout self.old target }
         ensures reply { IfOk result (IsReply (replying target self.old self.new) target conflicts) }
+        ensures kept { IfOk result (KeepsBehindFor target self.old self.new) }
         ensures keeps { KeepsFor target self.old self.new }
     {
         match &target {

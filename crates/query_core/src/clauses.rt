@@ -1,6 +1,6 @@
 //! Clauses that say that bits are true.
 ghost use Rattle.std.specs.Prelude.{◌≡◌, ◌++◌, ◌∷◌, ◌+◌, [], length, IfOk, OnOk};
-ghost use Rattle.query_core.specs.Claims.{claimed, refuting};
+ghost use Rattle.query_core.specs.Claims.{claimed, refuting, KeepsNone};
 
 use cdcl::Solver;
 use cnf_core::{Clause, Formula, Lit};
@@ -37,7 +37,8 @@ pub(crate) fn push_all(formula: &mut Formula, more: &Formula) -> Result<(), Allo
 
 /// Adds the clause of these literals.
 fn add_clause(alloc: Global, solver: &mut Solver, literals: &[Lit]) -> Result<(), AllocError>
-    ensures { OnOk result (solver.new ≡ solver.old ++ literals.now ∷ []) }
+    ensures clauses { OnOk result (solver.new.clauses ≡ solver.old.clauses ++ literals.now ∷ []) }
+    ensures kept { OnOk result (KeepsNone solver.old solver.new) }
 {
     let literals = Vec::from_slice(alloc, literals)?;
     match solver.add(Clause::from_vec(literals)) {
@@ -48,7 +49,8 @@ fn add_clause(alloc: Global, solver: &mut Solver, literals: &[Lit]) -> Result<()
 
 /// Adds the clauses that say that a bit is true.
 pub(crate) fn add_claim(alloc: Global, solver: &mut Solver, bit: &Bit) -> Result<(), AllocError>
-    ensures { OnOk result (solver.new ≡ solver.old ++ claimed bit.now) }
+    ensures clauses { OnOk result (solver.new.clauses ≡ solver.old.clauses ++ claimed bit.now) }
+    ensures kept { OnOk result (KeepsNone solver.old solver.new) }
 {
     match bit {
         Bit::Known(true) => Ok(()),
@@ -69,7 +71,8 @@ pub(crate) fn add_all(
     solver: &mut Solver,
     formula: &Formula,
 ) -> Result<(), AllocError>
-    ensures { OnOk result (solver.new ≡ solver.old ++ formula.now) }
+    ensures clauses { OnOk result (solver.new.clauses ≡ solver.old.clauses ++ formula.now) }
+    ensures kept { OnOk result (KeepsNone solver.old solver.new) }
 {
     'clauses: for index in 0..formula.len() {
         add_clause(alloc, solver, formula.clause(index))?;

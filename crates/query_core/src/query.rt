@@ -1,5 +1,5 @@
 //! The clauses of a run formula, and a solver over them.
-ghost use Rattle.std.specs.Prelude.{◌≡◌, ◌++◌, List, Err, IfOk, IfSome};
+ghost use Rattle.std.specs.Prelude.{◌≡◌, ◌++◌, [], List, Err, IfOk, IfSome};
 ghost use Rattle.query_core.specs.declared.fault.AskFault.TheVariants.{Unwalked};
 ghost use Rattle.query_core.specs.declared.target.Target.TheVariants.{Other as OtherTarget};
 ghost use Rattle.plain_data.specs.declared.fact.Fact.{Fact};
@@ -11,7 +11,7 @@ ghost use Rattle.bitvectors.specs.Reads.{IfNone};
 ghost use Rattle.path_states.specs.States.{AreStates};
 ghost use Rattle.log_expr.specs.Tours.{Tour};
 ghost use Rattle.run_formula.specs.Formula.{IsFormula};
-ghost use Rattle.query_core.specs.Claims.{asked_nodes, claimed, claim, IsAbout, IsDefined, IsFoundAt, IsMade, IsOfRun, IsQuery, IsUnwalked, IsWhole, KeepsFor};
+ghost use Rattle.query_core.specs.Claims.{asked_nodes, claimed, claim, IsAbout, IsDefined, IsFoundAt, IsMade, IsOfRun, IsQuery, IsUnwalked, IsWhole, StaysFor};
 
 use crate::bits::{bit_of_root, bit_of_target};
 use crate::clauses::{add_all, add_claim, number_behind, push_all, push_claim};
@@ -55,7 +55,8 @@ fn roots_of(alloc: Global, formula: &RunFormula) -> Result<Items<Node>, AllocErr
 
 /// A solver over the clauses that say that the run fits.
 pub(crate) fn solver_of(alloc: Global, blasted: &Blasted, fits: &Bit) -> Result<Solver, AllocError>
-    ensures { IfOk result (λ solver. solver ≡ blasted.now.formula ++ claimed fits.now) }
+    ensures clauses { IfOk result (λ solver. solver.clauses ≡ blasted.now.formula ++ claimed fits.now) }
+    ensures kept { IfOk result (λ solver. solver.kept ≡ []) }
 {
     let mut solver = Solver::new(alloc);
     add_all(alloc, &mut solver, &blasted.formula)?;
@@ -169,7 +170,7 @@ impl Query {
         requires target { IsAbout self.old target }
         ensures formula { IfOk result (λ formula. formula ≡ claim self.new target) }
         ensures defined { IfOk result (λ _. IsDefined self.new target) }
-        ensures keeps { KeepsFor target self.old self.new }
+        ensures keeps { StaysFor target self.old self.new }
     {
         match &target {
             Target::Other { watch, value } => {

@@ -3,13 +3,13 @@ ghost use Rattle.std.specs.Prelude.{◌≡◌, ◌+◌, length, IfOk};
 ghost use Rattle.bitvectors.specs.declared.blasting.Blasted.{Blasted as BlastedType};
 ghost use Rattle.bitvectors.specs.Blasts.{HasWidth};
 ghost use Rattle.gates.specs.declared.bit.Bit.TheVariants.{Known};
-ghost use Rattle.query_core.specs.Replies.{IsSought, Seeks};
+ghost use Rattle.query_core.specs.Replies.{IsSought, KeepsBehind, Seeks};
 
 use crate::clauses::refute_by;
 use crate::fault::AskFault;
 use crate::reply::Reply;
 use bitvectors::Inputs;
-use cdcl::{Answer, Solver};
+use cdcl::{Answer, MostMarked, Solver};
 use cnf_core::Lit;
 use gates::Bit;
 use std::alloc::Global;
@@ -26,9 +26,10 @@ fn search(
     requires bytes { HasWidth 8 inputs.now.bytes }
     ensures reply { IfOk result (λ reply. (b : BlastedType) → b.inputs ≡ inputs.now →
         IsSought solver.old b assume.now conflicts reply) }
-    ensures same { solver.new ≡ solver.old }
+    ensures kept { IfOk result (KeepsBehind solver.old.kept solver.new.kept) }
+    ensures clauses { solver.new.clauses ≡ solver.old.clauses }
 {
-    let answer = solver.solve(alloc, assume, conflicts)?;
+    let answer = solver.solve(alloc, &MostMarked, assume, conflicts)?;
     match answer {
         Answer::Sat(values) => {
             let world = inputs.decode(alloc, &values)?;
@@ -51,10 +52,11 @@ fn seek_known(
 ) -> Result<Reply, AskFault>
     requires words { HasWidth 64 inputs.now.words }
     requires bytes { HasWidth 8 inputs.now.bytes }
-    requires number { number ≡ length solver.old + 1 }
+    requires number { number ≡ length solver.old.clauses + 1 }
     ensures reply { IfOk result (λ reply. (b : BlastedType) → b.inputs ≡ inputs.now →
         Seeks solver.old b (Known known) conflicts reply) }
-    ensures same { solver.new ≡ solver.old }
+    ensures kept { IfOk result (KeepsBehind solver.old.kept solver.new.kept) }
+    ensures clauses { solver.new.clauses ≡ solver.old.clauses }
 {
     if known {
         let reply = search(alloc, solver, inputs, &[], conflicts)?;
@@ -76,10 +78,11 @@ pub(crate) fn seek(
 ) -> Result<Reply, AskFault>
     requires words { HasWidth 64 inputs.now.words }
     requires bytes { HasWidth 8 inputs.now.bytes }
-    requires number { number ≡ length solver.old + 1 }
+    requires number { number ≡ length solver.old.clauses + 1 }
     ensures reply { IfOk result (λ reply. (b : BlastedType) → b.inputs ≡ inputs.now →
         Seeks solver.old b bit.now conflicts reply) }
-    ensures same { solver.new ≡ solver.old }
+    ensures kept { IfOk result (KeepsBehind solver.old.kept solver.new.kept) }
+    ensures clauses { solver.new.clauses ≡ solver.old.clauses }
 {
     match bit {
         Bit::Known(known) => {

@@ -4,7 +4,9 @@
 //! - `table WORD`: the rows of a table are answered, each as the module `tables` says of the word.
 //! - `tree`: the text of the tree of a preprocessed source (`trees`).
 //! - `check`: whether a refutation is accepted; with `--times` also, on standard error, how long parsing and checking
-//!   took. `solve CONFLICTS`: the answers to questions about a formula (`solving`).
+//!   took.
+//! - `solve CONFLICTS`, `solve_least CONFLICTS`: the answers to questions about a formula (`solving`), where what is decided
+//!   is the open variable that is most marked, or the least one.
 #![tactic(auto)]
 
 mod checking;
@@ -20,6 +22,7 @@ mod trees;
 mod words;
 
 use anyhow::{Result, anyhow};
+use cdcl::{LeastOpen, MostMarked};
 use std::alloc::Global;
 use std::env;
 use std::io::{self, Read, Write};
@@ -62,7 +65,11 @@ fn run(rt: &HostRuntime, word: &str, second: &str) -> Result<()> {
         }
         "solve" => {
             let text = io::read_to_string(rt.alloc(), rt.stdin())?;
-            solving::solve(rt, rt.alloc(), &text, second.parse::<u32>()?)
+            solving::solve(rt, rt.alloc(), &MostMarked, &text, second.parse::<u32>()?)
+        }
+        "solve_least" => {
+            let text = io::read_to_string(rt.alloc(), rt.stdin())?;
+            solving::solve(rt, rt.alloc(), &LeastOpen, &text, second.parse::<u32>()?)
         }
         _ => Err(anyhow!("no such rows")),
     }

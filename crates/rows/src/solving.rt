@@ -2,7 +2,7 @@
 //! error.
 use crate::formulas;
 use anyhow::{Result, anyhow, bail, ensure};
-use cdcl::{Answer, Solver};
+use cdcl::{Answer, Chooser, LeastOpen, MostMarked, Solver};
 use cnf_core::{Clause, Formula, Lit, satisfies};
 use proof_check::{Checker, Refutation, StepFault, Steps, Trail};
 use std::alloc::Global;
@@ -108,46 +108,64 @@ fn solver_of(alloc: Global, formula: &Formula) -> Result<Solver> {
     Ok(solver)
 }
 
-fn asked(
+fn asked<C: Chooser>(
     alloc: Global,
     solver: &mut Solver,
+    chooser: &C,
     formula: &Formula,
     question: &Question,
 ) -> Result<Verdict> {
-    let answer = solver.solve(alloc, &question.assume, question.conflicts)?;
+    let answer = solver.solve(alloc, chooser, &question.assume, question.conflicts)?;
     let whole = with_units(alloc, formula, &question.assume)?;
     examined(alloc, formula, &whole, answer)
 }
 
 /// The answers of a solver to all questions, in order.
-fn ask_all(
+fn ask_all<C: Chooser>(
     alloc: Global,
     solver: &mut Solver,
+    chooser: &C,
     formula: &Formula,
     questions: &[Question],
 ) -> Result<Vec<Verdict>> {
     let mut verdicts = Vec::new(alloc);
     for question in questions {
-        verdicts.push(asked(alloc, solver, formula, question)?)?;
+        verdicts.push(asked(alloc, solver, chooser, formula, question)?)?;
     }
     Ok(verdicts)
 }
 
 /// The answers of one solver to all questions about a formula.
-fn examine_all(alloc: Global, formula: &Formula, questions: &[Question]) -> Result<Vec<Verdict>> {
+fn examine_all<C: Chooser>(
+    alloc: Global,
+    chooser: &C,
+    formula: &Formula,
+    questions: &[Question],
+) -> Result<Vec<Verdict>> {
     let mut solver = solver_of(alloc, formula)?;
-    ask_all(alloc, &mut solver, formula, questions)
+    ask_all(alloc, &mut solver, chooser, formula, questions)
 }
 
 /// The answers to a text's questions about its formula.
-fn verdicts_of(alloc: Global, text: &str, usual: u32) -> Result<Vec<Verdict>> {
+fn verdicts_of<C: Chooser>(
+    alloc: Global,
+    chooser: &C,
+    text: &str,
+    usual: u32,
+) -> Result<Vec<Verdict>> {
     let (formula, questions) = read_questions(alloc, text, usual)?;
-    examine_all(alloc, &formula, &questions)
+    examine_all(alloc, chooser, &formula, &questions)
 }
 
 /// Prints the answers of one solver to all questions, in order: `sat`, or `unsat` or `spent` with the number of steps.
-pub fn solve(rt: &impl Print, alloc: Global, text: &str, conflicts: u32) -> Result<()> {
-    for verdict in &verdicts_of(alloc, text, conflicts)? {
+pub fn solve<C: Chooser>(
+    rt: &impl Print,
+    alloc: Global,
+    chooser: &C,
+    text: &str,
+    conflicts: u32,
+) -> Result<()> {
+    for verdict in &verdicts_of(alloc, chooser, text, conflicts)? {
         match verdict {
             Verdict::Sat => println!(rt; "sat")?,
             Verdict::Unsat(steps) => println!(rt; "unsat {steps}")?,
@@ -182,12 +200,23 @@ fn put_verdict(out: &mut String, verdict: &Verdict) -> Result<()> {
     Ok(())
 }
 
-/// The answers to a table's row.
-pub fn answer(alloc: Global, row: &str) -> Result<String> {
-    let verdicts = verdicts_of(alloc, row, 0)?;
+/// The answers to a table's row, where what is decided is the chooser's.
+fn answer_by<C: Chooser>(alloc: Global, chooser: &C, row: &str) -> Result<String> {
+    let verdicts = verdicts_of(alloc, chooser, row, 0)?;
     let mut out = String::new(alloc);
     for verdict in &verdicts {
         put_verdict(&mut out, verdict)?;
     }
+    Ok(out)
+}
+
+/// The answers to a table's row, by either chooser.
+pub fn answer(alloc: Global, row: &str) -> Result<String> {
+    let out = answer_by(alloc, &MostMarked, row)?;
+    let least = answer_by(alloc, &LeastOpen, row)?;
+    ensure!(
+        out == least,
+        "another answer where the least open variable is decided"
+    );
     Ok(out)
 }

@@ -6,16 +6,38 @@ use Rattle.run_formula.specs.declared.watches.Watch.{Watch}
 use Rattle.query_core.specs.declared.query.Query.{Query}
 use Rattle.query_core.specs.declared.target.Target.{Target}
 use Rattle.query_core.specs.declared.target.Target.TheVariants.{Fits, Having, Lacking, Other}
-use Rattle.query_core.specs.Claims.{IsAbout, IsOfRun, IsQuery, IsWatched, IsWhole, KeepsFor}
+use Rattle.query_core.specs.Claims.{GoesOn, IsAbout, IsOfRun, IsQuery, IsWatched, IsWhole, KeepsFor, StaysFor, with_kept}
 use Rattle.query_core.proofs.QueryLemmas.{about-fact}
 use Rattle.table_rows.specs.Asked.{IsAsked, IsKept}
 
--- a question that is no value's leaves the query as it was
-pub same-run : (x : Target) (old new : Query) → IsOfRun x → KeepsFor x old new → new ≡ old
-same-run Fits old new run h = h
-same-run (Having k) old new run h = h
-same-run (Lacking k) old new run h = h
-same-run (Other k x) old new run h = absurd run
+-- a question that is no value's leaves the query as it was, but for the steps that are kept
+pub goes-run : (x : Target) (old new : Query) → IsOfRun x → KeepsFor x old new → GoesOn old new
+goes-run Fits old new run h = h
+goes-run (Having k) old new run h = h
+goes-run (Lacking k) old new run h = h
+goes-run (Other k x) old new run h = absurd run
+
+-- and what is asked for without a search leaves it as it was
+pub stays-run : (x : Target) (a b c : Query) → IsOfRun x → GoesOn a b → StaysFor x b c → GoesOn a c
+stays-run Fits a b c run g h = subst (λ q. GoesOn a q) (sym h) g
+stays-run (Having k) a b c run g h = subst (λ q. GoesOn a q) (sym h) g
+stays-run (Lacking k) a b c run g h = subst (λ q. GoesOn a q) (sym h) g
+stays-run (Other k x) a b c run g h = absurd run
+
+-- the steps that are kept change nothing that may be asked
+pub about-goes : (x : Target) (old new : Query) → GoesOn old new → IsAbout old x → IsAbout new x
+about-goes Fits old new g h = h
+about-goes (Having k) old new g h = subst (λ q. IsAbout q (Having k)) (sym g.same) h
+about-goes (Lacking k) old new g h = subst (λ q. IsAbout q (Lacking k)) (sym g.same) h
+about-goes (Other k x) old new g h = subst (λ q. IsAbout q (Other k x)) (sym g.same) h
+
+pub asked-goes : (fs : List Fact) (ws : List Watch) (old new : Query) → GoesOn old new → IsAsked fs ws old → IsAsked fs ws new
+asked-goes fs ws old new g h = record {
+  whole = g.whole h.whole;
+  facts = λ k one within.
+      (about-goes (Having k) old new g (h.facts k one within).0, about-goes (Lacking k) old new g (h.facts k one within).1);
+  watches = subst (λ q. q.formula.watches ≡ ws) (sym g.same) h.watches;
+}
 
 pub kept-other : (k : ℕ) (x : ℤ) (old new : Query) → KeepsFor (Other k x) old new → IsKept old new
 kept-other k x old new h = record { whole = h.whole; watches = h.watches }

@@ -1,6 +1,6 @@
 //! Questions on facts and on what watched variables were, and whether their answers hold.
 ghost use Rattle.std.specs.Prelude.{◌≡◌, ◌≤◌, suc, length, IfOk};
-ghost use Rattle.query_core.specs.Claims.{IsAbout, IsOfRun, IsWatched, IsWhole, KeepsFor};
+ghost use Rattle.query_core.specs.Claims.{GoesOn, IsAbout, IsOfRun, IsWatched, IsWhole, KeepsFor, StaysFor};
 ghost use Rattle.table_rows.specs.Asked.{IsAsked, IsKept};
 
 use crate::text::{put, put_count, put_next, put_value};
@@ -77,7 +77,7 @@ fn is_refuted(
 ) -> Result<bool>
     requires whole { IsWhole query.old }
     requires target { IsAbout query.old target }
-    ensures { KeepsFor target query.old query.new }
+    ensures { StaysFor target query.old query.new }
 {
     let formula = query.claim_formula(alloc, target)?;
     let mut checker = Checker::with_room(alloc, &formula, &refutation)?;
@@ -157,7 +157,7 @@ fn count_fact(
     requires whole { IsWhole query.old }
     requires target { IsAbout query.old target }
     requires run { IsOfRun target }
-    ensures { query.new ≡ query.old }
+    ensures { GoesOn query.old query.new }
 {
     match answered(alloc, query, target)? {
         Reply::World(world) => count_world(alloc, asked, fact, wanted, world, counts)?,
@@ -184,7 +184,7 @@ fn count_facts(
     counts: &mut Counts,
 ) -> Result<()>
     requires { IsAsked facts.now watches.now query.old }
-    ensures { query.new ≡ query.old }
+    ensures { IsAsked facts.now watches.now query.new }
 {
     let _ = watches;
     'facts: for index in 0..facts.len() {
@@ -222,7 +222,7 @@ fn put_facts(
     text: &mut Bytes,
 ) -> Result<()>
     requires { IsAsked facts.now watches.now query.old }
-    ensures { query.new ≡ query.old }
+    ensures { IsAsked facts.now watches.now query.new }
 {
     let mut counts = Counts {
         worlds: 0,

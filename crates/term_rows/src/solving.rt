@@ -1,7 +1,7 @@
 //! Formulas, solved. An answer whose evidence doesn't hold is an error.
 
 use anyhow::{Result, anyhow, ensure};
-use cdcl::{Answer, Solver};
+use cdcl::{Answer, MostMarked, Solver};
 use cnf_core::{Assignment, Clause, Formula, Lit, satisfies};
 use proof_check::{Checker, Refutation};
 use std::alloc::Global;
@@ -43,7 +43,7 @@ pub fn model_of(
     formula: &Formula,
     solver: &mut Solver,
 ) -> Result<Option<Assignment>> {
-    match solver.solve(alloc, &[], CONFLICTS)? {
+    match solver.solve(alloc, &MostMarked, &[], CONFLICTS)? {
         Answer::Sat(values) => {
             ensure!(satisfies(formula, &values), "no model");
             Ok(Some(values))

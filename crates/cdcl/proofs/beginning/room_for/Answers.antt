@@ -6,7 +6,7 @@ pub loop-literal-preserved : goal.loop-literal-preserved
 loop-literal-preserved c = record {
   small = omega (arith, c.max-room.ensures, c.variable.ensures.below);
   least = omega (arith, c.max-room.ensures);
-  fits = fits-more c.loop-literal.room c.max-room.result c.args.literals.now c.loop-literal.literal-index c.literal-item.result c.loop-literal-test.true c.literal-item.is (omega (arith, c.max-room.ensures)) (omega (arith, c.max-room.ensures, c.variable.ensures.value)) c.loop-literal.invariant.fits;
+  fits = fits-more c.loop-literal.room c.max-room.result c.args.literals.now c.loop-literal.literal-index c.literal-item.result c.loop-literal-test.true c.literal-item.is (omega (arith, c.max-room.ensures)) (omega (arith, c.variable.ensures.value, c.variable.ensures.from_one)) (omega (arith, c.max-room.ensures, c.variable.ensures.value)) c.loop-literal.invariant.fits;
 }
 
 pub returns-clause-fits : goal.returns-clause-fits

@@ -1,6 +1,6 @@
 use Rattle.std.proofs.Common.{subst}
 use Rattle.query_core.specs.declared.target.Target.TheVariants.{Lacking}
-use Rattle.query_core.specs.Replies.{IsReply}
+use Rattle.query_core.specs.Replies.{IsReply, KeepsBehind}
 use Rattle.must_facts.specs.Inquiries.{matter_of}
 use Rattle.must_facts.proofs.Learning.{weighs_lacking, weighs_must, weighs_open_lacking}
 use Rattle.must_facts.proofs.Worlds.{lacks_there, all_have}
@@ -13,7 +13,9 @@ returns-in_ok-lacking-in-World-clause-weighs c =
     let w = c.in-World.world in
     let reply = subst (IsReply q (Lacking c.args.number) x.conflicts) c.in-World.is c.in_ok-world.ensures.reply in
     let there = lacks_there x q c.requires.query w c.args.number c.args.fact.now c.requires.fact reply in
-    weighs_lacking (matter_of x q) c.args.number c.args.fact.now c.args.known.now c.add.new.self w c.requires.known
+    let more = subst (KeepsBehind q.solver.kept c.ask.new.self.solver.kept) c.in-World.is c.in_ok-world.ensures.kept in
+    weighs_lacking (matter_of x q) c.args.number c.args.fact.now c.args.known.now c.add.new.self q.solver.kept
+    c.ask.new.self.solver.kept more w c.requires.known
     c.in_ok-add-in-World.ensures.worlds c.in_ok-add-in-World.ensures.runs there.0
     c.in_ok-lacking-in-World.lacking c.in_ok-lacking-in-World.ensures c.requires.hold there.1
 
@@ -23,7 +25,9 @@ returns-in-Refuted-clause-weighs c =
     let q = c.args.query.now in
     let steps = c.in-Refuted.refutation in
     let reply = subst (IsReply q (Lacking c.args.number) x.conflicts) c.in-Refuted.is c.in_ok-world.ensures.reply in
-    weighs_must (matter_of x q) c.args.number c.args.fact.now c.args.known.now steps c.requires.known
+    let more = subst (KeepsBehind q.solver.kept c.ask.new.self.solver.kept) c.in-Refuted.is c.in_ok-world.ensures.kept in
+    weighs_must (matter_of x q) c.args.number c.args.fact.now c.args.known.now q.solver.kept c.ask.new.self.solver.kept steps more
+    c.requires.known
     (all_have x q c.requires.query c.args.number c.args.fact.now steps c.requires.fact reply)
 
 pub returns-in_ok-count-in-Spent-clause-weighs : goal.returns-in_ok-count-in-Spent-clause-weighs
@@ -31,5 +35,7 @@ returns-in_ok-count-in-Spent-clause-weighs c =
     let x = c.args.inquiry.now in
     let q = c.args.query.now in
     let reply = subst (IsReply q (Lacking c.args.number) x.conflicts) c.in-Spent.is c.in_ok-world.ensures.reply in
-    weighs_open_lacking (matter_of x q) c.args.number c.args.fact.now c.args.known.now c.in_ok-count-in-Spent.count
-    c.in-Spent.trail c.requires.known c.in_ok-count-in-Spent.ensures reply c.requires.hold
+    let ends = subst (KeepsBehind q.solver.kept c.ask.new.self.solver.kept) c.in-Spent.is c.in_ok-world.ensures.kept in
+    weighs_open_lacking (matter_of x q) c.args.number c.args.fact.now c.args.known.now q.solver.kept c.ask.new.self.solver.kept
+    c.in_ok-count-in-Spent.count c.in-Spent.trail c.requires.known c.in_ok-count-in-Spent.ensures reply.spends reply.kept ends
+    c.requires.hold

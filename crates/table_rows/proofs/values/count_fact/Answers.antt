@@ -1,8 +1,22 @@
-use Rattle.std.proofs.Common.{subst, sym}
-use Rattle.query_core.specs.Claims.{IsAbout, IsWhole}
-use Rattle.table_rows.proofs.Asking.{same-run}
+use Rattle.table_rows.proofs.Asking.{about-goes, goes-run, stays-run}
 use Rattle.table_rows.proofs.values.count_fact.Goals as goal
 
 pub is_refuted-requires-clause-whole : goal.is_refuted-requires-clause-whole
 is_refuted-requires-clause-whole c =
-    subst IsWhole (sym (same-run c.args.target c.args.query.now c.answered.new.query c.requires.run c.answered.ensures)) c.requires.whole
+    (goes-run c.args.target c.args.query.now c.answered.new.query c.requires.run c.answered.ensures).whole c.requires.whole
+
+pub is_refuted-requires-clause-target : goal.is_refuted-requires-clause-target
+is_refuted-requires-clause-target c =
+    about-goes c.args.target c.args.query.now c.answered.new.query
+    (goes-run c.args.target c.args.query.now c.answered.new.query c.requires.run c.answered.ensures) c.requires.target
+
+pub returns-in-World : goal.returns-in-World
+returns-in-World c = goes-run c.args.target c.args.query.now c.answered.new.query c.requires.run c.answered.ensures
+
+pub returns-in-Refuted : goal.returns-in-Refuted
+returns-in-Refuted c =
+    stays-run c.args.target c.args.query.now c.answered.new.query c.is_refuted.new.query c.requires.run
+    (goes-run c.args.target c.args.query.now c.answered.new.query c.requires.run c.answered.ensures) c.is_refuted.ensures
+
+pub returns-in-Spent : goal.returns-in-Spent
+returns-in-Spent c = goes-run c.args.target c.args.query.now c.answered.new.query c.requires.run c.answered.ensures

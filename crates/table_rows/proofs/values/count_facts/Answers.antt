@@ -1,22 +1,29 @@
-use Rattle.std.proofs.Common.{arith, refl, subst, sym, ◌∙◌}
-use Rattle.query_core.specs.declared.target.Target.TheVariants.{Having, Lacking}
-use Rattle.query_core.specs.Claims.{IsAbout, IsWhole}
+use Rattle.std.proofs.Common.{arith}
+use Rattle.table_rows.proofs.Asking.{asked-goes}
 use Rattle.table_rows.proofs.values.count_facts.Goals as goal
 
 pub facts-init : goal.facts-init
-facts-init c = refl
+facts-init c = c.requires
 
 pub count_fact-requires-clause-whole : goal.count_fact-requires-clause-whole
-count_fact-requires-clause-whole c = subst IsWhole (sym c.facts.invariant) c.requires.whole
+count_fact-requires-clause-whole c = c.facts.invariant.whole
 
 pub count_fact-requires-clause-target : goal.count_fact-requires-clause-target
 count_fact-requires-clause-target c =
     let n = c.in_ok-number.number in
-    subst (λ q. IsAbout q (Having n)) (sym c.facts.invariant)
-    (c.requires.facts n (omega (arith, c.in_ok-number.ensures)) (omega (arith, c.in_ok-number.ensures, c.facts-test.true))).0
+    (c.facts.invariant.facts n (omega (arith, c.in_ok-number.ensures)) (omega (arith, c.in_ok-number.ensures, c.facts-test.true))).0
+
+pub count_fact-requires-in-facts-clause-whole : goal.count_fact-requires-in-facts-clause-whole
+count_fact-requires-in-facts-clause-whole c =
+    (asked-goes c.args.facts.now c.args.watches.now c.facts.query c.count_fact.new.query c.count_fact.ensures c.facts.invariant).whole
 
 pub count_fact-requires-in-facts-clause-target : goal.count_fact-requires-in-facts-clause-target
 count_fact-requires-in-facts-clause-target c =
     let n = c.in_ok-number.number in
-    subst (λ q. IsAbout q (Lacking n)) (sym (c.count_fact.ensures ∙ c.facts.invariant))
-    (c.requires.facts n (omega (arith, c.in_ok-number.ensures)) (omega (arith, c.in_ok-number.ensures, c.facts-test.true))).1
+    ((asked-goes c.args.facts.now c.args.watches.now c.facts.query c.count_fact.new.query c.count_fact.ensures c.facts.invariant).facts n
+    (omega (arith, c.in_ok-number.ensures)) (omega (arith, c.in_ok-number.ensures, c.facts-test.true))).1
+
+pub facts-preserved : goal.facts-preserved
+facts-preserved c =
+    asked-goes c.args.facts.now c.args.watches.now c.count_fact.new.query c.count_fact-2.new.query c.count_fact-2.ensures
+    (asked-goes c.args.facts.now c.args.watches.now c.facts.query c.count_fact.new.query c.count_fact.ensures c.facts.invariant)

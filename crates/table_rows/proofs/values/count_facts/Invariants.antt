@@ -1,5 +1,5 @@
-use Rattle.std.proofs.Common.{◌≡◌}
+use Rattle.table_rows.specs.Asked.{IsAsked}
 use Rattle.table_rows.proofs.values.count_facts.Given as goal
 
 abbrev pub invariant-facts : goal.invariant-facts
-invariant-facts l = l.query ≡ l.fn.query
+invariant-facts l = IsAsked l.fn.facts.now l.fn.watches.now l.query

@@ -2,7 +2,7 @@ use Rattle.std.proofs.Common.{ap, ◌∙◌}
 use Rattle.cdcl.specs.Sources.{named}
 use Rattle.cdcl.specs.declared.clauses.ClauseId.TheVariants.{Given}
 use Rattle.cdcl.proofs.Naming.{given-named}
-use Rattle.cdcl.proofs.Guarding.{said-undecided, said-satisfied, said-implied, code-fits, sound-goes, enters-true, enters-waits}
+use Rattle.cdcl.proofs.Guarding.{said-undecided, said-satisfied, said-implied, code-fits, sound-goes, enters-true, enters-waits, goes-guards}
 use Rattle.cdcl.proofs.search.Search.enter.Goals as goal
 
 pub heed-requires-clause-named : goal.heed-requires-clause-named
@@ -34,6 +34,13 @@ returns-in_ok-wait-in-Undecided-clause-guards c = λ _.
     let t = given-named a.clauses c.args.index c.requires.within in
     let u = said-undecided a.trail b.trail t.0 c.in-Undecided.first c.in-Undecided.second c.in_ok-heed.field-0 c.in-Undecided.is (e.says t.0 t.1) in
     enters-waits c.args.index a b c.in-Undecided.first c.in-Undecided.second c.wait.new.self t.0 e.ready t.1 e.goes e.watches u c.in_ok-wait-in-Undecided.ensures c.requires.guards
+
+pub returns-in-Falsified-clause-left : goal.returns-in-Falsified-clause-left
+returns-in-Falsified-clause-left c = λ _.
+    let a = c.args.self.now in
+    let b = c.heed.new.self in
+    let e = c.in_ok-heed.ensures in
+    goes-guards c.args.index a b e.goes e.watches c.requires.guards
 
 pub returns-in-Satisfied-clause-guards : goal.returns-in-Satisfied-clause-guards
 returns-in-Satisfied-clause-guards c = λ _.

@@ -4,6 +4,6 @@ use Rattle.cdcl.proofs.search.Search.forget.Goals as goal
 
 pub returns-clause-resting : goal.returns-clause-resting
 returns-clause-resting c =
-    let t = c.new-2.ensures in
-    let w = c.new-4.ensures in
-    rests-none _ c.new.ensures t.trail t.entries t.level t.room w.lists (omega (arith, ap length w.lists, c.new-4.result.lists.ok.0)) w.given w.learnt refl
+    let t = c.forget.ensures in
+    let w = c.new-3.ensures in
+    rests-none _ _ (omega arith) c.new.ensures t.trail t.entries t.level t.room w.lists (omega (arith, ap length w.lists, c.new-3.result.lists.ok.0)) w.given w.learnt refl

@@ -6,4 +6,4 @@ pub returns-clause-resting : goal.returns-clause-resting
 returns-clause-resting c =
     let t = c.new-4.ensures in
     let w = c.new-6.ensures in
-    rests-none _ c.new-3.ensures t.trail t.entries t.level t.room w.lists (omega (arith, ap length w.lists, c.new-6.result.lists.ok.0)) w.given w.learnt refl
+    rests-none 0 _ (omega arith) c.new-3.ensures t.trail t.entries t.level t.room w.lists (omega (arith, ap length w.lists, c.new-6.result.lists.ok.0)) w.given w.learnt refl

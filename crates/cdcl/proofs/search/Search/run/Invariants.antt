@@ -4,7 +4,7 @@ use Rattle.cdcl.specs.Guards.{Guards}
 use Rattle.cdcl.proofs.search.Search.run.Given as goal
 
 abbrev pub invariant-loop-met : goal.invariant-loop-met
-invariant-loop-met l = record {
+invariant-loop-met g l = record {
   ready : IsReady l.self;
   guards : Guards (length l.self.clauses.given) l.self.followed l.self;
   appends : Appends l.fn.self.clauses l.self.clauses;

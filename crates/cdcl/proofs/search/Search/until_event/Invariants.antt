@@ -5,11 +5,11 @@ use Rattle.cdcl.specs.Guards.{Guards}
 use Rattle.cdcl.proofs.search.Search.until_event.Given as goal
 
 abbrev pub invariant-decisions : goal.invariant-decisions
-invariant-decisions l = record {
+invariant-decisions g l = record {
   ready : IsReady l.self;
   guards : Guards (length l.self.clauses.given) l.self.followed l.self;
   same : l.self.clauses ≡ l.fn.self.clauses;
 }
 
 abbrev pub decreases-decisions : goal.decreases-decisions
-decreases-decisions l = open_count l.self.trail.taken.items
+decreases-decisions g l = open_count l.self.trail.taken.items

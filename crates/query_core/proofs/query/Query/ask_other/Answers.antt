@@ -24,5 +24,5 @@ returns c =
     let o = c.other_at_index-other.result.now in
     let there = rw c.as_slice.ensures at c.other_at_index-other.ensures in
     let found = same-found q c.args.watch c.args.value.now c.args.index o c.requires.found there in
-    other-replies q c.args.watch c.args.value.now c.args.conflicts c.in_ok-reply.reply o _ _ found c.in_ok-solver.ensures c.bit_of_root-bit.ensures
+    other-replies q c.args.watch c.args.value.now c.args.conflicts c.in_ok-reply.reply o _ _ found c.in_ok-solver.ensures.clauses c.in_ok-solver.ensures.kept c.bit_of_root-bit.ensures
     (c.in_ok-reply.ensures.reply _ refl)
