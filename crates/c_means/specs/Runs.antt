@@ -23,7 +23,7 @@ use Rattle.c_means.specs.Parts.{State, World, Limits, Level, Site, Calls, entere
 use Rattle.c_means.specs.Values.{bytes_of}
 use Rattle.c_means.specs.declared.profile.Profile.{Profile}
 use Rattle.c_means.specs.Items.{Arrow, Made, Lasting, born, dead, known, running, lived}
-use Rattle.c_means.specs.Initials.{stores, text_byte}
+use Rattle.c_means.specs.Initials.{stores_as, text_byte}
 use Rattle.c_means.specs.Statements.{no_env}
 use Rattle.c_means.specs.Names.{Literal}
 use Rattle.c_means.specs.Rules.{Taking, Rules, LogCall, IdentityCall, BodyCall, LibraryCall, PreludeCall, OutsideCall}
@@ -102,11 +102,7 @@ frame s base [] = []
 frame s base (e ∷ es) = record { at = e.at; place = base; size = parameter_size s e } ∷ frame s (suc base) es
 
 abbrev pub passes_as : Tables → Means → ℕ → ℤ → Arrow
-passes_as tables (means.Object t dur l) a v d = stores tables t a v d
-passes_as tables (means.Function t l) a v d = d
-passes_as tables (means.Typedef t) a v d = d
-passes_as tables (means.Constant z) a v d = d
-passes_as tables means.Faulty a v d = d
+passes_as tables means a v d = stores_as tables (object_type means) a v d
 
 -- each argument is converted to the type of its parameter
 abbrev pub passes : Tables → ℕ → List Entry → List ℤ → Arrow
