@@ -52,8 +52,3 @@ pieces_of_format format = pieces_or_none (pieces_of format)
 abbrev pub log_pieces_of : LogText → List (Option (List ℕ)) → List Piece
 log_pieces_of (text_.Format i newline) texts = pieces_of_format (literal_at texts i) ++ newline_if newline
 log_pieces_of (text_.Text format) texts = pieces_of_format format
-
--- the index of a format leaves one to count
-abbrev pub IsCounted : LogText → Type 0
-IsCounted (text_.Format i newline) = i < 2 ^ 32 - 1
-IsCounted (text_.Text format) = Unit {0}
