@@ -143,12 +143,13 @@ object_quiet m x d =
     let n = whole.final_size m.program x (entry_in m.program.scope.file x.entry.name) in
     zeroed_quiet x.is_defined place n (whole.object_at object.Static place n d)
 
-either_quiet : (b : Bool) (x y : State) (text : List ℕ) → x.printed ≡ text → y.printed ≡ text → (cond b x y).printed ≡ text
+either_quiet : (b : Bool) (x y : State) (text : List ℕ) → x.printed ≡ text → y.printed ≡ text
+    → (cond b x y).printed ≡ text
 either_quiet true x y text p q = p
 either_quiet false x y text p q = q
 
-objects_quiet : (m : whole.Machine) (b : Bool) (xs : List Lasting) (d : State) → (whole.makes_objects m b xs d).printed ≡
-    d.printed
+objects_quiet : (m : whole.Machine) (b : Bool) (xs : List Lasting) (d : State)
+    → (whole.makes_objects m b xs d).printed ≡ d.printed
 objects_quiet m true [] d = refl
 objects_quiet m false [] d = refl
 objects_quiet m true (x ∷ xs) d =
@@ -167,7 +168,8 @@ makes_same m x d =
     let linked = whole.makes_links m x.links d in
     let with_texts = whole.makes_texts m x.texts linked in
     made_append links (texts ++ (declared_objects m x.lasting ++ defined_objects m x.lasting)) (as_done d)
-    ∙ ap (core.makes_all (texts ++ (declared_objects m x.lasting ++ defined_objects m x.lasting))) (links_made m x.links d)
+    ∙ ap (core.makes_all (texts ++ (declared_objects m x.lasting ++ defined_objects m x.lasting)))
+    (links_made m x.links d)
     ∙ made_append texts (declared_objects m x.lasting ++ defined_objects m x.lasting) (as_done linked)
     ∙ ap (core.makes_all (declared_objects m x.lasting ++ defined_objects m x.lasting)) (texts_made m x.texts linked)
     ∙ made_append (declared_objects m x.lasting) (defined_objects m x.lasting) (as_done with_texts)
@@ -193,7 +195,8 @@ running_first : (a f g h : Arrow Output) (d : Done Output) → ((r : Done Output
     → running (λ d. onward (a d) f) d ≡ onward (running (λ d. onward (a d) g) d) (running h)
 running_first a f g h d same = by (running_or d.kind) where
   by : Result (d.kind ≡ k.Running) (Passes d.kind)
-      → where_running d.kind (onward (a d) f) (Some d) ≡ onward (where_running d.kind (onward (a d) g) (Some d)) (running h)
+      → where_running d.kind (onward (a d) f) (Some d)
+      ≡ onward (where_running d.kind (onward (a d) g) (Some d)) (running h)
   by (Ok e) =
       ap (λ kind. where_running kind (onward (a d) f) (Some d)) e ∙ onward_first (a d) f g (running h) same
       ∙ ap (λ kind. onward (where_running kind (onward (a d) g) (Some d)) (running h)) (sym e)
