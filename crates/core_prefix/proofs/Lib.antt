@@ -1,0 +1,2 @@
+pub mod ExprCalls
+pub mod CodeCalls
