@@ -1,2 +1,4 @@
 pub mod ExprCalls
 pub mod CodeCalls
+pub mod CalleesAgree
+pub mod ValuesAgree
