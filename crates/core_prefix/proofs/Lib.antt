@@ -2,3 +2,4 @@ pub mod ExprCalls
 pub mod CodeCalls
 pub mod CalleesAgree
 pub mod ValuesAgree
+pub mod CodesAgree

@@ -77,7 +77,7 @@ module _ {O : Type 0} {n : ℕ} (p : Levels O n) where
   by_value : (e : Expr) (x : Value O) → value e ≡ x → ValueAgrees x → ValueAgrees (value e)
   by_value e x is h = ap (worth (one p)) is ∙ h ∙ ap (worth (other p)) (sym is)
 
-  each_agrees : (es : List Expr) → Each ExprAgrees es → list_all (value_below n) es ≡ true
+  pub each_agrees : (es : List Expr) → Each ExprAgrees es → list_all (value_below n) es ≡ true
       → worths (one p) (map value es) ≡ worths (other p) (map value es)
   each_agrees [] h below = refl
   each_agrees (e ∷ es) h below =
