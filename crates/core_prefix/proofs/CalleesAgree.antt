@@ -1,5 +1,5 @@
 -- Two levels on which functions below a bound do the same: what calls of such functions do, and all calls by rule.
-use Rattle.std.proofs.Common.{◌≡◌, ℕ, ◌+◌, ◌*◌, ◌-◌, ℤ, pos, negsuc, Bool, true, false, List, [], ◌∷◌, ◌++◌, drop}
+use Rattle.std.proofs.Common.{◌≡◌, ℕ, ◌+◌, ℤ, negsuc, Bool, true, false, List, [], ◌∷◌, ◌++◌, drop}
 use Rattle.std.proofs.Common.{Option, Some, None, refl, ap, ap₂, ◌∙◌}
 use Rattle.std.proofs.Math.Path.{fun_ext}
 use Rattle.std.specs.Prelude.{nat_lt}
@@ -18,12 +18,11 @@ use Rattle.core_tree.specs.declared.expr.Callee.TheVariants as callee
 use Rattle.core_tree.specs.declared.expr.Fill.{Fill}
 use Rattle.core_tree.specs.declared.expr.OutsideAnswer.{OutsideAnswer}
 use Rattle.core_tree.specs.declared.expr.OutsideAnswer.TheVariants as answer
-use Rattle.core_tree.specs.declared.expr.Pointee.{Pointee}
 use Rattle.core_tree.specs.declared.expr.Pointee.TheVariants as pointee
 use Rattle.core_tree.specs.declared.types.ValueType.{ValueType}
-use Rattle.core_tree.specs.States.{Taking, Done, Outcome, Calls, Level, Measures, entered, meets, returned}
+use Rattle.core_tree.specs.States.{Taking, Done, Outcome, Calls, Level, entered, meets, returned}
 use Rattle.core_tree.specs.Callees.{Spoken, arguments_of, formed_arg, behind_star, star_args, first_value, spoken, prints}
-use Rattle.core_tree.specs.Callees.{seen_all, filled, filled_by, answers, is_odd, asked, fill_count, value_or_zero}
+use Rattle.core_tree.specs.Callees.{seen_all, filled, filled_by, fill_count, value_or_zero}
 use Rattle.core_tree.specs.Callees.{outside_answer, outside_call, body_call, callee_size, callee_room}
 use Rattle.core_tree.specs.Values.{acting}
 use Rattle.core_prefix.specs.Calls.{callee_below}

@@ -6,9 +6,8 @@ use Rattle.std.specs.Prelude.{option_map}
 use Rattle.std.specs.List.{list_all}
 use Rattle.c_store.specs.Store.{start}
 use Rattle.c_means.specs.declared.kind.Kind.{Kind}
-use Rattle.c_means.specs.declared.kind.Kind.TheVariants as k
 use Rattle.c_means.specs.Parts.{Env}
-use Rattle.c_means.specs.Items.{Made, past_break, past_continue, at_label, at_case, at_default}
+use Rattle.c_means.specs.Items.{Made, past_continue, at_label, at_case, at_default}
 use Rattle.core_tree.specs.declared.code.Code.{Code}
 use Rattle.core_tree.specs.declared.code.Code.TheVariants as tree
 use Rattle.core_tree.specs.declared.code.Setting.{Setting}
@@ -16,11 +15,11 @@ use Rattle.core_tree.specs.declared.code.Setting.TheVariants as setting
 use Rattle.core_tree.specs.declared.expr.Expr.{Expr}
 use Rattle.core_tree.specs.declared.types.WordType.{WordType}
 use Rattle.core_tree.specs.Memory.{stored}
-use Rattle.core_tree.specs.States.{Done, Arrow, Acts, Level, Measures, Needs, onward, running, with_value, on_branch}
+use Rattle.core_tree.specs.States.{Done, Arrow, Level, onward, running, with_value}
 use Rattle.core_tree.specs.States.{one_of, stay, arrive}
 use Rattle.core_tree.specs.Values.{Value, value}
 use Rattle.core_tree.specs.Codes.{Item, acting, passes, no_more, no_objects, setting_needs, static_needs, node_size}
-use Rattle.core_tree.specs.Codes.{ followed, in_turn, lived, evaluated, as_node}
+use Rattle.core_tree.specs.Codes.{followed, in_turn, lived, evaluated, as_node}
 use Rattle.core_tree.specs.Codes.{maybe_evaluated, return_of, all_needs, sets, sets_all, zeroed_if, declared, arrived}
 use Rattle.core_tree.specs.Codes.{one_behind, if_of, switch_runs, tested, test_needs, turn_needs, turns_from, looped}
 use Rattle.core_tree.specs.Codes.{left_at, broken_out, rounds_from, repeated, code, counted, block, switch_of}
@@ -29,7 +28,7 @@ use Rattle.core_tree.proofs.Induction.{Each, CodeSteps, of_code}
 use Rattle.core_prefix.specs.Calls.{value_below, option_below, setting_below, code_below}
 use Rattle.core_prefix.proofs.CalleesAgree.{ap₃, Levels, one, other}
 use Rattle.core_prefix.proofs.CodeCalls as calls
-use Rattle.core_prefix.proofs.ValuesAgree.{and_left, and_right, Worth, worth, steady, Worths, worths, ValueAgrees}
+use Rattle.core_prefix.proofs.ValuesAgree.{and_left, and_right, Worth, steady, Worths, ValueAgrees}
 use Rattle.core_prefix.proofs.ValuesAgree.{ExprAgrees, expr_agrees, each_agrees}
 
 -- ---- what code does at a level
@@ -297,7 +296,7 @@ module _ {O : Type 0} {n : ℕ} (p : Levels O n) where
         (h (sym (calls.below-Label n (tree.Label name x) name x refl) ∙ below)));
     on_Case = λ z e x h below.
         let parts : (value_below n e && code_below n x) ≡ true =
-            sym (calls.below-Case n (tree.Case z e x) z e x refl) ∙ below in
+        sym (calls.below-Case n (tree.Case z e x) z e x refl) ∙ below in
         by_item (tree.Case z e x) _ (eq.does-Case z e x) (case_agrees (at_case (Some z)) e (code x)
         (expr_agrees p e (and_left (value_below n e) (code_below n x) parts))
         (h (and_right (value_below n e) (code_below n x) parts)));
@@ -305,7 +304,7 @@ module _ {O : Type 0} {n : ℕ} (p : Levels O n) where
         (arrived_agrees at_default (code x) (h (sym (calls.below-Default n (tree.Default x) x refl) ∙ below)));
     on_If = λ at e x y h i below.
         let parts : (value_below n e && (code_below n x && code_below n y)) ≡ true =
-            sym (calls.below-If n (tree.If at e x y) at e x y refl) ∙ below in
+        sym (calls.below-If n (tree.If at e x y) at e x y refl) ∙ below in
         let sides = and_right (value_below n e) (code_below n x && code_below n y) parts in
         by_item (tree.If at e x y) _ (eq.does-If at e x y) (if_agrees at (value e) (code x) (code y)
         (expr_agrees p e (and_left (value_below n e) (code_below n x && code_below n y) parts))
@@ -313,14 +312,14 @@ module _ {O : Type 0} {n : ℕ} (p : Levels O n) where
         (i (and_right (code_below n x) (code_below n y) sides)));
     on_Switch = λ at word cases e is_node cs h below.
         let parts : (value_below n e && list_all (code_below n) cs) ≡ true =
-            sym (calls.below-Switch n (tree.Switch at word cases e is_node cs) at word cases e is_node cs refl) ∙ below in
+        sym (calls.below-Switch n (tree.Switch at word cases e is_node cs) at word cases e is_node cs refl) ∙ below in
         by_item (tree.Switch at word cases e is_node cs) _ (eq.does-Switch at word cases e is_node cs)
         (switch_agrees at word cases (value e) is_node (map code cs)
         (expr_agrees p e (and_left (value_below n e) (list_all (code_below n) cs) parts))
         (codes_agree cs h (and_right (value_below n e) (list_all (code_below n) cs) parts)));
     on_Loop = λ at t s x h below.
         let parts : (option_below n t && (option_below n s && code_below n x)) ≡ true =
-            sym (calls.below-Loop n (tree.Loop at t s x) at t s x refl) ∙ below in
+        sym (calls.below-Loop n (tree.Loop at t s x) at t s x refl) ∙ below in
         let behind = and_right (option_below n t) (option_below n s && code_below n x) parts in
         by_item (tree.Loop at t s x) _ (eq.does-Loop at t s x)
         (looped_agrees at (option_map value t) (option_map value s) (code x)
@@ -329,7 +328,7 @@ module _ {O : Type 0} {n : ℕ} (p : Levels O n) where
         (h (and_right (option_below n s) (code_below n x) behind)));
     on_Repeat = λ at t x h below.
         let parts : (value_below n t && code_below n x) ≡ true =
-            sym (calls.below-Repeat n (tree.Repeat at t x) at t x refl) ∙ below in
+        sym (calls.below-Repeat n (tree.Repeat at t x) at t x refl) ∙ below in
         by_item (tree.Repeat at t x) _ (eq.does-Repeat at t x) (repeated_agrees at (code x) (value t)
         (h (and_right (value_below n t) (code_below n x) parts))
         (expr_agrees p t (and_left (value_below n t) (code_below n x) parts)));

@@ -3,3 +3,4 @@ pub mod CodeCalls
 pub mod CalleesAgree
 pub mod ValuesAgree
 pub mod CodesAgree
+pub mod RunsAgree

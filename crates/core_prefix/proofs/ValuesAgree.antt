@@ -1,21 +1,20 @@
 -- Two levels on which functions below a bound do the same: each expression that calls no other function does the same on
 -- both.
-use Rattle.std.proofs.Common.{◌≡◌, ℕ, suc, ◌+◌, ℤ, pos, Bool, true, false, ◌&&◌, List, [], ◌∷◌, map}
-use Rattle.std.proofs.Common.{Option, Some, None, refl, sym, ap, ap₂, ◌∙◌}
+use Rattle.std.proofs.Common.{◌≡◌, ℕ, suc, ◌+◌, ℤ, Bool, true, false, ◌&&◌, List, [], ◌∷◌, map}
+use Rattle.std.proofs.Common.{refl, sym, ap, ap₂, ◌∙◌}
 use Rattle.std.specs.List.{list_all}
 use Rattle.plain_data.specs.declared.run.Happening.TheVariants as happening
-use Rattle.core_tree.specs.declared.expr.Callee.{Callee}
 use Rattle.core_tree.specs.declared.expr.Expr.{Expr}
 use Rattle.core_tree.specs.declared.expr.Expr.TheVariants as expr
 use Rattle.core_tree.specs.declared.types.ValueType.{ValueType}
-use Rattle.core_tree.specs.States.{Done, Outcome, ◌>>=◌, found, note, Level, Measures, Needs, Run, Taking}
-use Rattle.core_tree.specs.Values.{Value, value, all_sizes, all_rooms, arguments, needed, call}
+use Rattle.core_tree.specs.States.{◌>>=◌, found, note, Level, Run, Taking}
+use Rattle.core_tree.specs.Values.{Value, value, all_sizes, all_rooms, arguments, needed}
 use Rattle.core_tree.specs.Values.{loaded, target, pointer, offset, extract, convert, cast, turn, negated, operate, both}
 use Rattle.core_tree.specs.Values.{either, choose, store, update, step, comma}
 use Rattle.core_tree.proofs.Equations as eq
 use Rattle.core_tree.proofs.Induction.{Each, ExprSteps, of_expr}
 use Rattle.core_prefix.specs.Calls.{callee_below, value_below}
-use Rattle.core_prefix.proofs.CalleesAgree.{ap₃, Levels, one, other, Doing, doing, callee_agrees}
+use Rattle.core_prefix.proofs.CalleesAgree.{ap₃, Levels, one, other, Doing, callee_agrees}
 use Rattle.core_prefix.proofs.ExprCalls as calls
 
 -- ---- what is told of all parts is told of each
@@ -155,7 +154,7 @@ module _ {O : Type 0} {n : ℕ} (p : Levels O n) where
         (over_two (either at) (λ v w. refl) (λ v w. refl) (value x) (value y));
     on_Choose = λ at c x y g h i below.
         let parts : (value_below n c && (value_below n x && value_below n y)) ≡ true =
-            sym (calls.below-Choose n (expr.Choose at c x y) at c x y refl) ∙ below in
+        sym (calls.below-Choose n (expr.Choose at c x y) at c x y refl) ∙ below in
         let sides = and_right (value_below n c) (value_below n x && value_below n y) parts in
         by_value (expr.Choose at c x y) _ (eq.worth-Choose at c x y) (choose_agrees at (value c) (value x) (value y)
         (g (and_left (value_below n c) (value_below n x && value_below n y) parts))
@@ -176,7 +175,7 @@ module _ {O : Type 0} {n : ℕ} (p : Levels O n) where
         (over_two comma (λ v w. refl) (λ v w. refl) (value x) (value y));
     on_Call = λ at xs c type used h below.
         let parts : (callee_below n c && list_all (value_below n) xs) ≡ true =
-            sym (calls.below-Call n (expr.Call at xs c type used) at xs c type used refl) ∙ below in
+        sym (calls.below-Call n (expr.Call at xs c type used) at xs c type used refl) ∙ below in
         by_value (expr.Call at xs c type used) _ (eq.worth-Call at xs c type used)
         (ap₂ (call_of p.taking at type used)
         (each_agrees xs h (and_right (callee_below n c) (list_all (value_below n) xs) parts))

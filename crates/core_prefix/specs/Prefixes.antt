@@ -1,8 +1,7 @@
 -- A core without its last functions.
-use Rattle.std.specs.Prelude.{ℕ, Bool, nat_le, nat_lt, ◌&&◌, cond, List, length, take}
+use Rattle.std.specs.Prelude.{ℕ, Bool, nat_le, nat_lt, ◌&&◌, cond, length, take}
 use Rattle.std.specs.List.{list_all}
 use Rattle.core_tree.specs.declared.program.Core.{Core}
-use Rattle.core_tree.specs.declared.program.Function.{Function}
 use Rattle.core_prefix.specs.Calls.{function_below}
 
 -- The first so many functions are there, `main` is one of them, and none of them calls another one. What runs before

@@ -29,9 +29,7 @@ fn setting_below(bound: u32, setting: &Setting) -> bool
 fn settings_below(bound: u32, settings: &[Setting]) -> bool
     ensures { result ≡ list_all (calls.setting_below bound) settings.now }
 {
-    settings
-        .iter()
-        .all(|setting| setting_below(bound, setting))
+    settings.iter().all(|setting| setting_below(bound, setting))
 }
 
 /// Whether each call in code is of a function below a bound.
@@ -69,9 +67,7 @@ fn code_below(bound: u32, code: &Code) -> bool
             body,
             ..
         } => {
-            option_below(bound, test)
-                && option_below(bound, step)
-                && code_below(bound, body.get())
+            option_below(bound, test) && option_below(bound, step) && code_below(bound, body.get())
         }
         Code::Repeat { test, body, .. } => {
             value_below(bound, test.get()) && code_below(bound, body.get())
