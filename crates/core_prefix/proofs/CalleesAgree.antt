@@ -21,8 +21,8 @@ use Rattle.core_tree.specs.declared.expr.OutsideAnswer.TheVariants as answer
 use Rattle.core_tree.specs.declared.expr.Pointee.TheVariants as pointee
 use Rattle.core_tree.specs.declared.types.ValueType.{ValueType}
 use Rattle.core_tree.specs.States.{Taking, Done, Outcome, Calls, Level, entered, meets, returned}
-use Rattle.core_tree.specs.Callees.{Spoken, arguments_of, formed_arg, behind_star, star_args, first_value, spoken, prints}
-use Rattle.core_tree.specs.Callees.{seen_all, filled, filled_by, fill_count, value_or_zero}
+use Rattle.core_tree.specs.Callees.{Spoken, arguments_of, formed_arg, behind_star, star_args, first_value, spoken}
+use Rattle.core_tree.specs.Callees.{prints, seen_all, filled, filled_by, fill_count, value_or_zero}
 use Rattle.core_tree.specs.Callees.{outside_answer, outside_call, body_call, callee_size, callee_room}
 use Rattle.core_tree.specs.Values.{acting}
 use Rattle.core_prefix.specs.Calls.{callee_below}
@@ -110,7 +110,8 @@ module _ {O : Type 0} {n : ℕ} (p : Levels O n) where
 
   -- ---- functions outside
 
-  answer_agrees : (type : ValueType) (x : OutsideAnswer) → outside_answer (one p) type x ≡ outside_answer (other p) type x
+  answer_agrees : (type : ValueType) (x : OutsideAnswer)
+      → outside_answer (one p) type x ≡ outside_answer (other p) type x
   answer_agrees type answer.Nothing = refl
   answer_agrees type answer.Number = refl
   answer_agrees type (answer.Pointer never_null pointee.Text) = refl
@@ -129,7 +130,8 @@ module _ {O : Type 0} {n : ℕ} (p : Levels O n) where
   outside_agrees at type x None =
       ap {B = List ℤ → ℕ → Done O → Done O} (λ (f : ℕ → Done O → Done O) vs q d. f q d) (answer_agrees type x)
   outside_agrees at type x (Some f) =
-      ap {B = List ℤ → ℕ → Done O → Done O} (λ (g : ℕ → ℕ → ℕ → Done O → Done O) vs q d. g q (address (value_or_zero vs f.buffer))
+      ap {B = List ℤ → ℕ → Done O → Done O}
+      (λ (g : ℕ → ℕ → ℕ → Done O → Done O) vs q d. g q (address (value_or_zero vs f.buffer))
       (fill_count (one p) q (address (value_or_zero vs f.length))) d) (filled_agrees f.counts at type x)
 
   -- ---- all calls

@@ -228,10 +228,12 @@ module _ {O : Type 0} {n : ℕ} (p : Levels O n) where
   test_agrees at None h = refl
   test_agrees at (Some c) h = ap (λ (v : Worth O). test_of (one p) at (Some (steady v))) h
 
-  module _ (at : ℕ) (t : Option (Value O)) (x s : Item O) (g : OptionAgrees t) (h : ItemAgrees x) (i : ItemAgrees s) where
+  module _ (at : ℕ) (t : Option (Value O)) (x s : Item O)
+      (g : OptionAgrees t) (h : ItemAgrees x) (i : ItemAgrees s) where
     turns_agree : (m : ℕ) (env : Env) → turns_from at t x s (one p) env m ≡ turns_from at t x s (other p) env m
     turns_agree zero env =
-        ap {B = ℕ → Arrow O} (λ (v : Test O) base. v.run env base (λ b. one_of b (left_at at) stay)) (test_agrees at t g)
+        ap {B = ℕ → Arrow O} (λ (v : Test O) base. v.run env base (λ b. one_of b (left_at at) stay))
+        (test_agrees at t g)
     turns_agree (suc m) env =
         ap₃ (λ (u : Test O) (v w : Work O). turn u v w (turns_from at t x s (one p) env m) env) (test_agrees at t g) h i
         ∙ ap {B = ℕ → Arrow O}
@@ -241,12 +243,14 @@ module _ {O : Type 0} {n : ℕ} (p : Levels O n) where
   looped_agrees : (at : ℕ) (t s : Option (Value O)) (x : Item O) → OptionAgrees t → OptionAgrees s → ItemAgrees x
       → ItemAgrees (looped at t s x)
   looped_agrees at t s x g i h =
-      let after = maybe_agrees s i in
+      let after = maybe_evaluated s in
+      let needs = turn_needs t x after in
+      let behind = maybe_agrees s i in
       ap₃ (λ (u : Test O) (v w : Work O). turns_work p.turns (u.size + (v.size + w.size)) (u.room + (v.room + w.room))
-      (λ env. turns_from at t x (maybe_evaluated s) (one p) env p.turns)) (test_agrees at t g) h after
-      ∙ ap (λ (run : Env → ℕ → Arrow O). turns_work p.turns ((turn_needs t x (maybe_evaluated s)).size (other p).measures)
-      ((turn_needs t x (maybe_evaluated s)).room (other p).measures) run)
-      (fun_ext (λ env. turns_agree at t x (maybe_evaluated s) g h after p.turns env))
+      (λ env. turns_from at t x after (one p) env p.turns)) (test_agrees at t g) h behind
+      ∙ ap (λ (run : Env → ℕ → Arrow O).
+      turns_work p.turns (needs.size (other p).measures) (needs.room (other p).measures) run)
+      (fun_ext (λ env. turns_agree at t x after g h behind p.turns env))
 
   module _ (at : ℕ) (x : Item O) (t : Value O) (h : ItemAgrees x) (g : ValueAgrees p t) where
     rounds_agree : (m : ℕ) (env : Env) → rounds_from at x t (one p) env m ≡ rounds_from at x t (other p) env m

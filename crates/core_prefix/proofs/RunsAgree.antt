@@ -1,5 +1,6 @@
 -- A core without the functions that none of the others calls runs as the core does.
-use Rattle.std.proofs.Common.{◌≡◌, ℕ, zero, suc, ◌+◌, ◌-◌, Bool, true, false, ◌&&◌, cond, List, [], ◌∷◌, length, map, take}
+use Rattle.std.proofs.Common.{◌≡◌, ℕ, zero, suc, ◌+◌, ◌-◌, Bool, true, false, ◌&&◌, cond, List, [], ◌∷◌, length, map}
+use Rattle.std.proofs.Common.{take}
 use Rattle.std.proofs.Common.{Option, Some, None, refl, sym, ap, ap₂, ◌∙◌, arith}
 use Rattle.std.specs.Prelude.{ℤ, nat_le, nat_lt, slice_get}
 use Rattle.std.specs.List.{list_all}
@@ -119,7 +120,8 @@ module _ {O : Type 0} (n : ℕ) (p : Core) (bodies : list_all (function_below n)
         → called_at (level_of whole k) (maybe_body x) ≡ called_at (level_of short k) (maybe_body x)
     call_agrees None below = refl
     call_agrees (Some f) below =
-        ap (λ (m : Measures). by_body (record (level_of whole k f) { measures = m }) (body_of f)) (measures_are whole k f)
+        ap (λ (m : Measures). by_body (record (level_of whole k f) { measures = m }) (body_of f))
+        (measures_are whole k f)
         ∙ ap (λ (w : Work O). by_body (one (levels f)) (record { function = f; item = lasting w })) (works f below)
         ∙ ap (λ (m : Measures). by_body (record (level_of short k f) { measures = m }) (body_of f))
         (sym (measures_are short k f))

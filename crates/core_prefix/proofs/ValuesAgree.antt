@@ -1,4 +1,4 @@
--- Two levels on which functions below a bound do the same: each expression that calls no other function does the same on
+-- Two levels on which functions below a bound do the same: an expression that calls no other function does the same on
 -- both.
 use Rattle.std.proofs.Common.{◌≡◌, ℕ, suc, ◌+◌, ℤ, Bool, true, false, ◌&&◌, List, [], ◌∷◌, map}
 use Rattle.std.proofs.Common.{refl, sym, ap, ap₂, ◌∙◌}
@@ -9,8 +9,8 @@ use Rattle.core_tree.specs.declared.expr.Expr.TheVariants as expr
 use Rattle.core_tree.specs.declared.types.ValueType.{ValueType}
 use Rattle.core_tree.specs.States.{◌>>=◌, found, note, Level, Run, Taking}
 use Rattle.core_tree.specs.Values.{Value, value, all_sizes, all_rooms, arguments, needed}
-use Rattle.core_tree.specs.Values.{loaded, target, pointer, offset, extract, convert, cast, turn, negated, operate, both}
-use Rattle.core_tree.specs.Values.{either, choose, store, update, step, comma}
+use Rattle.core_tree.specs.Values.{loaded, target, pointer, offset, extract, convert, cast, turn, negated, operate}
+use Rattle.core_tree.specs.Values.{both, either, choose, store, update, step, comma}
 use Rattle.core_tree.proofs.Equations as eq
 use Rattle.core_tree.proofs.Induction.{Each, ExprSteps, of_expr}
 use Rattle.core_prefix.specs.Calls.{callee_below, value_below}
@@ -106,7 +106,8 @@ module _ {O : Type 0} {n : ℕ} (p : Levels O n) where
   over_one f here there x h = sym (here x) ∙ ap (λ (w : Worth O). worth (one p) (f (steady w))) h ∙ there x
 
   over_two : (f : Value O → Value O → Value O)
-      → ((x y : Value O) → worth (one p) (f (steady (worth (one p) x)) (steady (worth (one p) y))) ≡ worth (one p) (f x y))
+      → ((x y : Value O)
+      → worth (one p) (f (steady (worth (one p) x)) (steady (worth (one p) y))) ≡ worth (one p) (f x y))
       → ((x y : Value O)
       → worth (one p) (f (steady (worth (other p) x)) (steady (worth (other p) y))) ≡ worth (other p) (f x y))
       → (x y : Value O) → ValueAgrees x → ValueAgrees y → ValueAgrees (f x y)

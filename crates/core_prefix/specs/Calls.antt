@@ -1,5 +1,5 @@
--- Whether all functions that are called by their bodies have numbers below a bound: one line a form, over what stands in
--- it.
+-- Whether all functions that are called by their bodies have numbers below a bound: one line a form, over what stands
+-- in it.
 use Rattle.std.specs.Prelude.{ℕ, Bool, true, nat_lt, ◌&&◌, List, Option, Some, None}
 use Rattle.std.specs.List.{list_all}
 use Rattle.core_tree.specs.declared.code.Code.{Code, fold-Code}

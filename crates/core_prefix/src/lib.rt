@@ -3,6 +3,8 @@
 
 mod codes;
 mod cutting;
+#[cfg(test)]
+mod tests;
 mod values;
 
 pub use cutting::cut;
