@@ -221,6 +221,10 @@ module _ (n : ℕ) (p : Core) (closed : is_closed n p ≡ true) where
     size = λ w limits depth. sym (size_is n p bodies_below plain w limits depth main_below);
   }
 
+-- where the first functions need no other, these are left
+pub cut_closed : (n : ℕ) (p : Core) → is_closed n p ≡ true → cut n p ≡ prefix n p
+cut_closed n p closed = ap (λ b. record p { functions = cond b (take n p.functions) p.functions }) closed
+
 pub cut_runs : (n : ℕ) (p : Core) → RunsAs (cut n p) p
 cut_runs n p = by_closed (is_closed n p) refl where
   by_closed : (b : Bool) → is_closed n p ≡ b → RunsAs
