@@ -43,6 +43,6 @@ impl<'a> Callees for Calling<'a> {
     }
 
     fn callee(&self, alloc: Global, site: &Site, scope: &Scope) -> Result<Callee, NoCore> {
-        callee_of(alloc, self, site, scope)
+        Ok(callee_of(alloc, self, site, scope)?)
     }
 }

@@ -1,4 +1,3 @@
-use Rattle.std.proofs.lemmas.Result.{IfOk-weaker}
 use Rattle.c_means.specs.Values.{bytes_of, class_in}
 use Rattle.core_forms.specs.Nodes.{type_as}
 use Rattle.core_forms.proofs.KindLaws.{converts_same}
@@ -7,10 +6,9 @@ use Rattle.core_callees.specs.Knows.{known_by}
 use Rattle.core_callees.proofs.CallLaws.{chosen}
 use Rattle.core_callees.proofs.calling.CallingCallees.callee.Goals as goal
 
-pub returns : goal.returns
-returns c =
-    IfOk-weaker c.callee_of.result _ _
-    (λ y e. chosen (known_by c.args.self.now) (site_of c.args.site.now c.args.scope.now)
+pub returns-in_ok-callee_of : goal.returns-in_ok-callee_of
+returns-in_ok-callee_of c =
+    chosen (known_by c.args.self.now) (site_of c.args.site.now c.args.scope.now)
     (type_as c.args.scope.now.tables c.args.site.now.ctype)
-    (converts_same (class_in c.args.site.now.ctype) (bytes_of c.args.scope.now.tables c.args.site.now.ctype)) y e)
-    c.callee_of.ensures
+    (converts_same (class_in c.args.site.now.ctype) (bytes_of c.args.scope.now.tables c.args.site.now.ctype))
+    c.in_ok-callee_of.field-0 c.in_ok-callee_of.ensures
