@@ -25,6 +25,7 @@ use Rattle.elaborate.specs.Means.{as_done, Like}
 use Rattle.core_programs.specs.Programs.{maybe_function, link_objects, text_object, contents_if, object_of}
 use Rattle.core_programs.specs.Programs.{only_if, declared_objects, defined_objects, objects_of}
 use Rattle.core_programs.specs.Programs.{AllSettings, bare_numbering, joined, IsStartOf, machine_for}
+use Rattle.core_programs.specs.Quiet.{IsLast}
 
 -- ---- where a run is running, or not
 
@@ -244,6 +245,16 @@ none_some : {A : Type 0} {x : A} → None ≡ Some x → ⊥
 none_some e = cc
 
 -- what runs where no function does
+bare_last : (m : whole.Machine) (p : Core) → IsLast (whole.bare m m.limits.turns) (core.bare (machine_for m p))
+bare_last m p = record {
+  size = λ g. refl;
+  room = λ g. refl;
+  leaves = λ g env vs base s n. refl;
+  function_size = λ f. refl;
+  function_room = λ f. refl;
+  none_left = refl;
+}
+
 bare_like : (m : whole.Machine) (p : Core) → Like (bare_numbering m) (whole.bare m m.limits.turns)
     (core.bare (machine_for m p))
 bare_like m p = record {
@@ -253,7 +264,7 @@ bare_like m p = record {
   turns = refl;
   static_places = refl;
   identity = refl;
-  bodies = λ g f e. absurd (none_some e);
+  bodies = λ g f e. record { size = refl; room = refl; runs = λ env vs base s o. refl };
   rules = λ g r e. absurd (none_some e);
 }
 
@@ -268,7 +279,7 @@ sets_same m p (xs ∷ xss) (y ∷ ys) h d =
     let l = whole.bare m m.limits.turns in
     let b = core.bare (machine_for m p) in
     sets_append xs (joined xss) b (as_done d)
-    ∙ ap (λ o. onward o (running (core.sets_all (joined xss) b))) (h.0.set l b (bare_like m p) d)
+    ∙ ap (λ o. onward o (running (core.sets_all (joined xss) b))) (h.0.set l b (bare_last m p) (bare_like m p) d)
     ∙ sets_same m p xss ys h.1 (runs.running (y.set l) d)
     ∙ ap (λ r. Some (as_done r)) (sym (source_first (y.set l) (whole.sets m ys) d))
 
@@ -282,7 +293,7 @@ sets_quiet m p (xs ∷ xss) (y ∷ ys) h d =
     let l = whole.bare m m.limits.turns in
     ap (λ (r : State). r.printed) (source_first (y.set l) (whole.sets m ys) d)
     ∙ sets_quiet m p xss ys h.1 (runs.running (y.set l) d)
-    ∙ h.0.prints l (core.bare (machine_for m p)) (bare_like m p) d
+    ∙ h.0.prints l (core.bare (machine_for m p)) (bare_last m p) d
 
 -- ---- before `main` is called
 
