@@ -1,10 +1,11 @@
 -- What the calls of a function depend on, and what they are by that.
 use Rattle.std.specs.Prelude.{ℕ, ◌+◌, Bool, Option, Some, None, List}
+use Rattle.plain_data.specs.declared.run.Finish.TheVariants as finish
 use Rattle.c_language.specs.declared.scope.Entry.{Entry}
 use Rattle.c_language.specs.Scopes.{Name}
 use Rattle.c_means.specs.Parts.{Level, Limits, Site, World, entered}
 use Rattle.c_means.specs.declared.profile.Profile.{Profile}
-use Rattle.c_means.specs.Calls.{log_call, log_pieces, pointers_in, identity_call, library_call, outside_call}
+use Rattle.c_means.specs.Calls.{finished, log_call, log_pieces, pointers_in, identity_call, library_call, outside_call}
 use Rattle.c_means.specs.Rules.{Taking, Rules, LogCall, IdentityCall, BodyCall, LibraryCall, PreludeCall, OutsideCall}
 use Rattle.c_means.specs.Rules.{rule_by, log_of, identity_index, fill_of, library_of, callee_taking, is_among}
 use Rattle.elaborate.specs.Means.{Numbering, Ruling}
@@ -37,7 +38,7 @@ number_in OutsideCall = None
 abbrev pub is_never_null : Known → Site → Bool
 is_never_null x g = is_among g.callee.name x.profile.never_null
 
--- where a call by rule runs
+-- where a call by rule runs: a call there is one level too many
 abbrev pub bare_in : Known → World → Limits → Level
 bare_in x world limits = record {
   world = world;
@@ -47,7 +48,7 @@ bare_in x world limits = record {
   identity = identity_index x.profile;
   size = λ g. 0;
   room = λ g. 0;
-  call = λ g env vs base s count. entered s count;
+  call = λ g env vs base s count. finished (finish.Left g.at) (entered s count);
 }
 
 -- what a call by rule does

@@ -6,8 +6,8 @@ use Rattle.core_callees.specs.Knows.{known_by}
 use Rattle.core_callees.proofs.CallLaws.{chosen}
 use Rattle.core_callees.proofs.calling.CallingCallees.callee.Goals as goal
 
-pub returns-in_ok-callee_of : goal.returns-in_ok-callee_of
-returns-in_ok-callee_of c =
+pub returns : goal.returns
+returns c =
     chosen (known_by c.args.self.now) (site_of c.args.site.now c.args.scope.now)
     (type_as c.args.scope.now.tables c.args.site.now.ctype)
     (converts_same (class_in c.args.site.now.ctype) (bytes_of c.args.scope.now.tables c.args.site.now.ctype))
