@@ -1,8 +1,7 @@
 -- The variables that a print shows, in the core and in C.
-use Rattle.std.proofs.Common.{◌≡◌, ℕ, List, [], ◌∷◌, ◌++◌, map, Option, Some, None, refl, sym, ap, ap₂, ◌∙◌}
+use Rattle.std.proofs.Common.{◌≡◌, ℕ, List, [], ◌∷◌, ◌++◌, Option, Some, None, refl, sym, ap, ap₂, ◌∙◌}
 use Rattle.std.proofs.lemmas.List.{map-append}
 use Rattle.c_language.specs.declared.ctype.IntegerKind.{IntegerKind}
-use Rattle.c_language.specs.Integers as integers
 use Rattle.c_language.specs.Types.{kind_of}
 use Rattle.c_store.specs.Store.{Store, read, start}
 use Rattle.c_language.specs.declared.scope.Duration.{Duration}
