@@ -1,3 +1,4 @@
+use Rattle.std.proofs.lemmas.Result.{IfOk-weaker}
 use Rattle.c_means.specs.Values.{bytes_of, class_in}
 use Rattle.core_forms.specs.Nodes.{type_as}
 use Rattle.core_forms.proofs.KindLaws.{converts_same}
@@ -8,7 +9,8 @@ use Rattle.core_callees.proofs.calling.CallingCallees.callee.Goals as goal
 
 pub returns : goal.returns
 returns c =
-    chosen (known_by c.args.self.now) (site_of c.args.site.now c.args.scope.now)
+    IfOk-weaker c.callee_of.result _ _
+    (λ y is. chosen (known_by c.args.self.now) (site_of c.args.site.now c.args.scope.now)
     (type_as c.args.scope.now.tables c.args.site.now.ctype)
-    (converts_same (class_in c.args.site.now.ctype) (bytes_of c.args.scope.now.tables c.args.site.now.ctype))
-    c.in_ok-callee_of.field-0 c.in_ok-callee_of.ensures
+    (converts_same (class_in c.args.site.now.ctype) (bytes_of c.args.scope.now.tables c.args.site.now.ctype)) y is)
+    c.callee_of.ensures
