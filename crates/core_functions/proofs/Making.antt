@@ -25,8 +25,8 @@ use Rattle.c_means.specs.Items.{node, nothing}
 use Rattle.c_means.specs.Items as runs
 use Rattle.c_means.specs.Names.{Names}
 use Rattle.c_means.specs.Notes.{declarator_noted, specifier_noted}
-use Rattle.c_means.specs.Programs.{Function, Outer}
-use Rattle.c_means.specs.Programs.{body_item, braced, braces, code_in, function_from, outer, with_function, unread_in}
+use Rattle.c_means.specs.Programs.{Function, Outer, body_item, braced, braces, code_in, function_from, outer}
+use Rattle.c_means.specs.Programs.{unread_in, with_function}
 use Rattle.c_means.specs.Statements.{stmt, returns_void}
 use Rattle.c_means.proofs.RunFusion as notes_fusion
 use Rattle.core_tree.specs.declared.code.Code.{Code}
@@ -46,8 +46,8 @@ use Rattle.core_codes.specs.Settings.{AreAllSet}
 use Rattle.core_functions.specs.declared.definitions.Definition.{Definition}
 use Rattle.core_functions.specs.declared.heads.Head.{Head}
 use Rattle.core_functions.specs.declared.heads.Named.{Named}
-use Rattle.core_functions.specs.Definitions.{IsHeadOf, IsInside, IsMadeOf, MaybeMadeOf, IsDefinitionOf, MaybeDefinitionOf}
-use Rattle.core_functions.specs.Definitions.{MayMiss, name_of}
+use Rattle.core_functions.specs.Definitions.{name_of, IsHeadOf, IsInside, MayMiss, IsMadeOf, MaybeMadeOf}
+use Rattle.core_functions.specs.Definitions.{IsDefinitionOf, MaybeDefinitionOf}
 use Rattle.core_functions.proofs.Objects.{inside}
 
 -- ---- specifiers and declarators say what they say to the types

@@ -104,7 +104,9 @@ fn with_body(head: Head, is_prelude: bool, body: Body) -> Option<Definition>
     let Content { items, .. } = content;
     let may_miss = may_miss(head.has_value, items.as_slice());
     let Head {
-        named, parameters, ..
+        named,
+        parameters,
+        ..
     } = head;
     let Named { at, name } = named?;
     let function = Function {
@@ -130,8 +132,10 @@ pub fn define<P: Parts>(
     is_prelude: bool,
     scope: &mut Scope,
 ) -> Result<Option<Definition>, AllocError>
-    ensures made { IfOk result (λ x. spec.MaybeDefinitionOf (P.numbering parts.now) x is_prelude (outer (external.Function specifiers.now declarator.now body.now) scope.old)) }
-    ensures after { IfOk result (λ x. scope.new ≡ (outer (external.Function specifiers.now declarator.now body.now) scope.old).after) }
+    ensures made { IfOk result (λ x. spec.MaybeDefinitionOf (P.numbering parts.now) x is_prelude
+        (outer (external.Function specifiers.now declarator.now body.now) scope.old)) }
+    ensures after { IfOk result (λ x. scope.new ≡
+        (outer (external.Function specifiers.now declarator.now body.now) scope.old).after) }
 {
     let around = function_around(scope)?;
     let said = function_says(alloc, specifiers, declarator, scope)?;

@@ -76,10 +76,9 @@ fn stored_as(tables: &Tables, means: &Means) -> ValueType
 fn parameter(scope: &Scope, entry: &Entry) -> Parameter
     ensures { IsParameter scope.now result entry.now }
 {
-    Parameter {
-        at: entry.at,
-        stored: stored_as(scope.tables(), &entry.means),
-    }
+    let at = entry.at;
+    let stored = stored_as(scope.tables(), &entry.means);
+    Parameter { at, stored }
 }
 
 /// The parameters of a definition, in order. It fails for want of memory alone.

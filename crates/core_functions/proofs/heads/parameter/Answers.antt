@@ -4,5 +4,5 @@ use Rattle.core_functions.proofs.heads.parameter.Goals as goal
 
 pub returns : goal.returns
 returns c =
-    object c.args.scope.now c.args.entry.now c.tables.result.now c.stored_as.result _ c.tables.ensures
-    c.stored_as.ensures refl
+    object c.args.scope.now c.args.entry.now c.tables.result.now c.stored_as-stored.result _ c.tables.ensures
+    c.stored_as-stored.ensures refl
