@@ -88,7 +88,11 @@ met_by m x =
 abbrev pub no_calls : (ℕ → ℕ) → (Name → Option ℕ) → Numbering
 no_calls place identity = record { place = place; identity = identity; body = λ g. Some 0; rule = λ g. None }
 
--- what these set there is what the initializer of an object does, which prints nothing
+-- in a function that calls none
+abbrev pub without_calls : (ℕ → ℕ) → (Name → Option ℕ) → Numbering
+without_calls place identity = record { place = place; identity = identity; body = λ g. None; rule = λ g. None }
+
+-- what these set where no function runs is what the initializer of an object does, which prints nothing
 pub record AreSettings (numbering : Numbering) (xs : List LastingSetting) (x : Lasting) : Type 0 where
   pub set : (l : c.Level) (k : Level Output) → IsLast l k → Like numbering l k → (d : State)
       → running (core.sets_all xs k) (as_done d) ≡ Some (as_done (runs.running (x.set l) d))
@@ -124,7 +128,8 @@ HasArguments false (e ∷ f ∷ []) = ⊥
 HasArguments false _ = Unit {0}
 
 -- its number is that of the core of its body
-pub record IsMainOf (numbering : Function → Numbering) (m : whole.Machine) (p : Core) (k : Machine Output) : Type 0 where
+pub record IsMainOf (numbering : Function → Numbering) (m : whole.Machine) (p : Core) (k : Machine Output) :
+    Type 0 where
   pub function : Function
   pub is_main : whole.main_of m ≡ Some function
   pub body : Body Output
