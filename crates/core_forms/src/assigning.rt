@@ -168,7 +168,13 @@ fn step(
     };
     let target = address_of_node(alloc, node)?;
     let access = scalar_access(told, rooted);
-    Ok(stepped(at, operator_of(operator, left, right), answer, access, target))
+    Ok(stepped(
+        at,
+        operator_of(operator, left, right),
+        answer,
+        access,
+        target,
+    ))
 }
 
 /// The operator that `++` or `--` behind its operand is (C99 6.5.2.4p2, p3).
