@@ -25,6 +25,7 @@ use Rattle.elaborate.specs.Means.{as_done, Like}
 use Rattle.core_programs.specs.Programs.{maybe_function, link_objects, text_object, contents_if, object_of}
 use Rattle.core_programs.specs.Programs.{only_if, declared_objects, defined_objects, objects_of}
 use Rattle.core_programs.specs.Programs.{AllSettings, bare_numbering, joined, IsStartOf, machine_for}
+use Rattle.core_programs.specs.Quiet.{IsLast}
 
 -- ---- where a run is running, or not
 
@@ -142,12 +143,13 @@ object_quiet m x d =
     let n = whole.final_size m.program x (entry_in m.program.scope.file x.entry.name) in
     zeroed_quiet x.is_defined place n (whole.object_at object.Static place n d)
 
-either_quiet : (b : Bool) (x y : State) (text : List ℕ) → x.printed ≡ text → y.printed ≡ text → (cond b x y).printed ≡ text
+either_quiet : (b : Bool) (x y : State) (text : List ℕ) → x.printed ≡ text → y.printed ≡ text
+    → (cond b x y).printed ≡ text
 either_quiet true x y text p q = p
 either_quiet false x y text p q = q
 
-objects_quiet : (m : whole.Machine) (b : Bool) (xs : List Lasting) (d : State) → (whole.makes_objects m b xs d).printed ≡
-    d.printed
+objects_quiet : (m : whole.Machine) (b : Bool) (xs : List Lasting) (d : State)
+    → (whole.makes_objects m b xs d).printed ≡ d.printed
 objects_quiet m true [] d = refl
 objects_quiet m false [] d = refl
 objects_quiet m true (x ∷ xs) d =
@@ -166,7 +168,8 @@ makes_same m x d =
     let linked = whole.makes_links m x.links d in
     let with_texts = whole.makes_texts m x.texts linked in
     made_append links (texts ++ (declared_objects m x.lasting ++ defined_objects m x.lasting)) (as_done d)
-    ∙ ap (core.makes_all (texts ++ (declared_objects m x.lasting ++ defined_objects m x.lasting))) (links_made m x.links d)
+    ∙ ap (core.makes_all (texts ++ (declared_objects m x.lasting ++ defined_objects m x.lasting)))
+    (links_made m x.links d)
     ∙ made_append texts (declared_objects m x.lasting ++ defined_objects m x.lasting) (as_done linked)
     ∙ ap (core.makes_all (declared_objects m x.lasting ++ defined_objects m x.lasting)) (texts_made m x.texts linked)
     ∙ made_append (declared_objects m x.lasting) (defined_objects m x.lasting) (as_done with_texts)
@@ -192,7 +195,8 @@ running_first : (a f g h : Arrow Output) (d : Done Output) → ((r : Done Output
     → running (λ d. onward (a d) f) d ≡ onward (running (λ d. onward (a d) g) d) (running h)
 running_first a f g h d same = by (running_or d.kind) where
   by : Result (d.kind ≡ k.Running) (Passes d.kind)
-      → where_running d.kind (onward (a d) f) (Some d) ≡ onward (where_running d.kind (onward (a d) g) (Some d)) (running h)
+      → where_running d.kind (onward (a d) f) (Some d)
+      ≡ onward (where_running d.kind (onward (a d) g) (Some d)) (running h)
   by (Ok e) =
       ap (λ kind. where_running kind (onward (a d) f) (Some d)) e ∙ onward_first (a d) f g (running h) same
       ∙ ap (λ kind. onward (where_running kind (onward (a d) g) (Some d)) (running h)) (sym e)
@@ -244,6 +248,16 @@ none_some : {A : Type 0} {x : A} → None ≡ Some x → ⊥
 none_some e = cc
 
 -- what runs where no function does
+bare_last : (m : whole.Machine) (p : Core) → IsLast (whole.bare m m.limits.turns) (core.bare (machine_for m p))
+bare_last m p = record {
+  size = λ g. refl;
+  room = λ g. refl;
+  leaves = λ g env vs base s n. refl;
+  function_size = λ f. refl;
+  function_room = λ f. refl;
+  none_left = refl;
+}
+
 bare_like : (m : whole.Machine) (p : Core) → Like (bare_numbering m) (whole.bare m m.limits.turns)
     (core.bare (machine_for m p))
 bare_like m p = record {
@@ -253,7 +267,7 @@ bare_like m p = record {
   turns = refl;
   static_places = refl;
   identity = refl;
-  bodies = λ g f e. absurd (none_some e);
+  bodies = λ g f e. record { size = refl; room = refl; runs = λ env vs base s o. refl };
   rules = λ g r e. absurd (none_some e);
 }
 
@@ -268,7 +282,7 @@ sets_same m p (xs ∷ xss) (y ∷ ys) h d =
     let l = whole.bare m m.limits.turns in
     let b = core.bare (machine_for m p) in
     sets_append xs (joined xss) b (as_done d)
-    ∙ ap (λ o. onward o (running (core.sets_all (joined xss) b))) (h.0.set l b (bare_like m p) d)
+    ∙ ap (λ o. onward o (running (core.sets_all (joined xss) b))) (h.0.set l b (bare_last m p) (bare_like m p) d)
     ∙ sets_same m p xss ys h.1 (runs.running (y.set l) d)
     ∙ ap (λ r. Some (as_done r)) (sym (source_first (y.set l) (whole.sets m ys) d))
 
@@ -282,7 +296,7 @@ sets_quiet m p (xs ∷ xss) (y ∷ ys) h d =
     let l = whole.bare m m.limits.turns in
     ap (λ (r : State). r.printed) (source_first (y.set l) (whole.sets m ys) d)
     ∙ sets_quiet m p xss ys h.1 (runs.running (y.set l) d)
-    ∙ h.0.prints l (core.bare (machine_for m p)) (bare_like m p) d
+    ∙ h.0.prints l (core.bare (machine_for m p)) (bare_last m p) d
 
 -- ---- before `main` is called
 
