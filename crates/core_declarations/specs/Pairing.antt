@@ -1,10 +1,12 @@
 -- What it is that expressions of an initializer were put to the parts that they set.
-use Rattle.std.specs.Prelude.{◌≡◌, ℕ, pos, List, [], ◌∷◌, ◌++◌, Option, unwrap_or, Result}
+use Rattle.std.specs.Prelude.{◌≡◌, ℕ, pos, List, [], ◌∷◌, ◌++◌, Option, Some, unwrap_or, Result}
 use Rattle.c_language.specs.declared.tables.Tables.{Tables}
+use Rattle.c_language.specs.Types.{class_of}
 use Rattle.c_language.specs.Initials.{Part, is_literal_in}
 use Rattle.c_language.specs.Scopes.{Scope}
 use Rattle.c_means.specs.Parts.{Level}
 use Rattle.c_means.specs.Parts as c
+use Rattle.c_means.specs.Values.{bytes_of}
 use Rattle.c_means.specs.Notes.{Noted}
 use Rattle.c_means.specs.Initials as initials
 use Rattle.core_tree.specs.declared.code.Setting.{Setting}
@@ -14,7 +16,7 @@ use Rattle.core_tree.specs.declared.expr.Expr.TheVariants as expr
 use Rattle.core_tree.specs.States as core
 use Rattle.core_tree.specs.Values.{value}
 use Rattle.elaborate.specs.Means.{Numbering, Like, IsValueOf}
-use Rattle.code_forms.specs.Nodes.{value_setting_node}
+use Rattle.elaborate.specs.Types.{value_type}
 use Rattle.core_objects.specs.Given.{IsSet}
 use Rattle.core_declarations.specs.declared.pairing.Source.{Source}
 use Rattle.core_declarations.specs.declared.pairing.Pair.{Pair}
@@ -45,7 +47,10 @@ text_pair tables p text =
     }
 
 abbrev pub value_pair : Tables → Part → Expr → Pair
-value_pair tables p e = record { setting = value_setting_node tables p.type p.offset e; counted = e }
+value_pair tables p e = record {
+  setting = setting.Value p.offset (value_type (class_of p.type) (bytes_of tables (Some p.type))) e;
+  counted = e;
+}
 
 -- ---- all of them
 

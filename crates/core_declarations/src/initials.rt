@@ -44,7 +44,7 @@ fn and_next(
     found: Walked,
 ) -> Result<Walked, AllocError>
     ensures says { IfOk result (λ z. filling_in z.filling scope.now ≡ braces.fills_value (typed_in x.told scope.now) (filling_in found.filling scopes.empty)) }
-    ensures goes { (numbering : Numbering) (n : Noted) (ns : List Noted) → IsHeard numbering x n scope.now → spec.HasGone numbering ns found → IfOk result (λ z. spec.HasGone numbering (ns ++ n ∷ []) z) }
+    ensures goes { (numbering : Numbering) (n : Noted) → IsHeard numbering x n scope.now → IfOk result (λ z. (ns : List Noted) → spec.HasGone numbering ns found → spec.HasGone numbering (ns ++ n ∷ []) z) }
 {
     let Walked { filling, paired } = found;
     let Heard { told, value, text } = x;

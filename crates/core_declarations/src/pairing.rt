@@ -161,7 +161,7 @@ fn with_part(
     source: Source,
     paired: Paired,
 ) -> Result<Paired, AllocError>
-    ensures { (numbering : Numbering) (n : Noted) → spec.IsSource numbering source n → tables.now ≡ n.part.typed.after.tables → IfOk result (λ y. spec.HasPair numbering paired part.now n y) }
+    ensures { IfOk result (λ y. (numbering : Numbering) (n : Noted) → spec.IsSource numbering source n → tables.now ≡ n.part.typed.after.tables → spec.HasPair numbering paired part.now n y) }
 {
     let pair = pair_of(alloc, tables, part, source)?;
     and_pair(pair, paired)

@@ -1,8 +1,6 @@
 -- What is set before the program starts is what the initializer of an object that lives throughout the run does.
 use Rattle.std.proofs.Common.{◌≡◌, ℕ, ◌+◌, Bool, List, [], ◌∷◌, ◌++◌, map, Option, Some, None, refl, sym, ap, ◌∙◌, arith}
 use Rattle.c_store.specs.Store.{start}
-use Rattle.c_means.specs.declared.kind.Kind.{Kind}
-use Rattle.c_means.specs.declared.kind.Kind.TheVariants as k
 use Rattle.c_means.specs.Parts.{State}
 use Rattle.c_means.specs.Parts as c
 use Rattle.c_language.specs.declared.scope.Entry.{Entry}
@@ -16,7 +14,8 @@ use Rattle.core_tree.specs.Programs as core
 use Rattle.elaborate.specs.Means.{Numbering, Like, as_done}
 use Rattle.elaborate.proofs.Codes.{running_same}
 use Rattle.core_programs.specs.Programs.{AreSettings}
-use Rattle.core_programs.specs.Quiet.{IsLast, IsQuiet}
+use Rattle.core_programs.specs.Quiet.{IsQuiet}
+use Rattle.core_programs.proofs.Quiet.{lasting_quiet}
 use Rattle.core_objects.specs.Begun.{bare}
 use Rattle.core_objects.specs.Given.{IsGiven, lasting_setting}
 
@@ -58,21 +57,6 @@ pub set_more : (place : ℕ) (xs : List Setting) (x : Setting)
 set_more place [] x = refl
 set_more place (y ∷ xs) x = ap (λ ys. lasting_setting place y ∷ ys) (set_more place xs x)
 
--- ---- nothing is printed
-
-running_quiet : (f : runs.Arrow) (d : State) → (f d).printed ≡ d.printed → (runs.running f d).printed ≡ d.printed
-running_quiet f d h = by d.kind
-  where
-    by : (kind : Kind) → (runs.where_running kind (f d) d).printed ≡ d.printed
-    by k.Running = h
-    by k.Breaking = refl
-    by k.Continuing = refl
-    by k.Returning = refl
-    by (k.Going label) = refl
-    by (k.Choosing z) = refl
-    by k.Defaulting = refl
-    by (k.Ended f) = refl
-
 -- ---- an object that lives throughout the run
 
 module _ (numbering : Numbering) (en : Entry) (xs : List Setting) (x : initials.Initial)
@@ -93,6 +77,5 @@ module _ (numbering : Numbering) (en : Entry) (xs : List Setting) (x : initials.
         (core.sets_all (map (lasting_setting (numbering.place en.at)) xs) k) (as_done d)
         (set_alike (numbering.place en.at) xs k (h.room l k like ∙ quiet.room l k last) (as_done d)))
         ∙ set_here at n defined l k like d;
-    prints = λ l k last d. running_quiet ((lasting_object at en n defined x).set l) d
-        (quiet.prints l k last (start (l.static en.at)) no_env 0 d);
+    prints = lasting_quiet at en n defined x quiet;
   }
