@@ -1,30 +1,33 @@
 -- What the core of a program makes and sets before `main` is called is what the program does.
-use Rattle.std.proofs.Common.{◌≡◌, ℕ, Bool, true, false, cond, not, List, [], ◌∷◌, ◌++◌, map, Option}
+use Rattle.std.proofs.Common.{◌≡◌, ℕ, ℤ, Bool, true, false, cond, not, List, [], ◌∷◌, ◌++◌, map, Option}
 use Rattle.std.proofs.Common.{Some, None, Result, Ok, Err, refl, sym, ap, ◌∙◌}
+use Rattle.plain_data.specs.declared.run.Finish.TheVariants as finish
 use Rattle.c_store.specs.declared.object.ObjectKind.TheVariants as object
-use Rattle.c_store.specs.Store.{start}
+use Rattle.c_store.specs.Store.{Store, start}
 use Rattle.c_language.specs.declared.scope.Linked.{Linked}
 use Rattle.c_language.specs.Scopes.{Name, entry_in, linked_as}
 use Rattle.c_means.specs.declared.kind.Kind.{Kind}
 use Rattle.c_means.specs.declared.kind.Kind.TheVariants as k
-use Rattle.c_means.specs.Parts.{State}
+use Rattle.c_means.specs.Parts.{State, Env}
 use Rattle.c_means.specs.Parts as c
 use Rattle.c_means.specs.Items.{Lasting}
 use Rattle.c_means.specs.Items as runs
 use Rattle.c_means.specs.Programs.{Text, Needs, needs_of}
+use Rattle.c_means.specs.Rules.{identity_index}
 use Rattle.c_means.specs.Runs as whole
 use Rattle.c_means.specs.Statements.{no_env}
 use Rattle.core_tree.specs.declared.program.Core.{Core}
 use Rattle.core_tree.specs.declared.program.LastingObject.{LastingObject}
 use Rattle.core_tree.specs.declared.program.LastingSetting.{LastingSetting}
-use Rattle.core_tree.specs.States.{Output, plain, Done, Arrow, Level, onward, running, where_running}
+use Rattle.core_tree.specs.Callees.{body_call}
+use Rattle.core_tree.specs.States.{Output, plain, Done, Arrow, Level, onward, running, where_running, entered, finished}
 use Rattle.core_tree.specs.Programs.{Machine, machine}
 use Rattle.core_tree.specs.Programs as core
 use Rattle.core_tree.specs.Codes as codes
 use Rattle.elaborate.specs.Means.{as_done, Like}
 use Rattle.core_programs.specs.Programs.{maybe_function, link_objects, text_object, contents_if, object_of}
 use Rattle.core_programs.specs.Programs.{only_if, declared_objects, defined_objects, objects_of}
-use Rattle.core_programs.specs.Programs.{AllSettings, bare_numbering, joined, IsStartOf, machine_for}
+use Rattle.core_programs.specs.Programs.{AllSettings, no_calls, bare_numbering, joined, IsStartOf, machine_for}
 use Rattle.core_programs.specs.Quiet.{IsLast}
 
 -- ---- where a run is running, or not
@@ -247,6 +250,34 @@ core_none d = by (running_or d.kind) where
 none_some : {A : Type 0} {x : A} → None ≡ Some x → ⊥
 none_some e = cc
 
+-- where no call is left, each call is that of function 0
+module _ (place : ℕ → ℕ) (identity : Name → Option ℕ) (l : c.Level) (k : Level Output) (last : IsLast l k)
+    (taken : k.taking ≡ plain)
+  where
+    left : (g : c.Site) (f : ℕ) (env : Env) (vs : List ℤ) (base : ℕ) (s : Store) (o : Output)
+        → body_call k.call k.taking g.at f vs base s o ≡ Some (as_done (l.call g env vs base s o.count))
+    left g f env vs base s o =
+        ap (λ calls. body_call calls k.taking g.at f vs base s o) last.none_left
+        ∙ ap (λ t. Some (finished (finish.Left g.at) (entered t s o))) taken
+        ∙ ap (λ d. Some (as_done d)) (sym (last.leaves g env vs base s o.count))
+
+    pub last_like : k.world ≡ l.world → k.limits ≡ l.limits → k.measures.turns ≡ l.turns → l.static ≡ place
+        → l.identity ≡ identity → Like (no_calls place identity) l k
+    last_like world limits turns placed identified = record {
+      taking = taken;
+      world = world;
+      limits = limits;
+      turns = turns;
+      static_places = placed;
+      identity = identified;
+      bodies = λ g f e. record {
+        size = last.function_size f ∙ sym (last.size g);
+        room = last.function_room f ∙ sym (last.room g);
+        runs = left g f;
+      };
+      rules = λ g r e. absurd (none_some e);
+    }
+
 -- what runs where no function does
 bare_last : (m : whole.Machine) (p : Core) → IsLast (whole.bare m m.limits.turns) (core.bare (machine_for m p))
 bare_last m p = record {
@@ -260,16 +291,9 @@ bare_last m p = record {
 
 bare_like : (m : whole.Machine) (p : Core) → Like (bare_numbering m) (whole.bare m m.limits.turns)
     (core.bare (machine_for m p))
-bare_like m p = record {
-  taking = refl;
-  world = refl;
-  limits = refl;
-  turns = refl;
-  static_places = refl;
-  identity = refl;
-  bodies = λ g f e. record { size = refl; room = refl; runs = λ env vs base s o. refl };
-  rules = λ g r e. absurd (none_some e);
-}
+bare_like m p =
+    last_like (whole.places_of m.program) (identity_index m.profile) (whole.bare m m.limits.turns)
+    (core.bare (machine_for m p)) (bare_last m p) refl refl refl refl refl refl
 
 sets_same : (m : whole.Machine) (p : Core) (xss : List (List LastingSetting)) (ys : List Lasting)
     → AllSettings (bare_numbering m) xss ys → (d : State)
