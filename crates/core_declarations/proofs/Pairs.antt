@@ -1,8 +1,7 @@
 -- What an expression sets in its part, and which expressions have their parts.
-use Rattle.std.proofs.Common.{◌≡◌, ℕ, ◌+◌, ◌<◌, pos, Bool, true, false, cond, List, [], ◌∷◌, ◌++◌, length, get_or, Option}
-use Rattle.std.proofs.Common.{Some, None, Result, Ok, Err, refl, sym, ap, ap₂, ◌∙◌, subst, arith}
+use Rattle.std.proofs.Common.{◌≡◌, ℕ, suc, ◌+◌, pos, Bool, true, false, cond, List, [], ◌∷◌, ◌++◌, length, Option}
+use Rattle.std.proofs.Common.{Some, None, Result, Ok, Err, refl, sym, ap, ap₂, ◌∙◌, subst}
 use Rattle.std.specs.Prelude.{◌&&◌, slice_get, remove, unwrap_or}
-use Rattle.std.proofs.Math.Seq.{get_or-append_seam}
 use Rattle.std.proofs.lemmas.List.{append-nil, append_assoc}
 use Rattle.c_language.specs.declared.tables.Tables.{Tables}
 use Rattle.c_language.specs.Types.{class_of, element_of}
@@ -170,7 +169,7 @@ module _ (numbering : Numbering) where
           → HasPair numbering (record x { waiting = ws }) p m y → AllWait numbering ws left
           → Holds numbering ns (ps ++ p ∷ []) y
       with_step m left noted one others =
-          let step = record { pair = one.pair; part = p; noted = m; is_pair = one.is_pair } in
+          let step : Step numbering = record { pair = one.pair; part = p; noted = m; is_pair = one.is_pair } in
           record {
             steps = h.steps ++ step ∷ [];
             left = left;
@@ -222,13 +221,6 @@ module _ (numbering : Numbering) where
       (subst (λ v. Holds numbering (ns ++ n ∷ []) ps v) (sym made) (waits_held ns ps x s z n h i after))
       (first_of x1.waiting w first)
       (λ m w. subst (λ (v : Paired). HasPair numbering v p m y) others (has m w.source w.after))
-
-  pub one_waits : (x x1 : Paired) (s : Scope) (z : Source) → x1 ≡ waits s z x → 0 < length x1.waiting
-  one_waits x x1 s z made = subst (λ (v : Paired). 0 < length v.waiting) (sym made) (some_more x.waiting)
-    where
-      some_more : (ws : List Waiting) → 0 < length (ws ++ record { scope = s; source = z } ∷ [])
-      some_more [] = arith
-      some_more (w ∷ ws) = arith
 
 -- ---- which part
 

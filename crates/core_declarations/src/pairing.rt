@@ -90,7 +90,7 @@ fn value_pair(tables: &Tables, part: &Part, value: Shared<Expr>) -> Result<Pair,
     ensures { IfOk result (λ y. y ≡ spec.value_pair tables.now part.now value) }
 {
     let counted = value.clone()?;
-    let setting = value_setting(tables, part.ctype.get(), part.offset, value)?;
+    let setting = value_setting(tables, part.ctype.get(), part.offset, value);
     Ok(Pair { setting, counted })
 }
 

@@ -4,7 +4,6 @@ use Rattle.std.proofs.Common.{refl, sym, ap, ◌∙◌, subst}
 use Rattle.std.proofs.lemmas.List.{append-nil}
 use Rattle.c_store.specs.Store.{start}
 use Rattle.c_means.specs.Parts.{State}
-use Rattle.c_means.specs.Parts as c
 use Rattle.c_language.specs.declared.scope.Duration.TheVariants as duration
 use Rattle.c_language.specs.declared.scope.Entry.{Entry}
 use Rattle.c_language.specs.declared.scope.Linkage.{Linkage}

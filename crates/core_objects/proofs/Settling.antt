@@ -8,7 +8,7 @@ use Rattle.c_means.specs.Initials as initials
 use Rattle.c_means.specs.Items as runs
 use Rattle.c_means.specs.Statements.{no_env, lasting_object}
 use Rattle.core_tree.specs.declared.code.Setting.{Setting}
-use Rattle.core_tree.specs.States.{Output, Done, Arrow, Level, Measures, onward, running, where_running}
+use Rattle.core_tree.specs.States.{Output, Done, Arrow, Level, onward, running, where_running}
 use Rattle.core_tree.specs.Codes as codes
 use Rattle.core_tree.specs.Programs as core
 use Rattle.elaborate.specs.Means.{Numbering, Like, as_done}

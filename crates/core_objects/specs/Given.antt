@@ -1,7 +1,6 @@
 -- What an initializer gives to an object: what its expressions set, one behind the other, and how many nodes they count.
 use Rattle.std.specs.Prelude.{◌≡◌, ℕ, Bool, true, false, List, [], map, Some}
 use Rattle.c_language.specs.declared.scope.Duration.TheVariants as duration
-use Rattle.c_language.specs.declared.scope.Entry.{Entry}
 use Rattle.c_language.specs.declared.scope.Means.{Means}
 use Rattle.c_language.specs.declared.scope.Means.TheVariants as means
 use Rattle.c_language.specs.Initials.{Part}

@@ -19,7 +19,7 @@ returns-clause-given g c =
     subst (λ (y : Filled). IsLasting n y.initial (initialising i t s)) (sym c.as_initial.ensures) (record {
       given = held_given (bare n) i.is_braced (filling_of i.says t s) (evaluated i.elements s) z.filling z.paired
           (ap (λ (y : Filling). y.parts) c.in_ok-walked.ensures.says) c.in_ok-walked.ensures.gone;
-      counted = subst (λ (u : CType). IsCounted n c.in_ok-counted.counted (initialising i u s)) c.in_ok-clone.ensures
-          c.in_ok-counted.ensures;
+      counted = subst (λ (u : CType). IsCounted n c.in_ok-counted.counted (initialising i u s))
+          c.in_ok-clone.ensures.cases c.in_ok-counted.ensures;
       quiet = initially_quiet c.args.initializer.now t s;
     })
