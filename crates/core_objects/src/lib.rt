@@ -5,8 +5,7 @@
 mod begun;
 mod given;
 mod objects;
-mod quiet;
 
 pub use begun::{Begun, joined, nothing_begun, one_begun};
-pub use given::{Given, Initial, and_given, none_given, not_initialised};
+pub use given::{Initial, not_initialised};
 pub use objects::declared_object;
