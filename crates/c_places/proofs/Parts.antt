@@ -20,7 +20,8 @@ use Rattle.c_language.specs.declared.scope.Means.TheVariants as means
 use Rattle.c_language.specs.Scopes.{Name, Scope}
 use Rattle.c_language.specs.Typing.{Typed, NamedType, type_of}
 use Rattle.c_language.specs.Typing as says
-use Rattle.c_means.specs.Parts.{State, Outcome, Env, Run, Level, Site, Part, ◌>>=◌, note, refused, returned, returned_in}
+use Rattle.c_means.specs.Parts.{State, Outcome, Env, Run, Level, Site, Part, ◌>>=◌, note, refused, returned}
+use Rattle.c_means.specs.Parts.{returned_in}
 use Rattle.c_means.specs.Operators.{Operand, operand, one, operated, operated_on, turned_value, negated, target_in}
 use Rattle.c_means.specs.Operators.{value_type, kind_in}
 use Rattle.c_means.specs.Objects.{load, put}
@@ -31,7 +32,7 @@ use Rattle.c_means.specs.Expressions.{Needs, valued, placed, alone, over_one, ov
 use Rattle.c_means.specs.Expressions.{part_of_value, both_run, subscript, member, member_by}
 use Rattle.c_means.specs.Expressions.{offset_of, arrow, stepped, postfix, postfix_by, prefix, unary, size_of_expression}
 use Rattle.c_means.specs.Expressions.{size_of_type, cast, cast_as, cast_operand, on_branch, truth_of, and_then, or_else}
-use Rattle.c_means.specs.Expressions.{logical, both_evaluated, binary, chosen, choice_as, choice, simple, compound}
+use Rattle.c_means.specs.Expressions.{logical, both_evaluated, binary, chosen, choice_as, choice, simple}
 use Rattle.c_means.specs.Expressions.{assignment, comma, Passed, passed, all_rooms, arguments, calling, needed}
 use Rattle.c_means.specs.Expressions.{direct_call, answered, nowhere, is_updated, steps_if, compound_if}
 use Rattle.c_means.specs.Expressions.{call_of, call, constant, unmeant, made_for, string_literal, function_name}
