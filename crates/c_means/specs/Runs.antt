@@ -149,7 +149,7 @@ rule_of m g =
 
 -- ---- levels
 
--- what runs where no call does: before `main`, and in the calls by rule
+-- what runs where no call does: before `main`, and in the calls by rule; a call there is one level too many
 abbrev pub bare : Machine → ℕ → Level
 bare m turns = record {
   world = m.world;
@@ -159,7 +159,7 @@ bare m turns = record {
   identity = identity_index m.profile;
   size = λ g. 0;
   room = λ g. 0;
-  call = λ g env vs base s count. entered s count;
+  call = λ g env vs base s count. finished (finish.Left g.at) (entered s count);
 }
 
 -- the levels of the functions that a function calls; none where its own was the last

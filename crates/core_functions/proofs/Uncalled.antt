@@ -20,7 +20,7 @@ use Rattle.core_tree.specs.Programs.{Body, body_of}
 use Rattle.core_tree.specs.States.{Output, Level}
 use Rattle.elaborate.specs.Means.{Numbering, Like, Acts, IsBodyOf}
 use Rattle.core_forms.proofs.KindLaws.{none_some}
-use Rattle.core_programs.specs.Programs.{no_calls}
+use Rattle.core_programs.specs.Programs.{without_calls}
 use Rattle.core_functions.specs.declared.definitions.Definition.{Definition}
 use Rattle.core_functions.specs.Definitions.{IsDefinitionOf, ArePrelude}
 use Rattle.core_functions.proofs.InOrder.{grouped, ended, cut}
@@ -31,7 +31,7 @@ module _ (place : ℕ → ℕ) (identity : Name → Option ℕ) (n : Numbering) 
     (identified : n.identity ≡ identity)
   where
     -- a level of a function is one in which nothing is called
-    fewer : (l : c.Level) (k : Level Output) → Like n l k → Like (no_calls place identity) l k
+    fewer : (l : c.Level) (k : Level Output) → Like n l k → Like (without_calls place identity) l k
     fewer l k h = record {
       taking = h.taking;
       world = h.world;
@@ -43,7 +43,7 @@ module _ (place : ℕ → ℕ) (identity : Name → Option ℕ) (n : Numbering) 
       rules = λ g r e. absurd (none_some e);
     }
 
-    acts : (x : Item Output) (i : runs.Item) → Acts (no_calls place identity) x i → Acts n x i
+    acts : (x : Item Output) (i : runs.Item) → Acts (without_calls place identity) x i → Acts n x i
     acts x i h = record {
       size = λ l k like. h.size l k (fewer l k like);
       room = λ l k like. h.room l k (fewer l k like);
@@ -51,14 +51,14 @@ module _ (place : ℕ → ℕ) (identity : Name → Option ℕ) (n : Numbering) 
       runs = λ l k like. h.runs l k (fewer l k like);
     }
 
-    pub is_body : (x : Body Output) (f : Function) (i : runs.Item) → IsBodyOf (no_calls place identity) x f i
+    pub is_body : (x : Body Output) (f : Function) (i : runs.Item) → IsBodyOf (without_calls place identity) x f i
         → IsBodyOf n x f i
     is_body x f i h = record { parameters = h.parameters; items = acts x.item i h.items; body = h.body }
 
 -- ---- one function
 
 only : (numbering : Numbering) (x : Definition) (o : Outer)
-    → IsDefinitionOf (no_calls numbering.place numbering.identity) x true o
+    → IsDefinitionOf (without_calls numbering.place numbering.identity) x true o
     → ArePrelude numbering (x.function ∷ []) (function_if o.function [])
 only numbering x o h =
     subst (λ f. ArePrelude numbering (x.function ∷ []) (function_if f [])) (sym h.is) (
@@ -76,7 +76,7 @@ only numbering x o h =
 pub alone : (m : Numbering) (e : External) (ss ss' : List Specifier) (d : Declarator) (b : SourceBody) (k k' : Stmt)
     (s : Scope) (x : Definition) (y : CoreFunction) → e ≡ external.Function ss d b → b ≡ body_.Read k → ss' ≡ ss
     → k' ≡ k → s ≡ empty → IsDefinitionOf m x true (outer (external.Function ss' d (body_.Read k')) s)
-    → y ≡ x.function → (numbering : Numbering) → m ≡ no_calls numbering.place numbering.identity
+    → y ≡ x.function → (numbering : Numbering) → m ≡ without_calls numbering.place numbering.identity
     → ArePrelude numbering (y ∷ []) (functions_of (program_of (e ∷ [])))
 alone m e ss ss' d b k k' s x y is read specified block file h made numbering called =
     let whole = is ∙ ap (external.Function ss d) read
@@ -100,7 +100,7 @@ joined numbering (x ∷ xs) ys (f ∷ fs) gs h k = (h.0, joined numbering xs ys 
 -- those that were made lead to all, once those that are left stand behind them
 abbrev pub Leads : Numbering → List External → List External → List CoreFunction → Type 0
 Leads m es rest xs =
-    (numbering : Numbering) → m ≡ no_calls numbering.place numbering.identity → (more : List CoreFunction)
+    (numbering : Numbering) → m ≡ without_calls numbering.place numbering.identity → (more : List CoreFunction)
     → ArePrelude numbering more (texts.functions_from rest)
     → ArePrelude numbering (xs ++ more) (texts.functions_from es)
 
@@ -109,7 +109,7 @@ begins m es xs is = subst (λ xs. Leads m es es xs) (sym is) (λ numbering calle
 
 abbrev IsAlone : Numbering → External → CoreFunction → Type 0
 IsAlone m e x =
-    (numbering : Numbering) → m ≡ no_calls numbering.place numbering.identity
+    (numbering : Numbering) → m ≡ without_calls numbering.place numbering.identity
     → ArePrelude numbering (x ∷ []) (functions_of (program_of (e ∷ [])))
 
 pub goes_on : (m : Numbering) (es : List External) (i : ℕ) (e e' : External) (xs ys : List CoreFunction)
@@ -125,7 +125,7 @@ goes_on m es i e e' xs ys x within is c leads h made =
     (subst (λ e. ArePrelude numbering (x ∷ []) (functions_of (program_of (e ∷ [])))) c (h numbering called)) k))))
 
 pub ends : (m : Numbering) (es : List External) (i : ℕ) (xs : List CoreFunction) → length es ≤ i
-    → Leads m es (drop i es) xs → (numbering : Numbering) → m ≡ no_calls numbering.place numbering.identity
+    → Leads m es (drop i es) xs → (numbering : Numbering) → m ≡ without_calls numbering.place numbering.identity
     → ArePrelude numbering xs (texts.functions_from es)
 ends m es i xs over leads numbering called =
     subst (λ zs. ArePrelude numbering zs (texts.functions_from es)) (ended xs)
@@ -137,9 +137,9 @@ ends m es i xs over leads numbering called =
 
 -- the trees of the library
 pub library : (m : Numbering) (es es' : List External) (xs : List CoreFunction) → es' ≡ es → es ≡ texts.externals
-    → ((numbering : Numbering) → m ≡ no_calls numbering.place numbering.identity
+    → ((numbering : Numbering) → m ≡ without_calls numbering.place numbering.identity
     → ArePrelude numbering xs (texts.functions_from es'))
-    → (numbering : Numbering) → m ≡ no_calls numbering.place numbering.identity
+    → (numbering : Numbering) → m ≡ without_calls numbering.place numbering.identity
     → ArePrelude numbering xs texts.prelude_functions
 library m es es' xs sliced is h numbering called =
     subst (λ es. ArePrelude numbering xs (texts.functions_from es)) (sliced ∙ is) (h numbering called)

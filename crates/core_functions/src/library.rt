@@ -3,7 +3,7 @@ ghost use Rattle.std.specs.Prelude.{◌≡◌, ◌∷◌, [], IfOk};
 ghost use Rattle.c_means.specs.Programs.{functions_of, program_of};
 ghost use Rattle.c_means.specs.Prelude as texts;
 ghost use Rattle.elaborate.specs.Means.{Numbering};
-ghost use Rattle.core_programs.specs.Programs.{no_calls};
+ghost use Rattle.core_programs.specs.Programs.{without_calls};
 ghost use Rattle.core_functions.specs.Definitions.{ArePrelude};
 
 use crate::definitions::{Definition, define};
@@ -18,7 +18,8 @@ use std::alloc::Global;
 
 /// The function that an external declaration defines, in a file of its own.
 fn alone<P: Parts>(alloc: Global, parts: &P, external: &External) -> Result<Function, NoCore>
-    ensures { IfOk result (λ x. (numbering : Numbering) → P.numbering parts.now ≡ no_calls numbering.place numbering.identity →
+    ensures { IfOk result (λ x. (numbering : Numbering) →
+        P.numbering parts.now ≡ without_calls numbering.place numbering.identity →
         ArePrelude numbering (x ∷ []) (functions_of (program_of (external.now ∷ [])))) }
 {
     match external {
@@ -53,7 +54,8 @@ fn each_alone<P: Parts>(
     parts: &P,
     externals: &[Shared<External>],
 ) -> Result<Items<Function>, NoCore>
-    ensures { IfOk result (λ xs. (numbering : Numbering) → P.numbering parts.now ≡ no_calls numbering.place numbering.identity →
+    ensures { IfOk result (λ xs. (numbering : Numbering) →
+        P.numbering parts.now ≡ without_calls numbering.place numbering.identity →
         ArePrelude numbering xs (texts.functions_from externals.now)) }
 {
     let mut all = Items::new(alloc);
@@ -67,7 +69,8 @@ fn each_alone<P: Parts>(
 /// The functions of the C library that have a body, in the core, in order. Nothing is called in them: where the parts
 /// are made for no calls, they are the same whatever a program's calls are.
 pub fn prelude_over<P: Parts>(alloc: Global, parts: &P) -> Result<Items<Function>, NoCore>
-    ensures { IfOk result (λ xs. (numbering : Numbering) → P.numbering parts.now ≡ no_calls numbering.place numbering.identity →
+    ensures { IfOk result (λ xs. (numbering : Numbering) →
+        P.numbering parts.now ≡ without_calls numbering.place numbering.identity →
         ArePrelude numbering xs texts.prelude_functions) }
 {
     let externals = prelude(alloc)?;

@@ -1,5 +1,5 @@
 //! Where nothing is called.
-ghost use Rattle.core_programs.specs.Programs.{no_calls};
+ghost use Rattle.core_programs.specs.Programs.{without_calls};
 
 use c_language::Name;
 use c_type_scope::Scope;
@@ -15,7 +15,7 @@ pub(crate) struct Uncalled<'a, C> {
 }
 
 impl<'a, C: Callees> Places for Uncalled<'a, C> {
-    ghost numbering = { λ x. no_calls (C.numbering x.callees.now).place (C.numbering x.callees.now).identity };
+    ghost numbering = { λ x. without_calls (C.numbering x.callees.now).place (C.numbering x.callees.now).identity };
 
     fn place(&self, at: u32) -> u64 {
         self.callees.place(at)
