@@ -142,7 +142,6 @@ pub fn accepted(
     match accept(alloc, externals, profile) {
         Ok(program) => Ok(program),
         Err(CheckFault::Refused(why)) => Err(refused_for(alloc, name, bytes, why)),
-        Err(CheckFault::NoCore) => Err(Refusal::NotYetRead),
         Err(CheckFault::Memory) => Err(Refusal::Memory),
     }
 }
@@ -202,7 +201,6 @@ pub fn diagnosable(
     match accept(alloc, externals, profile) {
         Ok(program) => Ok(program),
         Err(CheckFault::Refused(why)) => Err(refused_for(alloc, name, bytes, why)),
-        Err(CheckFault::NoCore) => Err(unserved(alloc, unit)),
         Err(CheckFault::Memory) => Err(Refusal::Memory),
     }
 }
