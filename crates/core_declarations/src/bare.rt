@@ -28,12 +28,7 @@ impl<'a, C: Callees> Callees for Bare<'a, C> {
     }
 
     /// No call is left, whatever function is called.
-    fn callee(
-        &self,
-        _alloc: Global,
-        _site: &Site,
-        _scope: &Scope,
-    ) -> Result<Callee, AllocError> {
+    fn callee(&self, _alloc: Global, _site: &Site, _scope: &Scope) -> Result<Callee, AllocError> {
         Ok(Callee::Body { function: 0 })
     }
 }

@@ -111,7 +111,14 @@ fn with_nothing<C: Callees>(
     ensures { (at : ℕ) (i : runs.Initially) → beginnings.object_of front.named ≡ None → IfOk result (λ y. IsBegun (C.numbering callees.now) y (begun_item at (beginnings.begins_in front scope.old) i) scope.new) }
 {
     let declared = declared_unfilled(alloc, front, scope)?;
-    declared_name(alloc, callees, true, declared, not_initialised(alloc), scope)
+    declared_name(
+        alloc,
+        callees,
+        true,
+        declared,
+        not_initialised(alloc),
+        scope,
+    )
 }
 
 /// With an initializer, from what is in force in front of it (C99 6.2.1p7).

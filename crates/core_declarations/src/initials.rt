@@ -37,12 +37,7 @@ pub(crate) struct Walked {
 // ---- one expression
 
 /// One more expression as the next part.
-fn and_next(
-    alloc: Global,
-    scope: &Scope,
-    x: Heard,
-    found: Walked,
-) -> Result<Walked, AllocError>
+fn and_next(alloc: Global, scope: &Scope, x: Heard, found: Walked) -> Result<Walked, AllocError>
     ensures says { IfOk result (λ z. filling_in z.filling scope.now ≡ braces.fills_value (typed_in x.told scope.now) (filling_in found.filling scopes.empty)) }
     ensures goes { (numbering : Numbering) (n : Noted) → IsHeard numbering x n scope.now → IfOk result (λ z. (ns : List Noted) → spec.HasGone numbering ns found → spec.HasGone numbering (ns ++ n ∷ []) z) }
 {
@@ -283,7 +278,11 @@ fn initialised_here<C: Callees>(
 {
     let walked = fill_object(alloc, callees, initializer, ctype, scope)?;
     let Walked { filling, paired } = walked;
-    let Paired { settings, counted, .. } = paired;
+    let Paired {
+        settings,
+        counted,
+        ..
+    } = paired;
     Ok(as_initial(filling, is_braced(initializer), settings, counted))
 }
 

@@ -94,12 +94,7 @@ fn value_pair(tables: &Tables, part: &Part, value: Shared<Expr>) -> Result<Pair,
     Ok(Pair { setting, counted })
 }
 
-fn pair_of(
-    alloc: Global,
-    tables: &Tables,
-    part: &Part,
-    source: Source,
-) -> Result<Pair, AllocError>
+fn pair_of(alloc: Global, tables: &Tables, part: &Part, source: Source) -> Result<Pair, AllocError>
     ensures { (numbering : Numbering) (n : Noted) → spec.IsSource numbering source n → tables.now ≡ n.part.typed.after.tables → IfOk result (λ y. spec.IsPair numbering y part.now n) }
 {
     let Source {

@@ -7,7 +7,7 @@ use Rattle.core_declarations.proofs.bare.BareCallees.callee.Goals as goal
 
 pub returns : goal.returns
 returns g c =
-    let site = c.args.site.now in
-    let s = c.args.scope.now in
-    body_call_of (bare (g.C.Places.numbering c.args.self.now.callees)) site.at (type_as s.tables site.ctype)
+    let site = c.args._site.now in
+    let s = c.args._scope.now in
+    body_call_of (bare (g.C.Places.numbering c.args.self.now.callees.now)) site.at (type_as s.tables site.ctype)
     (λ l. site_of site s) 0 (λ l. refl) (λ l. refl)
