@@ -170,7 +170,7 @@ unread_inside numbering b at s y unread made f stands =
 
 -- ---- the function
 
-abbrev pub function_of : FunctionSaid → Entry → Option ℕ → runs.Item → Names → Function
+abbrev function_of : FunctionSaid → Entry → Option ℕ → runs.Item → Names → Function
 function_of f e unread i whole = record {
   at = e.at;
   name = e.name;
