@@ -73,6 +73,11 @@ pub judged_ok : {E : Type 0} (j : Judged) (r : Result (Option Refusal) E) → If
 judged_ok j (Ok x) h = judges j x h
 judged_ok j (Err e) h = tt
 
+pub kept_ok : {T E : Type 0} (xs : List External) (profile : Profile) (o : Option Refusal) (r : Result T E) → o ≡ None
+    → Judges xs profile o → IfOk r (λ x. IsAcceptedSource xs profile)
+kept_ok xs profile o (Ok x) is h = subst (Judges xs profile) is h
+kept_ok xs profile o (Err e) is h = tt
+
 -- ---- of its core
 
 unit_runs : (xs : List External) (profile : Profile) (p : Core) → IsUnitCore xs profile p → HasItsRuns xs profile p

@@ -43,6 +43,18 @@ pub fn check(
     judged_by(alloc, &source, &overview)
 }
 
+/// The core of a source that was read; it has none exactly where it has no `main`.
+fn made_of(alloc: Global, source: &Source<'_>, overview: &Overview) -> Result<Core, CheckFault>
+    requires { overview.now ≡ overview_in (judged source.now) }
+    ensures core { IfOk result (HasItsRuns source.now.externals.now source.now.profile.now) }
+    ensures refused { IfErr result (Refuses source.now.externals.now source.now.profile.now) }
+{
+    match core_of(alloc, source, overview)? {
+        Some(core) => Ok(core),
+        None => Err(CheckFault::Refused(Refusal::NoMain)),
+    }
+}
+
 /// The core of a source that is accepted.
 fn core_in(alloc: Global, source: &Source<'_>) -> Result<Core, CheckFault>
     ensures kept { IfOk result (λ _. IsAcceptedSource source.now.externals.now source.now.profile.now) }
@@ -51,10 +63,7 @@ fn core_in(alloc: Global, source: &Source<'_>) -> Result<Core, CheckFault>
 {
     let overview = read_source(alloc, source)?;
     match judged_by(alloc, source, &overview)? {
-        None => match core_of(alloc, source, &overview)? {
-            Some(core) => Ok(core),
-            None => Err(CheckFault::Refused(Refusal::NoMain)),
-        },
+        None => made_of(alloc, source, &overview),
         Some(refusal) => Err(CheckFault::Refused(refusal)),
     }
 }

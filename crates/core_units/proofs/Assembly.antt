@@ -1,7 +1,7 @@
 -- The parts together are the core of the source.
 use Rattle.std.proofs.Common.{◌≡◌, ℕ, suc, ◌+◌, Bool, true, false, List, [], ◌∷◌, ◌++◌, length, Option, Some, refl, sym}
 use Rattle.std.proofs.Common.{ap, ap₂, ◌∙◌, subst}
-use Rattle.std.proofs.lemmas.List.{append_assoc}
+use Rattle.std.proofs.lemmas.List.{append_assoc, length-append}
 use Rattle.std.specs.Prelude.{slice_get, cond}
 use Rattle.c_language.specs.declared.unit.External.{External}
 use Rattle.c_language.specs.Scopes.{Name}
@@ -22,10 +22,6 @@ use Rattle.core_units.specs.Plans.{program_in, reached_in, numbers_in}
 use Rattle.core_units.specs.Units.{IsUnitCore, IsAssembled}
 use Rattle.core_units.specs.Walked.{IsCoreFunction}
 use Rattle.core_units.proofs.NumberLaws.{Stands, source_stands, position_stands, same_length}
-
-length_append : {A : Type 0} (xs ys : List A) → length (xs ++ ys) ≡ length xs + length ys
-length_append [] ys = refl
-length_append (x ∷ xs) ys = ap suc (length_append xs ys)
 
 module _ (xs : List External) (profile : Profile) (p : Core) (h : IsAssembled xs profile p) where
   abbrev m : whole.Machine
@@ -53,7 +49,7 @@ module _ (xs : List External) (profile : Profile) (p : Core) (h : IsAssembled xs
   in_front_of_others =
       ap₂ (λ a b. a + b) in_front
       (same_length (IsCoreFunction m (numbers_in xs profile) true) prelude_functions h.all.library h.all.prelude)
-      ∙ sym (length_append h.all.sources h.all.library)
+      ∙ sym (length-append h.all.sources h.all.library)
 
   of_source : (name : Name) (f : Function) → function_named (functions_of m.program) name ≡ Some f
       → IsFunctionOf m (numbers_in xs profile) p f ((numbers_in xs profile).source name) false

@@ -129,16 +129,16 @@ module _ (x : Around) (h : IsAroundOf x) where
       (λ y same. subst (AreMadeIn x (o ∷ [])) (sym same)
       (function_made b es o d k none watched reached known_is (definition_some k false o f d is h))) made
 
+  -- what defines no function, though it is a definition
+  pub nameless_made : (o : Outer) → o.item.lasting ≡ [] → o.function ≡ None
+      → AreMadeIn x (o ∷ []) (record { functions = []; others = []; settings = [] })
+  nameless_made o none is = walk_nameless m ns ws found o none is
+
   pub none_made : (o : Outer) (f : Option Definition) (k : Known) (y : Made) → o.item.lasting ≡ [] → f ≡ None
       → MaybeDefinitionOf (numbering_in k) f false o → y ≡ record { functions = []; others = []; settings = [] }
       → AreMadeIn x (o ∷ []) y
   none_made o f k y none is h same =
       subst (AreMadeIn x (o ∷ [])) (sym same) (nameless_made o none (definition_none k false o f is h))
-
-  -- what defines no function, though it is a definition
-  pub nameless_made : (o : Outer) → o.item.lasting ≡ [] → o.function ≡ None
-      → AreMadeIn x (o ∷ []) (record { functions = []; others = []; settings = [] })
-  nameless_made o none is = walk_nameless m ns ws found o none is
 
   unwatched : (g : Option Function) → watched_in x g ≡ None → g ≡ None
   unwatched None w = refl
@@ -177,6 +177,11 @@ module _ (x : Around) (h : IsAroundOf x) where
 
   pub alone_unwatched : (o : Outer) → watched_in x o.function ≡ None → AreLibrary x (function_if o.function []) []
   alone_unwatched o w = alone_none o (unwatched o.function w)
+
+  pub none_unwatched : (o : Outer) (w : Option (List Entry)) (cs : List CoreFunction) → w ≡ watched_in x o.function
+      → w ≡ None → cs ≡ [] → AreLibrary x (function_if o.function []) cs
+  none_unwatched o w cs same none is =
+      subst (AreLibrary x (function_if o.function [])) (sym is) (alone_unwatched o (sym same ∙ none))
 
   pub library_append : (fs gs : List Function) (cs ds : List CoreFunction) → AreLibrary x fs cs → AreLibrary x gs ds
       → AreLibrary x (fs ++ gs) (cs ++ ds)

@@ -56,14 +56,16 @@ abbrev position_in : ℕ → List Head → Name → Option ℕ
 position_in n [] name = None
 position_in n (h ∷ hs) name = cond (bytes_eq h.name name) (Some n) (position_in (suc n) hs name)
 
+at_head : (n m k : ℕ) (b : Bool) (o : Option ℕ) → (o ≡ Some k → k ≡ m) → cond b (Some n) o ≡ Some k → k ≡ cond b n m
+at_head n m k true o behind e = cc
+at_head n m k false o behind e = behind e
+
 by_heads : (n : ℕ) (fs : List Function) (name : Name) (k : ℕ) → position_in n (map head_of fs) name ≡ Some k
     → k ≡ position_from n fs name
 by_heads n [] name k is = cc
-by_heads n (f ∷ fs) name k is = by_name (bytes_eq f.name name) is where
-  by_name : (b : Bool) → cond b (Some n) (position_in (suc n) (map head_of fs) name) ≡ Some k
-      → k ≡ cond b n (position_from (suc n) fs name)
-  by_name true e = cc
-  by_name false e = by_heads (suc n) fs name k e
+by_heads n (f ∷ fs) name k is =
+    at_head n (position_from (suc n) fs name) k (bytes_eq f.name name) (position_in (suc n) (map head_of fs) name)
+    (λ e. by_heads (suc n) fs name k e) is
 
 step : (first k : ℕ) (b : Bool) (x : PreludeFunction) (o : Option PreludeFunction) (r : Option ℕ) → first + position x ≡ k
     → number_first first o ≡ r → number_first first (cond b (Some x) o) ≡ cond b (Some k) r

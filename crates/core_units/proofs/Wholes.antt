@@ -8,13 +8,14 @@ use Rattle.c_means.specs.declared.profile.Profile.{Profile}
 use Rattle.c_means.specs.Prelude.{prelude_functions}
 use Rattle.c_language.specs.declared.scope.Entry.{Entry}
 use Rattle.c_language.specs.Scopes.{Scope, empty}
-use Rattle.c_means.specs.Programs.{Function, functions_of, function_named, main', program_of, outer}
+use Rattle.c_means.specs.Programs.{Function, Outer, Program, functions_of, function_named, main', program_of, outer}
 use Rattle.c_means.specs.Runs as whole
 use Rattle.c_item_notes.specs.Levels.{Judged}
 use Rattle.c_program_notes.specs.declared.whole.Overview.{Overview}
 use Rattle.c_program_notes.specs.declared.outers.OuterNotes.{OuterNotes}
-use Rattle.c_program_notes.specs.Summaries.{Summed, outer_in, outer_told}
-use Rattle.c_program_notes.specs.Wholes.{machine, needs_in, overview}
+use Rattle.c_program_notes.specs.Summaries.{Summed, outer_in, outer_summed, outer_told}
+use Rattle.c_program_notes.specs.Wholes.{machine, needs_in, overview, overview_of}
+use Rattle.c_reach.specs.declared.summaries.FunctionNotes.{FunctionNotes}
 use Rattle.c_reach.specs.Summaries.{function_notes}
 use Rattle.core_callees.specs.declared.numbered.FunctionNumber.{FunctionNumber}
 use Rattle.core_callees.specs.Numbered as table
@@ -25,7 +26,7 @@ use Rattle.core_units.specs.declared.unit.Parts.{Parts}
 use Rattle.core_units.specs.declared.walk.Around.{Around}
 use Rattle.core_units.specs.Numbers.{reached_among, number_from, first_other}
 use Rattle.core_units.specs.Overviews as spec
-use Rattle.core_units.specs.Plans.{program_in, reached_in, numbers_in}
+use Rattle.core_units.specs.Plans.{program_in, reached_in, numbers_in, watched_if}
 use Rattle.core_units.specs.Surroundings.{IsAround, plan_in, outers_of, numbered_from, externals_of, profile_of, watched_in}
 use Rattle.core_units.specs.Units.{IsUnitCore, AreParts, AreAll}
 use Rattle.core_units.proofs.Assembly.{is_unit_core}
@@ -44,18 +45,42 @@ plans_given x v ps is planned =
     ∙ plans_same (told (externals_of x) (profile_of x)) (program_of (externals_of x)) (outers_of x)
 
 -- the variables that the function of an external declaration in a file of its own names
+function_told : (j : Judged) (o : Outer) (notes : OuterNotes) (t : Scope) → outer_in notes t ≡ outer_summed j o
+    → notes.function ≡ option_map (function_notes j) o.function
+function_told j o notes t h = ap (λ (z : Summed). z.notes.function) h
+
+noted_as : (j : Judged) (e : External) (s : Scope) (notes : OuterNotes) (t : Scope) → s ≡ empty
+    → outer_in notes t ≡ outer_told j e s → notes.function ≡ option_map (function_notes j) (outer e empty).function
+unfolding outer_told
+noted_as j e s notes t begins h =
+    function_told j (outer e s) notes t h
+    ∙ ap (λ (s : Scope). option_map (function_notes j) (outer e s).function) begins
+
+watched_as : (j : Judged) (p : Program) (f : Option Function) (v : Overview) (g : Option FunctionNotes)
+    → v ≡ overview_of j p → g ≡ option_map (function_notes j) f → spec.watched_noted v g ≡ watched_if p f
+watched_as j p f v g is same = ap₂ (λ (v : Overview) g. spec.watched_noted v g) is same ∙ watched_same j p f
+
+overview_is : (xs : List External) (profile : Profile) (v : Overview) → v ≡ overview (told xs profile)
+    → v ≡ overview_of (told xs profile) (program_of xs)
+unfolding overview
+overview_is xs profile v is = is
+
 pub watched_told : {E : Type 0} (x : Around) (v : Overview) (e : External) (notes : OuterNotes) (t s : Scope)
     (r : Result (Option (List Entry)) E) → v ≡ overview (told (externals_of x) (profile_of x)) → s ≡ empty
     → outer_in notes t ≡ outer_told (told (externals_of x) (profile_of x)) e s
     → IfOk r (λ w. w ≡ spec.watched_noted v notes.function)
     → IfOk r (λ w. w ≡ watched_in x (outer e empty).function)
-unfolding overview outer_told
 watched_told x v e notes t s r is begins noted h =
     let j = told (externals_of x) (profile_of x) in
-    IfOk-weaker r _ _ (λ w same. same
-    ∙ ap₂ (λ (v : Overview) g. spec.watched_noted v g) is (ap (λ (z : Summed). z.notes.function) noted
-    ∙ ap (λ s. option_map (function_notes j) (outer e s).function) begins)
-    ∙ watched_same j (program_of (externals_of x)) (outer e empty).function) h
+    let same : spec.watched_noted v notes.function ≡ watched_in x (outer e empty).function =
+        watched_as j (program_of (externals_of x)) (outer e empty).function v notes.function
+        (overview_is (externals_of x) (profile_of x) v is) (noted_as j e s notes t begins noted) in
+    IfOk-weaker r (λ w. w ≡ spec.watched_noted v notes.function) (λ w. w ≡ watched_in x (outer e empty).function)
+    (λ w told. told ∙ same) h
+
+pub none_of : {A : Type 0} (o : Option A) → ((x : A) → o ≡ Some x → ⊥) → o ≡ None
+none_of None other = refl
+none_of (Some x) other = absurd (other x refl)
 
 zero_plus : (n : ℕ) → 0 + n ≡ n
 zero_plus n = omega arith
@@ -89,7 +114,7 @@ module _ (xs : List External) (profile : Profile) (v : Overview) (is : v ≡ ove
       }
 
   -- the number of `main`
-  record Numbered (n : ℕ) : Type 0 where
+  pub record Numbered (n : ℕ) : Type 0 where
     pub function : Function
     pub is_main : whole.main_of (program_in xs profile) ≡ Some function
     pub number : (numbers_in xs profile).source main' ≡ n

@@ -53,12 +53,15 @@ fn defined_alone(
     let calling = around.calling(watched);
     let parts = Whole { callees: &calling };
     let found = define(alloc, &parts, specifiers, declarator, body, true, &mut scope)?;
-    let mut functions = Items::new(alloc);
-    if let Some(definition) = found {
-        let Definition { function, .. } = definition;
-        functions.push(function)?;
+    match found {
+        Some(definition) => {
+            let Definition { function, .. } = definition;
+            let mut functions = Items::new(alloc);
+            functions.push(function)?;
+            Ok(functions)
+        }
+        None => Ok(Items::new(alloc)),
     }
-    Ok(functions)
 }
 
 /// The function that an external declaration defines in a file of its own, where it defines one.

@@ -1,11 +1,7 @@
-use Rattle.acceptance.proofs.Keeping.{has_a_core, no_core}
+use Rattle.acceptance.proofs.Keeping.{kept_ok}
 use Rattle.acceptance.proofs.accepting.core_in.Goals as goal
 
-pub returns-in-None-in-Some-clause-core : goal.returns-in-None-in-Some-clause-core
-returns-in-None-in-Some-clause-core c =
-    has_a_core c.args.source.now.externals.now c.args.source.now.profile.now _ c.in-None-Some.core c.in-None-Some.is
-    c.in_ok-core_of.ensures
-
-pub returns-in-None-in-None-clause-refused : goal.returns-in-None-in-None-clause-refused
-returns-in-None-in-None-clause-refused c =
-    no_core c.args.source.now.externals.now c.args.source.now.profile.now _ c.in-None-None.is c.in_ok-core_of.ensures
+pub returns-in-None-clause-kept : goal.returns-in-None-clause-kept
+returns-in-None-clause-kept c =
+    kept_ok c.args.source.now.externals.now c.args.source.now.profile.now c.in_ok-judged_by.field-0 c.made_of.result
+    c.in-None.is c.in_ok-judged_by.ensures

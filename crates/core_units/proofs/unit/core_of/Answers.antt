@@ -1,21 +1,22 @@
 use Rattle.std.proofs.Common.{◌∙◌, refl, sym, subst}
 use Rattle.core_units.specs.Units.{MaybeParts}
-use Rattle.core_units.proofs.Wholes.{unit_core, no_main_told}
+use Rattle.core_units.proofs.Wholes.{unit_core, no_main_told, none_of}
 use Rattle.core_units.proofs.unit.core_of.Goals as goal
 
-pub returns-in-None : goal.returns-in-None
-returns-in-None c =
+pub returns-in_default : goal.returns-in_default
+returns-in_default c =
     no_main_told c.args.source.now.externals.now c.args.source.now.profile.now c.args.overview.now c.requires
-    (sym c.main_takes_two.ensures ∙ c.in-None.is)
+    (sym c.main_takes_two.ensures ∙ none_of c.main_takes_two.result c.in_default.not-Some)
 
-pub returns-in-None-2 : goal.returns-in-None-2
-returns-in-None-2 c =
-    subst (MaybeParts c.args.source.now.externals.now c.args.source.now.profile.now) c.in-None-2.is c.in_ok-all_parts.ensures
+pub returns-in_default-2 : goal.returns-in_default-2
+returns-in_default-2 c =
+    subst (MaybeParts c.args.source.now.externals.now c.args.source.now.profile.now)
+    (none_of c.in_ok-parts.field-0 c.in_default-2.not-Some) c.in_ok-parts.ensures
 
-pub returns-in-Some-2 : goal.returns-in-Some-2
-returns-in-Some-2 c =
+pub returns : goal.returns
+returns c =
     let parts = subst (MaybeParts c.args.source.now.externals.now c.args.source.now.profile.now) c.in-Some-2.is
-    c.in_ok-all_parts.ensures in
+    c.in_ok-parts.ensures in
     record {
       whole_core = _;
       is = unit_core c.args.source.now.externals.now c.args.source.now.profile.now c.args.overview.now c.requires _
