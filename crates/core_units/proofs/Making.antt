@@ -42,6 +42,11 @@ use Rattle.core_units.proofs.OneOuter.{walk_needed, walk_unneeded}
 use Rattle.core_units.proofs.WalkLaws.{all_append, walk_none, walk_append}
 use Rattle.core_units.proofs.Tables.{prelude_numbers}
 
+-- in a file of its own, which begins without names
+pub begun : (e : External) (k : Known) (f : Option Definition) (s : Scope) → s ≡ empty
+    → MaybeDefinitionOf (numbering_in k) f true (outer e s) → MaybeDefinitionOf (numbering_in k) f true (outer e empty)
+begun e k f s is h = subst (λ (s : Scope). MaybeDefinitionOf (numbering_in k) f true (outer e s)) is h
+
 module _ (x : Around) (h : IsAroundOf x) where
   abbrev m : whole.Machine
   m = machine_of x
