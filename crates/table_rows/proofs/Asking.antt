@@ -1,12 +1,12 @@
 -- Questions, one behind the other.
-use Rattle.std.proofs.Common.{◌≡◌, ◌<◌, ◌≤◌, ◌+◌, ℕ, suc, ℤ, List, length, refl, sym, ap, ◌∙◌, subst, arith}
+use Rattle.std.proofs.Common.{◌≡◌, ◌<◌, ◌≤◌, ℕ, suc, ℤ, List, length, refl, sym, ◌∙◌, subst, arith}
 use Rattle.plain_data.specs.declared.fact.Fact.{Fact}
 use Rattle.log_expr.specs.Tours.{Tour}
 use Rattle.run_formula.specs.declared.watches.Watch.{Watch}
 use Rattle.query_core.specs.declared.query.Query.{Query}
 use Rattle.query_core.specs.declared.target.Target.{Target}
 use Rattle.query_core.specs.declared.target.Target.TheVariants.{Fits, Having, Lacking, Other}
-use Rattle.query_core.specs.Claims.{GoesOn, IsAbout, IsOfRun, IsQuery, IsWatched, IsWhole, KeepsFor, StaysFor}
+use Rattle.query_core.specs.Claims.{GoesOn, IsAbout, IsOfRun, IsQuery, IsWatched, KeepsFor, StaysFor}
 use Rattle.query_core.proofs.QueryLemmas.{about-fact}
 use Rattle.table_rows.specs.Asked.{IsAsked, IsKept}
 
