@@ -1,12 +1,12 @@
 -- Questions, one behind the other.
-use Rattle.std.proofs.Common.{◌≡◌, ◌<◌, ◌≤◌, ◌+◌, ℕ, suc, ℤ, List, length, refl, sym, ap, ◌∙◌, subst, arith}
+use Rattle.std.proofs.Common.{◌≡◌, ◌<◌, ◌≤◌, ℕ, suc, ℤ, List, length, refl, sym, ◌∙◌, subst, arith}
 use Rattle.plain_data.specs.declared.fact.Fact.{Fact}
 use Rattle.log_expr.specs.Tours.{Tour}
 use Rattle.run_formula.specs.declared.watches.Watch.{Watch}
 use Rattle.query_core.specs.declared.query.Query.{Query}
 use Rattle.query_core.specs.declared.target.Target.{Target}
 use Rattle.query_core.specs.declared.target.Target.TheVariants.{Fits, Having, Lacking, Other}
-use Rattle.query_core.specs.Claims.{GoesOn, IsAbout, IsOfRun, IsQuery, IsWatched, IsWhole, KeepsFor, StaysFor, with_kept}
+use Rattle.query_core.specs.Claims.{GoesOn, IsAbout, IsOfRun, IsQuery, IsWatched, KeepsFor, StaysFor}
 use Rattle.query_core.proofs.QueryLemmas.{about-fact}
 use Rattle.table_rows.specs.Asked.{IsAsked, IsKept}
 
@@ -17,8 +17,8 @@ goes-run (Having k) old new run h = h
 goes-run (Lacking k) old new run h = h
 goes-run (Other k x) old new run h = absurd run
 
--- and what is asked for without a search leaves it as it was
-pub stays-run : (x : Target) (a b c : Query) → IsOfRun x → GoesOn a b → StaysFor x b c → GoesOn a c
+-- and what is asked for behind it without a search changes no more
+pub stays-run : (x : Target) (a b c : Query) → IsOfRun x → KeepsFor x a b → StaysFor x b c → GoesOn a c
 stays-run Fits a b c run g h = subst (λ q. GoesOn a q) (sym h) g
 stays-run (Having k) a b c run g h = subst (λ q. GoesOn a q) (sym h) g
 stays-run (Lacking k) a b c run g h = subst (λ q. GoesOn a q) (sym h) g

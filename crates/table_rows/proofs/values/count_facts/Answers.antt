@@ -25,5 +25,14 @@ count_fact-requires-in-facts-clause-target c =
 
 pub facts-preserved : goal.facts-preserved
 facts-preserved c =
-    asked-goes c.args.facts.now c.args.watches.now c.count_fact.new.query c.count_fact-2.new.query c.count_fact-2.ensures
+    asked-goes c.args.facts.now c.args.watches.now c.count_fact.new.query c.count_fact-in-facts.new.query c.count_fact-in-facts.ensures
+    (asked-goes c.args.facts.now c.args.watches.now c.facts.query c.count_fact.new.query c.count_fact.ensures c.facts.invariant)
+
+pub returns-in_err-count_fact : goal.returns-in_err-count_fact
+returns-in_err-count_fact c =
+    asked-goes c.args.facts.now c.args.watches.now c.facts.query c.count_fact.new.query c.count_fact.ensures c.facts.invariant
+
+pub returns-in_err-count_fact-2 : goal.returns-in_err-count_fact-2
+returns-in_err-count_fact-2 c =
+    asked-goes c.args.facts.now c.args.watches.now c.count_fact.new.query c.count_fact-in-facts.new.query c.count_fact-in-facts.ensures
     (asked-goes c.args.facts.now c.args.watches.now c.facts.query c.count_fact.new.query c.count_fact.ensures c.facts.invariant)

@@ -2,4 +2,4 @@ use Rattle.table_rows.specs.Asked.{IsAsked}
 use Rattle.table_rows.proofs.values.count_facts.Given as goal
 
 abbrev pub invariant-facts : goal.invariant-facts
-invariant-facts l = IsAsked l.fn.facts.now l.fn.watches.now l.query
+invariant-facts l = IsAsked l.fn.facts l.fn.watches l.query
