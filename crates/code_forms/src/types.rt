@@ -1,8 +1,7 @@
-//! Types of objects and of what a function returns.
+//! Types of objects, and how many bytes these take.
 ghost use Rattle.std.specs.Prelude.{◌≡◌, Some};
 ghost use Rattle.c_means.specs.Values as values;
 ghost use Rattle.core_forms.specs.Nodes.{type_as};
-ghost use Rattle.elaborate.specs.Types as types;
 
 use c_language::{CType, Class, Tables};
 use core_tree::ValueType;
@@ -36,14 +35,4 @@ pub fn stored_type(tables: &Tables, ctype: &CType) -> ValueType
     ensures { result ≡ type_as tables.now (Some ctype.now) }
 {
     value_type(ctype.class(), bytes_of(tables, ctype))
-}
-
-/// The type of the core that a function's value has, by the type that it returns: none is `void` (C99 6.9.1).
-pub fn returned_type(tables: &Tables, returned: &Option<CType>) -> ValueType
-    ensures { result ≡ types.value_type (values.class_in returned.now) (values.bytes_of tables.now returned.now) }
-{
-    match returned {
-        Some(ctype) => value_type(ctype.class(), bytes_of(tables, ctype)),
-        None => ValueType::Void,
-    }
 }

@@ -6,7 +6,6 @@ mod assigning;
 mod built;
 mod choices;
 mod constants;
-mod failure;
 mod names;
 mod operators;
 mod single;
@@ -19,7 +18,6 @@ pub use choices::{cast, cast_operand, choice, converted};
 pub use constants::{
     character_constant, floating_constant, integer_constant, size_of_expression, size_of_type,
 };
-pub use failure::NoCore;
 pub use names::{Places, function_name, identifier, left, string_literal};
 pub use operators::{binary, comma};
 pub use single::{complement, minus, not, plus};
