@@ -38,8 +38,8 @@ fn text_room(tables: &Tables, ctype: &CType, bytes: &Bytes) -> Option<u64>
     }
 }
 
-/// An array of characters of this type, so many bytes behind an object's first, that a literal sets (C99 6.7.8p14). It fails
-/// for want of memory alone: no literal has 2^64 bytes.
+/// An array of characters of this type, so many bytes behind an object's first, that a literal sets (C99 6.7.8p14). It
+/// fails for want of memory alone: no literal has 2^64 bytes.
 pub fn text_setting(
     tables: &Tables,
     ctype: &CType,

@@ -130,7 +130,8 @@ impl SubBlock {
     }
 }
 
-/// The first of these codes, which does nothing where there is none, and those behind it. It fails for want of memory alone.
+/// The first of these codes, which does nothing where there is none, and those behind it. It fails for want of memory
+/// alone.
 pub(crate) fn parted(
     alloc: Global,
     codes: Items<Shared<Code>>,

@@ -225,8 +225,8 @@ pub(crate) fn default_made(alloc: Global, body: Made) -> Result<Made, AllocError
     })
 }
 
-/// The value of a `case` as its `switch` compares it, where its expression is constant (C99 6.8.4.2p3); outside of one its
-/// own (C99 6.8.1p2).
+/// The value of a `case` as its `switch` compares it, where its expression is constant (C99 6.8.4.2p3); outside of one
+/// its own (C99 6.8.1p2).
 pub(crate) fn case_constant(x: Context, told: &Told) -> Option<i128>
     ensures { result ≡ form.case_value x.compared (value_in told.now.shown) }
 {

@@ -1,5 +1,5 @@
-//! Declarations (C99 6.7), in a block or in the file: declarators from left to right, each in the scope that those before
-//! it leave.
+//! Declarations (C99 6.7), in a block or in the file: declarators from left to right, each in the scope that those
+//! before it leave.
 ghost use Rattle.std.specs.Prelude.{◌≡◌, ℕ, not, map, option_map, Some, None, IfOk};
 ghost use Rattle.c_language.specs.Scopes as scopes;
 ghost use Rattle.c_language.specs.Declares as forms;

@@ -18,8 +18,8 @@ use core_tree::Expr;
 use plain_data::{Bytes, Items, Shared};
 use std::alloc::{AllocError, Global};
 
-/// The declaration of the name that is called: a call of what is no name breaks a rule (C99 6.5.2.2p1). It fails for want
-/// of memory alone.
+/// The declaration of the name that is called: a call of what is no name breaks a rule (C99 6.5.2.2p1). It fails for
+/// want of memory alone.
 fn designated(shown: &Shown) -> Result<Option<Shared<Entry>>, AllocError>
     ensures { IfOk result (λ e. e ≡ shown.now.designates) }
 {
@@ -176,8 +176,8 @@ fn call_of<C: Callees>(
     }
 }
 
-/// A call of what stands at `name`, behind its arguments, in the names in force behind them. It fails for want of memory
-/// alone.
+/// A call of what stands at `name`, behind its arguments, in the names in force behind them. It fails for want of
+/// memory alone.
 pub(crate) fn call<C: Callees>(
     alloc: Global,
     callees: &C,

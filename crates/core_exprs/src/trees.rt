@@ -14,9 +14,9 @@ use c_type_scope::Scope;
 use plain_data::{Items, Shared};
 use std::alloc::{AllocError, Global};
 
-/// The core of an expression (C99 6.5): operands and type names from left to right, each in the scope that those before it
-/// leave. What `sizeof` is applied to isn't evaluated, and what is called is a name. What breaks a rule isn't run. It fails
-/// for want of memory alone.
+/// The core of an expression (C99 6.5): operands and type names from left to right, each in the scope that those
+/// before it leave. What `sizeof` is applied to isn't evaluated, and what is called is a name. What breaks a rule
+/// isn't run. It fails for want of memory alone.
 #[cycle(building)]
 pub fn core_of<C: Callees>(
     alloc: Global,

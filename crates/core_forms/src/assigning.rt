@@ -52,8 +52,8 @@ pub fn simple(
     valued(alloc, told, node)
 }
 
-/// What is read, and stored behind an operator on its value and another: both are left where there is no such operator. It
-/// fails for want of memory alone.
+/// What is read, and stored behind an operator on its value and another: both are left where there is no such
+/// operator. It fails for want of memory alone.
 fn updated(
     alloc: Global,
     at: u32,
@@ -91,8 +91,8 @@ fn scalar_access(told: &Told, rooted: bool) -> Option<Access>
     }
 }
 
-/// `target op= value` (C99 6.5.16.2): the target's value is taken before the other operand is evaluated. It fails for want
-/// of memory alone.
+/// `target op= value` (C99 6.5.16.2): the target's value is taken before the other operand is evaluated. It fails for
+/// want of memory alone.
 pub fn compound(
     alloc: Global,
     tables: &Tables,
@@ -147,8 +147,8 @@ fn stepped(
     }
 }
 
-/// An integer or pointer that is read, and stored with 1 more or less (C99 6.5.2.4p2, 6.5.3.1p2). It fails for want of memory
-/// alone.
+/// An integer or pointer that is read, and stored with 1 more or less (C99 6.5.2.4p2, 6.5.3.1p2). It fails for want of
+/// memory alone.
 fn step(
     alloc: Global,
     tables: &Tables,

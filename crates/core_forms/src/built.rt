@@ -30,7 +30,8 @@ pub enum Node {
     Call(Call),
 }
 
-/// A part of an expression: what the types say of it, whether the root of the lvalue that it is is a name, and its core.
+/// A part of an expression: what the types say of it, whether the root of the lvalue that it is is a name, and its
+/// core.
 #[derive(Drop)]
 pub struct Built {
     pub told: Told,
@@ -120,8 +121,8 @@ pub(crate) fn left_out(
     })
 }
 
-/// The value of what stands at an address: an array or a function is its address, and a void expression has no value. It
-/// fails for want of memory alone.
+/// The value of what stands at an address: an array or a function is its address, and a void expression has no value.
+/// It fails for want of memory alone.
 fn read(
     alloc: Global,
     class: Class,

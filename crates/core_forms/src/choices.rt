@@ -73,8 +73,8 @@ fn named_class(named: &Option<Result<CType, Rule>>) -> Class
     }
 }
 
-/// A part as the operand of a cast to a named type: of one to void, the value isn't used (C99 6.3.2.2). It fails for want
-/// of memory alone.
+/// A part as the operand of a cast to a named type: of one to void, the value isn't used (C99 6.3.2.2). It fails for
+/// want of memory alone.
 pub fn cast_operand(
     alloc: Global,
     tables: &Tables,

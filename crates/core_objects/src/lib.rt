@@ -1,5 +1,5 @@
-//! Objects that declarations give to blocks and to the whole run, in the core: what their initializers set, in a block and
-//! before the program starts.
+//! Objects that declarations give to blocks and to the whole run, in the core: what their initializers set, in a block
+//! and before the program starts.
 #![tactic(auto)]
 
 mod begun;

@@ -20,8 +20,8 @@ use core_tree::Function;
 use plain_data::{Items, Shared};
 use std::alloc::{AllocError, Global};
 
-/// The variables that live throughout the run that the function names which an external declaration defines in a file of
-/// its own, where it defines one.
+/// The variables that live throughout the run that the function names which an external declaration defines in a file
+/// of its own, where it defines one.
 fn watched_alone(
     alloc: Global,
     around: &Around<'_>,
@@ -114,7 +114,8 @@ fn each_alone(
     Ok(all)
 }
 
-/// The functions of the C library that have a body, in the core of a source, in order. It fails for want of memory alone.
+/// The functions of the C library that have a body, in the core of a source, in order. It fails for want of memory
+/// alone.
 pub(crate) fn library(
     alloc: Global,
     around: &Around<'_>,

@@ -214,8 +214,8 @@ fn numbered_in(
     Ok(functions)
 }
 
-/// The numbers of all functions of the source, in order, of which the first that isn't reached has this one. It fails for
-/// want of memory alone.
+/// The numbers of all functions of the source, in order, of which the first that isn't reached has this one. It fails
+/// for want of memory alone.
 pub(crate) fn numbered(
     alloc: Global,
     overview: &Overview,

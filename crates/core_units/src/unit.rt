@@ -102,9 +102,9 @@ fn all_parts(
     }))
 }
 
-/// The core of a whole source that was read, where there is a `main`: in every world and bounds it has the program's run,
-/// room and size, whatever rules are broken. Of the functions that aren't reached it has none, where no other calls one.
-/// It fails for want of memory alone.
+/// The core of a whole source that was read, where there is a `main`: in every world and bounds it has the program's
+/// run, room and size, whatever rules are broken. Of the functions that aren't reached it has none, where no other
+/// calls one. It fails for want of memory alone.
 pub fn core_of(
     alloc: Global,
     source: &Source<'_>,

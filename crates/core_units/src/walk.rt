@@ -20,8 +20,8 @@ use core_tree::{Function, LastingSetting};
 use plain_data::{Items, Shared};
 use std::alloc::{AllocError, Global};
 
-/// Functions of the source in the core, those that are reached and the others, and what is set before `main` is called, each
-/// in order.
+/// Functions of the source in the core, those that are reached and the others, and what is set before `main` is
+/// called, each in order.
 #[derive(Drop)]
 pub struct Made {
     pub functions: Items<Function>,
@@ -196,7 +196,8 @@ fn made_of(
     }
 }
 
-/// What is made of all external declarations of the source, by their plans, each in the scope that those before it leave.
+/// What is made of all external declarations of the source, by their plans, each in the scope that those before it
+/// leave.
 pub(crate) fn make_each(alloc: Global, around: &Around<'_>, plans: &[Plan]) -> Result<Made, AllocError>
     requires around { spec.IsAroundOf around.now }
     requires plans { plans.now ≡ map (spec.plan_in around.now) (spec.outers_of around.now) }

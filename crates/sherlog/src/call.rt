@@ -14,8 +14,8 @@ use sl_config::{WordsFault, read_words};
 use sl_io::{Shelf, Sink};
 use std::alloc::Global;
 
-/// Serves a command line, and answers the status. The words are those behind the program's name. What a diagnosis rests on
-/// is kept as values.
+/// Serves a command line, and answers the status. The words are those behind the program's name. What a diagnosis
+/// rests on is kept as values.
 pub fn run<H: Shelf, O: Sink, E: Sink>(
     alloc: Global,
     words: &[String],
@@ -24,11 +24,12 @@ pub fn run<H: Shelf, O: Sink, E: Sink>(
     err: &mut E,
     kept: &mut Kept,
 ) -> u8
-    // 0, 1 and 9 come once what is asked for was written: of `diagnose` a report that is true of every world, 1 where no
-    // run fits, and 9 where a question stayed open after the conflicts that were allowed; of `replay`, always 0, what the
-    // run prints, with the line of its end on err; of `sites` and `match`, always 0, exactly the lines for the log calls of
-    // the source in functions that are reached, with exactly the ends that some arguments of the format's kinds reach. Behind
-    // `diagnose` the formula of the runs and the diagnosis over it are kept: each refutation and each trail, as values.
+    // 0, 1 and 9 come once what is asked for was written: of `diagnose` a report that is true of every world, 1 where
+    // no run fits, and 9 where a question stayed open after the conflicts that were allowed; of `replay`, always 0,
+    // what the run prints, with the line of its end on err; of `sites` and `match`, always 0, exactly the lines for
+    // the log calls of the source in functions that are reached, with exactly the ends that some arguments of the
+    // format's kinds reach. Behind `diagnose` the formula of the runs and the diagnosis over it are kept: each
+    // refutation and each trail, as values.
     ensures answered { IsAnswer result → IfSome (asked_of (map string_bytes words.now)) (λ asked.
         Answered asked (H.state shelf.old).files result (O.state out.old) (O.state out.new)
         (E.state err.old) (E.state err.new) kept.new) }

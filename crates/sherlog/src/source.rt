@@ -159,8 +159,8 @@ fn copy_externals(
     Ok(copy)
 }
 
-/// Of an accepted source that can't be diagnosed, the refusal: that it isn't served, or for want of memory where it is of
-/// the first form, of which each source is served.
+/// Of an accepted source that can't be diagnosed, the refusal: that it isn't served, or for want of memory where it is
+/// of the first form, of which each source is served.
 pub fn unserved(alloc: Global, unit: &Unit) -> Refusal
     ensures { IsNotServed unit.now.externals result }
 {
