@@ -1,5 +1,5 @@
-//! What the expressions of an initializer set (C99 6.7.8): the first sets the first of the parts that are filled, and so
-//! on. Where an expression fills none, it breaks a rule (C99 6.7.8p2), and waits for a part with those behind it.
+//! What the expressions of an initializer set (C99 6.7.8): the first sets the first of the parts that are filled, and
+//! so on. Where an expression fills none, it breaks a rule (C99 6.7.8p2), and waits for a part with those behind it.
 ghost use Rattle.std.specs.Prelude.{◌≡◌, ◌++◌, ◌∷◌, [], ◌&&◌, List, IfOk};
 ghost use Rattle.c_language.specs.Initials as braces;
 ghost use Rattle.c_language.specs.Types.{element_of};
