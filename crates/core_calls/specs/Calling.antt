@@ -1,6 +1,5 @@
 -- What is called in the core, by what is known of the call.
-use Rattle.std.specs.Prelude.{ℕ, ◌-◌, ◌^◌, ◌<◌, Bool, true, false, cond, List, [], ◌++◌, Option, Some, None, option_map}
-use Rattle.std.specs.Str.{bytes_eq}
+use Rattle.std.specs.Prelude.{ℕ, Bool, List, ◌++◌, Option, option_map}
 use Rattle.printf_text.specs.declared.piece.Piece.{Piece}
 use Rattle.printf_text.specs.Pieces.{pieces_of}
 use Rattle.c_language.specs.declared.class.Class.{Class}

@@ -1,5 +1,5 @@
 -- A label at the first of a statement's items is one of the statement.
-use Rattle.std.proofs.Common.{◌≡◌, ℕ, ◌+◌, List, [], ◌∷◌, map, Option, Some, ℤ, refl, sym, ap, ap₂, ◌∙◌, subst, arith}
+use Rattle.std.proofs.Common.{◌≡◌, ℕ, ◌+◌, false, List, [], ◌∷◌, map, Option, Some, ℤ, refl, sym, ap, ap₂, ◌∙◌, subst, arith}
 use Rattle.c_language.specs.Scopes.{Name}
 use Rattle.c_means.specs.declared.kind.Kind.{Kind}
 use Rattle.c_means.specs.Items.{at_label, at_case, at_default}

@@ -225,20 +225,18 @@ pub(crate) fn default_made(alloc: Global, body: Made) -> Result<Made, AllocError
     })
 }
 
-/// The value of a `case` as its `switch` compares it: it stands in the block of one, and its expression is constant (C99
-/// 6.8.1p2, 6.8.4.2p3).
+/// The value of a `case` as its `switch` compares it, where its expression is constant (C99 6.8.4.2p3); outside of one its
+/// own (C99 6.8.1p2).
 pub(crate) fn case_constant(x: Context, told: &Told) -> Option<i128>
     ensures { result ≡ form.case_value x.compared (value_in told.now.shown) }
 {
+    let constant = match &told.shown {
+        Some(shown) => shown.value?,
+        None => return None,
+    };
     match x.compared {
-        Some(compared) => match &told.shown {
-            Some(shown) => match shown.value {
-                Some(constant) => Some(code_forms::case_value(compared, constant)),
-                None => None,
-            },
-            None => None,
-        },
-        None => None,
+        Some(compared) => Some(code_forms::case_value(compared, constant)),
+        None => Some(constant),
     }
 }
 

@@ -1,9 +1,8 @@
 //! The top call.
-ghost use Rattle.std.specs.Prelude.{◌≡◌, ◌≢◌, ◌⊎◌, None, IfSome, map, string_bytes};
+ghost use Rattle.std.specs.Prelude.{◌≡◌, ◌⊎◌, None, IfSome, map, string_bytes};
 ghost use Rattle.sl_io.specs.Writes.{Told};
 ghost use Rattle.sherlog.specs.Answers.{AllIsWell, Answered, IsAnswer, IsRefusal, IsRefused};
 ghost use Rattle.sherlog.specs.Completeness.{IsAnswerable, IsNoProgram};
-ghost use Rattle.sherlog.specs.declared.request.Command.{Command as CommandType};
 ghost use Rattle.sherlog.specs.Lines.{memory_line, usage_line};
 ghost use Rattle.sherlog.specs.Words.{asked_of};
 
@@ -56,7 +55,7 @@ pub fn run<H: Shelf, O: Sink, E: Sink>(
         IsNoProgram asked (H.state shelf.old) (H.state shelf.new) → (result ≡ 3) ⊎ (result ≡ 12)) }
     ensures complete { IfSome (asked_of (map string_bytes words.now)) (λ asked.
         IsAnswerable asked (H.state shelf.old) (H.state shelf.new) (O.state out.old) (O.state out.new)
-        → IsAnswer result ⊎ ((result ≡ 12) ⊎ ((result ≡ 3) × (asked.command ≢ CommandType.Diagnose)))) }
+        → IsAnswer result ⊎ (result ≡ 12)) }
 {
     let job = match read_words(alloc, words) {
         Ok(job) => job,

@@ -84,23 +84,23 @@ pub all_items-returns : goal.all_items-returns
 all_items-returns g t c =
     turn.all_items (g.P.Parts.numbering c.args.parts.now) c.args.x c.args.scope.now c.args.items.now c.loop-item.item-index c.loop-item.made c.loop-item.scope c.loop-item-test.false c.loop-item.invariant
 
-pub content-returns-clause-content-in_ok-made-in-Block : goal.content-returns-clause-content-in_ok-made-in-Block
-content-returns-clause-content-in_ok-made-in-Block g t c =
+pub content-returns-in_ok-made-in-Block-clause-content : goal.content-returns-in_ok-made-in-Block-clause-content
+content-returns-in_ok-made-in-Block-clause-content g t c =
     arm.block_content (g.P.Parts.numbering c.args.parts.now) c.args.x c.args.scope.now c.args.node.now _ _ c.as_slice.result.now c.in_ok-made-in-Block.made c.content.result c.all_items.new.scope c.in-Block.is c.as_slice.ensures c.in_ok-made-in-Block.ensures c.content.ensures
 
-pub content-returns-clause-content-in_ok-made-in_default : goal.content-returns-clause-content-in_ok-made-in_default
-content-returns-clause-content-in_ok-made-in_default g t c =
-    arm.other_content (g.P.Parts.numbering c.args.parts.now) c.args.x c.args.scope.now c.args.node.now c.in_ok-made-in_default.made c.content-in_default.result c.statement.new.scope c.in_default.not-Block c.in_ok-made-in_default.ensures c.content-in_default.ensures
-
-pub content-returns-clause-block-in_ok-made-in-Block : goal.content-returns-clause-block-in_ok-made-in-Block
-content-returns-clause-block-in_ok-made-in-Block g t c =
+pub content-returns-in_ok-made-in-Block-clause-block : goal.content-returns-in_ok-made-in-Block-clause-block
+content-returns-in_ok-made-in-Block-clause-block g t c =
     arm.block_is (g.P.Parts.numbering c.args.parts.now) c.args.x c.args.scope.now c.args.node.now _ _ _ c.in-Block.is
     (ap (λ b. b.content.is_compound) c.content.ensures)
 
-pub content-returns-clause-block-in_ok-made-in_default : goal.content-returns-clause-block-in_ok-made-in_default
-content-returns-clause-block-in_ok-made-in_default g t c =
-    arm.other_is (g.P.Parts.numbering c.args.parts.now) c.args.x c.args.scope.now c.args.node.now _ c.in_default.not-Block
-    (ap (λ b. b.content.is_compound) c.content-in_default.ensures)
+pub content-returns-in_ok-made-in_default : goal.content-returns-in_ok-made-in_default
+content-returns-in_ok-made-in_default g t c = record {
+  content = arm.other_content (g.P.Parts.numbering c.args.parts.now) c.args.x c.args.scope.now c.args.node.now
+      c.in_ok-made-in_default.made c.content-in_default.result c.statement.new.scope c.in_default.not-Block
+      c.in_ok-made-in_default.ensures c.content-in_default.ensures;
+  block = arm.other_is (g.P.Parts.numbering c.args.parts.now) c.args.x c.args.scope.now c.args.node.now _
+      c.in_default.not-Block (ap (λ b. b.content.is_compound) c.content-in_default.ensures);
+}
 
 pub sub_block-returns : goal.sub_block-returns
 sub_block-returns g t c =
