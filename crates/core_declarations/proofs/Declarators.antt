@@ -1,5 +1,6 @@
 -- A declarator, and a whole declaration, from what the code has found of it.
-use Rattle.std.proofs.Common.{◌≡◌, ℕ, true, false, List, [], Bool, cond, not, ◌||◌, map, Option, Some, None, refl, sym, ap, ◌∙◌, subst}
+use Rattle.std.proofs.Common.{◌≡◌, ℕ, true, false, List, [], Bool, cond, not, ◌||◌, map, Option, Some, None, refl}
+use Rattle.std.proofs.Common.{sym, ap, ◌∙◌, subst}
 use Rattle.c_language.specs.declared.expr.StorageClass.{StorageClass}
 use Rattle.c_language.specs.declared.unit.Declaration.{Declaration}
 use Rattle.c_language.specs.declared.ctype.CType.{CType}
@@ -67,8 +68,8 @@ module _ (n : Numbering) (y : Initial) (x : initials.Initial) where
   found_initial at name m defines s h = by (has_linkage m)
     where
       by : (b : Bool)
-          → IsInitialOf (look_up (cond b (declares_linked at name m defines (linked_as s name) s) (declared at name m s)) name)
-          n y x
+          → IsInitialOf
+          (look_up (cond b (declares_linked at name m defines (linked_as s name) s) (declared at name m s)) name) n y x
       by true = subst (λ o. IsInitialOf o n y x) (sym (declared_found (first_at at (linked_as s name)) name m s)) h
       by false = subst (λ o. IsInitialOf o n y x) (sym (declared_found at name m s)) h
 

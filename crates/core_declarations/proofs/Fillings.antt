@@ -1,6 +1,6 @@
 -- Initializers, from what the code has found of their parts.
 use Rattle.std.proofs.Common.{◌≡◌, ℕ, suc, add-one, ◌+◌, ◌<◌, ◌≤◌, Bool, true, false, List, [], ◌∷◌, ◌++◌, map, length, drop, get_or}
-use Rattle.std.proofs.Common.{Option, Some, None, Result, Ok, Err, IfOk, drop-cons, refl, sym, ap, ap₂, ◌∙◌, subst}
+use Rattle.std.proofs.Common.{Option, Some, None, drop-cons, refl, sym, ap, ap₂, ◌∙◌, subst}
 use Rattle.std.proofs.lemmas.List.{drop_all}
 use Rattle.c_language.specs.declared.expr.Expr.{Expr as Tree}
 use Rattle.c_language.specs.declared.unit.Initializer.{Initializer}
@@ -121,8 +121,8 @@ item_walks n x w w1 z s s1 t paired h k =
     let parts = ap (λ (f : Filling). f.parts) h ∙ designated_parts x.designators y in
     subst (λ (l : Listed). Walks n l.elements w s z t) (sym (listed-Item x))
     (walks_designated n x.designators (initially x.value).elements y w z t
-    (walks_from n (initially x.value).elements w w1 z z (by_notes x.designators y).scope t (sym parts) (sym paired) refl refl
-    (subst (λ u. Walks n (initially x.value).elements w1 u z t)
+    (walks_from n (initially x.value).elements w w1 z z (by_notes x.designators y).scope t (sym parts) (sym paired) refl
+    refl (subst (λ u. Walks n (initially x.value).elements w1 u z t)
     (ap (λ (f : Filling). f.scope) (h ∙ same_by x.designators y)) k)))
 
 -- ---- items in turn

@@ -1,11 +1,11 @@
 -- What an expression sets in its part, and which expressions have their parts.
 use Rattle.std.proofs.Common.{◌≡◌, ℕ, suc, ◌+◌, pos, Bool, true, false, cond, List, [], ◌∷◌, ◌++◌, length, Option}
-use Rattle.std.proofs.Common.{Some, None, Result, Ok, Err, refl, sym, ap, ap₂, ◌∙◌, subst}
+use Rattle.std.proofs.Common.{Some, None, Ok, Err, refl, sym, ap, ap₂, ◌∙◌, subst}
 use Rattle.std.specs.Prelude.{◌&&◌, slice_get, remove, unwrap_or}
-use Rattle.std.proofs.lemmas.List.{append-nil, append_assoc}
+use Rattle.std.proofs.lemmas.List.{append_assoc}
 use Rattle.c_language.specs.declared.tables.Tables.{Tables}
 use Rattle.c_language.specs.Types.{class_of, element_of}
-use Rattle.c_language.specs.Scopes.{Scope, empty}
+use Rattle.c_language.specs.Scopes.{Scope}
 use Rattle.c_language.specs.Typing.{Typed, typed_in}
 use Rattle.c_language.specs.declared.shown.Told.{Told}
 use Rattle.c_language.specs.Initials.{Part, Filling, Frame, Found, is_byte_type, is_literal_in, is_text_of, fills_value}
@@ -25,13 +25,12 @@ use Rattle.elaborate.specs.Types.{value_type}
 use Rattle.elaborate.proofs.Choices.{value_sets}
 use Rattle.elaborate.proofs.Objects.{stored_in}
 use Rattle.core_declarations.specs.declared.hearing.Heard.{Heard}
-use Rattle.core_declarations.specs.declared.pairing.Pair.{Pair}
 use Rattle.core_declarations.specs.declared.pairing.Paired.{Paired}
 use Rattle.core_declarations.specs.declared.pairing.Source.{Source}
 use Rattle.core_declarations.specs.declared.pairing.Waiting.{Waiting}
 use Rattle.core_declarations.specs.Hearing.{IsHeard}
-use Rattle.core_declarations.specs.Pairing.{AllWait, AreGrown, HasPair, Holds, IsPair, IsSource, IsWaiting, OneMore, Step}
-use Rattle.core_declarations.specs.Pairing.{and_pair, counted_of, none_paired, noted_of, parts_of, settings_of, text_pair}
+use Rattle.core_declarations.specs.Pairing.{AllWait, AreGrown, HasPair, Holds, IsPair, IsSource, IsWaiting, Step}
+use Rattle.core_declarations.specs.Pairing.{counted_of, none_paired, noted_of, parts_of, settings_of, text_pair}
 use Rattle.core_declarations.specs.Pairing.{value_pair, waits}
 
 -- ---- what was heard

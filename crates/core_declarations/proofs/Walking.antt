@@ -88,7 +88,8 @@ walks_designated n ds es y x z t h =
 gone_from : (n : Numbering) (ns : List Noted) (x y : Walked) → x.filling.parts ≡ y.filling.parts → x.paired ≡ y.paired
     → HasGone n ns x → HasGone n ns y
 gone_from n ns x y parts paired h =
-    subst (λ (ps : List Part). Holds n ns ps y.paired) parts (subst (λ (z : Paired). Holds n ns x.filling.parts z) paired h)
+    subst (λ (ps : List Part). Holds n ns ps y.paired) parts
+    (subst (λ (z : Paired). Holds n ns x.filling.parts z) paired h)
 
 pub walks_from : (n : Numbering) (es : List Element) (x x' y y' : Walked) (s t : Scope)
     → x.filling.parts ≡ x'.filling.parts → x.paired ≡ x'.paired → y.filling.parts ≡ y'.filling.parts

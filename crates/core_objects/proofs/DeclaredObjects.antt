@@ -101,9 +101,9 @@ module _ (numbering : Numbering) where
   none_set = record { each = []; all = refl; set = tt }
 
   -- an object of a block
-  pub automatic_begun : (en : Entry) (n : ℕ) (z : Bool) (xs : List Setting) (x : initials.Initial) (s : Scope) (c : Code)
-      (y : Begun) → c ≡ tree.Declare en.at n z xs → y ≡ one_begun c [] → z ≡ x.is_zeroed → IsGiven numbering xs x
-      → IsBegun numbering y (statements.automatic en n x s) s
+  pub automatic_begun : (en : Entry) (n : ℕ) (z : Bool) (xs : List Setting) (x : initials.Initial) (s : Scope)
+      (c : Code) (y : Begun) → c ≡ tree.Declare en.at n z xs → y ≡ one_begun c [] → z ≡ x.is_zeroed
+      → IsGiven numbering xs x → IsBegun numbering y (statements.automatic en n x s) s
   automatic_begun en n z xs x s c y code is zeroed h =
       subst (λ y. IsBegun numbering y (statements.automatic en n x s) s)
       (sym (is ∙ ap (λ c. one_begun c []) code)) (record {

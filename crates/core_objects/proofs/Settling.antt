@@ -1,5 +1,6 @@
 -- What is set before the program starts is what the initializer of an object that lives throughout the run does.
-use Rattle.std.proofs.Common.{◌≡◌, ℕ, ◌+◌, Bool, List, [], ◌∷◌, ◌++◌, map, Option, Some, None, refl, sym, ap, ◌∙◌, arith}
+use Rattle.std.proofs.Common.{◌≡◌, ℕ, ◌+◌, Bool, List, [], ◌∷◌, ◌++◌, map, Option, Some, None, refl, sym, ap, ◌∙◌}
+use Rattle.std.proofs.Common.{arith}
 use Rattle.c_store.specs.Store.{start}
 use Rattle.c_means.specs.Parts.{State}
 use Rattle.c_means.specs.Parts as c
@@ -65,12 +66,14 @@ module _ (numbering : Numbering) (en : Entry) (xs : List Setting) (x : initials.
       → running (codes.sets_all xs (start (numbering.place en.at)) k no_env 0) (as_done d)
       ≡ Some (as_done (runs.running ((lasting_object at en n defined x).set l) d))
   set_here at n defined l k like d =
-      running_same (codes.sets_all xs (start (numbering.place en.at)) k no_env 0) ((lasting_object at en n defined x).set l) d
+      running_same (codes.sets_all xs (start (numbering.place en.at)) k no_env 0)
+      ((lasting_object at en n defined x).set l) d
       (h.runs l k like (start (numbering.place en.at)) no_env 0 d
       ∙ ap (λ (f : ℕ → ℕ). Some (as_done (x.run (start (f en.at)) l no_env 0 d))) (sym like.static_places))
 
   pub settled : (at n : ℕ) (defined : Bool)
-      → AreSettings (bare numbering) (map (lasting_setting (numbering.place en.at)) xs) (lasting_object at en n defined x)
+      → AreSettings (bare numbering) (map (lasting_setting (numbering.place en.at)) xs)
+      (lasting_object at en n defined x)
   settled at n defined = record {
     set = λ l k last like d.
         sym (running_alike (codes.sets_all xs (start (numbering.place en.at)) k no_env 0)

@@ -1,4 +1,5 @@
--- What an initializer gives to an object: what its expressions set, one behind the other, and how many nodes they count.
+-- What an initializer gives to an object: what its expressions set, one behind the other, and how many nodes they
+-- count.
 use Rattle.std.specs.Prelude.{◌≡◌, ℕ, Bool, true, false, List, [], map, Some}
 use Rattle.c_language.specs.declared.scope.Duration.TheVariants as duration
 use Rattle.c_language.specs.declared.scope.Means.{Means}
@@ -30,8 +31,10 @@ pub record IsSet (numbering : Numbering) (x : Setting) (p : Part) (n : Noted) : 
 
 -- what a whole initializer sets
 pub record IsGiven (numbering : Numbering) (xs : List Setting) (x : initials.Initial) : Type 0 where
-  pub size : (l : c.Level) (k : Level Output) → Like numbering l k → (core.all_needs Output xs).size k.measures ≡ x.size l
-  pub room : (l : c.Level) (k : Level Output) → Like numbering l k → (core.all_needs Output xs).room k.measures ≡ x.room l
+  pub size : (l : c.Level) (k : Level Output) → Like numbering l k → (core.all_needs Output xs).size k.measures
+      ≡ x.size l
+  pub room : (l : c.Level) (k : Level Output) → Like numbering l k → (core.all_needs Output xs).room k.measures
+      ≡ x.room l
   pub runs : (l : c.Level) (k : Level Output) → Like numbering l k → (a : ℕ) (env : Env) (base : ℕ) (d : State)
       → core.sets_all xs a k env base (as_done d) ≡ Some (as_done (x.run a l env base d))
 

@@ -1,4 +1,4 @@
-use Rattle.std.proofs.Common.{sym, ap, ◌∙◌, subst}
+use Rattle.std.proofs.Common.{sym, ap, subst}
 use Rattle.c_language.specs.Initials.{Filling, filling_of}
 use Rattle.c_means.specs.Initials.{evaluated, initially, initialising}
 use Rattle.core_objects.specs.Given.{IsGiven}

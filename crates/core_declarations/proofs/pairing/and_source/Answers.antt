@@ -16,8 +16,8 @@ returns-in-None c = λ numbering ns ps n h after held grown.
     ∙ sym c.get.ensures.value ∙ ap option_copied c.in-None.is)
     in
     IfOk-weaker c.waits.result _ _ (λ y is. subst (λ ps. Holds numbering (ns ++ n ∷ []) ps y) (sym same)
-    (subst (λ y. Holds numbering (ns ++ n ∷ []) ps y) (sym is) (waits_held numbering ns ps x s c.args.source n held h after)))
-    c.waits.ensures
+    (subst (λ y. Holds numbering (ns ++ n ∷ []) ps y) (sym is)
+    (waits_held numbering ns ps x s c.args.source n held h after))) c.waits.ensures
 
 pub returns-then-is_empty : goal.returns-then-is_empty
 returns-then-is_empty c = λ numbering ns ps n h after held grown.

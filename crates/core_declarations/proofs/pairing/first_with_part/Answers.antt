@@ -13,6 +13,6 @@ pub returns : goal.returns
 returns c = λ numbering ns ps n h after held.
     let x = c.in_ok-paired.paired in
     IfOk-weaker c.with_part.result _ _ (λ y has. removed_held numbering ns ps c.args.paired x
-    (with_waiting x c.remove-first.new.self) c.args.scope.now c.args.source c.remove-first.result n c.args.part.now y held h
-    after c.in_ok-paired.ensures c.remove-first.ensures.item (ap (with_waiting x) c.remove-first.ensures.rest)
+    (with_waiting x c.remove-first.new.self) c.args.scope.now c.args.source c.remove-first.result n c.args.part.now y
+    held h after c.in_ok-paired.ensures c.remove-first.ensures.item (ap (with_waiting x) c.remove-first.ensures.rest)
     (λ m i a. has numbering m i (c.tables.ensures ∙ ap (λ (s : Scope). s.tables) a))) c.with_part.ensures
