@@ -9,7 +9,7 @@ A crate without `=` is copied as it stands. The order doesn't matter; crates.txt
 named, and of each the libraries that were. Lemmas (proofs/) are left out of an outline that hasn't
 `lemmas:=` among its calls. For instance, to check `replayer`:
 
-    tools/outline.py /tmp/root plain_data plain_data .. core_units=core_of:NoCore::Memory acceptance replayer
+    tools/outline.py /tmp/root plain_data plain_data .. core_units=core_of:AllocError acceptance replayer
 
 and then `rt check` in /tmp/root/crates/replayer. An outline proves nothing of its crate: what is checked over it is proved
 only as far as the contracts of the calls that give up are kept by the crate itself.

@@ -1,12 +1,12 @@
 -- Accepted sources have no refusal, and refused ones the first; and a core that is a source's in every world has its runs.
-use Rattle.std.proofs.Common.{◌≡◌, Bool, true, false, cond, List, [], Option, Some, None, Result, Ok, Err, IfOk, refl, sym}
+use Rattle.std.proofs.Common.{◌≡◌, Bool, true, false, cond, List, [], Option, Some, None, Result, Ok, Err, IfOk, refl, sym, ap, ◌∙◌, subst}
 use Rattle.plain_data.specs.declared.bounds.Bounds.{Bounds}
 use Rattle.c_language.specs.declared.unit.External.{External}
 use Rattle.c_checks.specs.Refusals.{IsLeast, least_of}
 use Rattle.c_checks.proofs.Least.{is_least, none_broken}
 use Rattle.c_means.specs.declared.breach.Breach.{Breach}
 use Rattle.c_means.specs.declared.profile.Profile.{Profile}
-use Rattle.c_means.specs.Checks.{IsAccepted, breaches_of, has_main}
+use Rattle.c_means.specs.Checks.{IsAccepted, breaches_of, has_main, is_main}
 use Rattle.c_means.specs.Runs.{Machine}
 use Rattle.c_means.specs.Units.{IsAcceptedSource, limits_of, machine_in, machine_of, silent, source_room, source_run, source_size, world_of}
 use Rattle.c_item_notes.specs.Levels.{Judged}
@@ -18,7 +18,7 @@ use Rattle.core_tree.specs.declared.program.Core.{Core}
 use Rattle.core_programs.specs.Numberings.{numbering_of}
 use Rattle.core_programs.proofs.Programs.{room_is, run_same, size_is}
 use Rattle.core_units.specs.Plans.{numbers_in, program_in}
-use Rattle.core_units.specs.Units.{IsUnitCore}
+use Rattle.core_units.specs.Units.{IsUnitCore, IsCoreOfUnit, MaybeCore}
 use Rattle.acceptance.specs.Refusals.{Judges, judged_in}
 use Rattle.accepted.specs.Cores.{HasItsRuns}
 
@@ -73,14 +73,37 @@ pub judged_ok : {E : Type 0} (j : Judged) (r : Result (Option Refusal) E) → If
 judged_ok j (Ok x) h = judges j x h
 judged_ok j (Err e) h = tt
 
+pub kept_ok : {T E : Type 0} (xs : List External) (profile : Profile) (o : Option Refusal) (r : Result T E) → o ≡ None
+    → Judges xs profile o → IfOk r (λ x. IsAcceptedSource xs profile)
+kept_ok xs profile o (Ok x) is h = subst (Judges xs profile) is h
+kept_ok xs profile o (Err e) is h = tt
+
 -- ---- of its core
 
-pub has_its_runs : (xs : List External) (profile : Profile) (p : Core) → IsUnitCore xs profile p → HasItsRuns xs profile p
+unit_runs : (xs : List External) (profile : Profile) (p : Core) → IsUnitCore xs profile p → HasItsRuns xs profile p
 unfolding source_run source_room source_size
-has_its_runs xs profile p h =
+unit_runs xs profile p h =
     let numbering = numbering_of (program_in xs profile) (numbers_in xs profile) in
     record {
       run = λ w b. run_same numbering (machine_in xs profile w b) p (h (world_of w) (limits_of b) b.depth);
       room = λ b. room_is numbering (machine_of xs profile silent (limits_of b) b.depth) p (h silent (limits_of b) b.depth);
       size = λ b. size_is numbering (machine_of xs profile silent (limits_of b) b.depth) p (h silent (limits_of b) b.depth);
     }
+
+has_its_runs : (xs : List External) (profile : Profile) (p : Core) → IsCoreOfUnit xs profile p → HasItsRuns xs profile p
+has_its_runs xs profile p h =
+    let whole = unit_runs xs profile h.whole_core h.is in
+    record {
+      run = λ w b. h.runs.run (world_of w) (limits_of b) b.depth ∙ whole.run w b;
+      room = λ b. h.runs.room silent (limits_of b) b.depth ∙ whole.room b;
+      size = λ b. h.runs.size silent (limits_of b) b.depth ∙ whole.size b;
+    }
+
+pub has_a_core : (xs : List External) (profile : Profile) (o : Option Core) (p : Core) → o ≡ Some p
+    → MaybeCore xs profile o → HasItsRuns xs profile p
+has_a_core xs profile o p is h = has_its_runs xs profile p (subst (MaybeCore xs profile) is h)
+
+-- where there is none, there is no `main`
+pub no_core : (xs : List External) (profile : Profile) (o : Option Core) → o ≡ None → MaybeCore xs profile o
+    → has_main (judged_in xs profile) ≡ false
+no_core xs profile o is h = ap is_main (subst (MaybeCore xs profile) is h)

@@ -10,7 +10,7 @@ use Rattle.c_means.specs.Checks.{breaches_of, has_main}
 use Rattle.c_means.specs.Runs.{Machine}
 use Rattle.c_means.specs.Units.{machine_of, silent, least, IsAcceptedSource}
 use Rattle.acceptance.specs.declared.fault.CheckFault.{CheckFault}
-use Rattle.acceptance.specs.declared.fault.CheckFault.TheVariants.{Refused, NoCore, Memory}
+use Rattle.acceptance.specs.declared.fault.CheckFault.TheVariants.{Refused, Memory}
 
 -- what rules are asked of
 abbrev pub judged_in : List External → Profile → Machine
@@ -34,5 +34,4 @@ Judges xs profile (Some refusal) = IsRefusal xs profile refusal
 -- why it has no program
 abbrev pub Refuses : List External → Profile → CheckFault → Type 0
 Refuses xs profile (Refused refusal) = IsRefusal xs profile refusal
-Refuses xs profile NoCore = IsAcceptedSource xs profile
 Refuses xs profile Memory = ⊤

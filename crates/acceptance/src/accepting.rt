@@ -12,7 +12,6 @@ use c_item_notes::Source;
 use c_language::External;
 use c_means::Profile;
 use c_program_notes::{Overview, Refusal, read_source, why_refused};
-use core_forms::NoCore;
 use core_tree::Core;
 use core_units::core_of;
 use plain_data::{Items, Shared};
@@ -44,8 +43,19 @@ pub fn check(
     judged_by(alloc, &source, &overview)
 }
 
+/// The core of a source that was read; it has none exactly where it has no `main`.
+fn made_of(alloc: Global, source: &Source<'_>, overview: &Overview) -> Result<Core, CheckFault>
+    requires { overview.now ≡ overview_in (judged source.now) }
+    ensures core { IfOk result (HasItsRuns source.now.externals.now source.now.profile.now) }
+    ensures refused { IfErr result (Refuses source.now.externals.now source.now.profile.now) }
+{
+    match core_of(alloc, source, overview)? {
+        Some(core) => Ok(core),
+        None => Err(CheckFault::Refused(Refusal::NoMain)),
+    }
+}
+
 /// The core of a source that is accepted.
-#[tactic(auto, using(crate::proofs::Keeping::has_its_runs))]
 fn core_in(alloc: Global, source: &Source<'_>) -> Result<Core, CheckFault>
     ensures kept { IfOk result (λ _. IsAcceptedSource source.now.externals.now source.now.profile.now) }
     ensures core { IfOk result (HasItsRuns source.now.externals.now source.now.profile.now) }
@@ -53,18 +63,14 @@ fn core_in(alloc: Global, source: &Source<'_>) -> Result<Core, CheckFault>
 {
     let overview = read_source(alloc, source)?;
     match judged_by(alloc, source, &overview)? {
-        None => match core_of(alloc, source, &overview) {
-            Ok(core) => Ok(core),
-            Err(NoCore::Outside) => Err(CheckFault::NoCore),
-            Err(NoCore::Memory) => Err(CheckFault::Memory),
-        },
+        None => made_of(alloc, source, &overview),
         Some(refusal) => Err(CheckFault::Refused(refusal)),
     }
 }
 
 /// The program of an accepted source: of the external declarations in order, with what is known of functions besides.
 ///
-/// It is refused exactly where a rule is broken, but for want of memory, and where the core isn't made.
+/// It is refused exactly where a rule is broken, but for want of memory.
 pub fn accept(
     alloc: Global,
     externals: Items<Shared<External>>,

@@ -8,9 +8,6 @@ use std::alloc::AllocError;
 pub enum CheckFault {
     /// The source isn't accepted.
     Refused(Refusal),
-    /// No rule is broken, and the translation into the core gave up. No clause says that this doesn't happen, and no
-    /// source is known with which it does.
-    NoCore,
     /// There is no memory.
     Memory,
 }

@@ -1,5 +1,5 @@
-//! What calls break by the rule that they follow: calls of log functions, identity functions, functions with a body, and
-//! functions that fill a buffer. The types are those of the arguments as they are converted.
+//! What calls break by the rule that they follow: calls of log functions, identity functions, functions with a body,
+//! and functions that fill a buffer. The types are those of the arguments as they are converted.
 
 ghost use Rattle.std.specs.Prelude.{◌≡◌, suc, drop, None, IfOk, slice_get, unwrap_or};
 ghost use Rattle.std.specs.Option.{option_copied};
@@ -81,8 +81,8 @@ pub fn identity_call(at: u32, types: &[Option<CType>], index: u32) -> Option<Bre
     mismatch_if(!is_scalar_at(types, index), at)
 }
 
-/// What a call of a function with a body of so many parameters breaks: it has as many arguments, whatever the declaration
-/// in force says (C99 6.5.2.2p6).
+/// What a call of a function with a body of so many parameters breaks: it has as many arguments, whatever the
+/// declaration in force says (C99 6.5.2.2p6).
 pub fn body_call(at: u32, types: &[Option<CType>], parameters: usize) -> Option<Breach>
     ensures { result ≡ least_of (spec.body_breaches at types.now parameters) }
 {
@@ -192,8 +192,8 @@ fn behind(types: &[Option<CType>], index: u32) -> &[Option<CType>]
     }
 }
 
-/// What a call of a log function breaks, by the texts of those arguments that are string literals: its format is one, and
-/// is read, and has an argument of its kind for each that it takes. It fails for want of memory alone.
+/// What a call of a log function breaks, by the texts of those arguments that are string literals: its format is one,
+/// and is read, and has an argument of its kind for each that it takes. It fails for want of memory alone.
 pub fn log_call(
     alloc: Global,
     at: u32,

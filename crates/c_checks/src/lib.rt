@@ -1,5 +1,5 @@
-//! The rules of statements and programs (C99 6.8, 6.9), over what their parts say: exactly those of `c_means`, and which of
-//! several broken ones is the refusal.
+//! The rules of statements and programs (C99 6.8, 6.9), over what their parts say: exactly those of `c_means`, and
+//! which of several broken ones is the refusal.
 #![tactic(auto)]
 
 mod calls;

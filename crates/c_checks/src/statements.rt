@@ -59,8 +59,8 @@ fn condition_fault(at: u32, shown: &Option<Shown>) -> Option<Breach>
     }
 }
 
-/// What a condition breaks, which is a scalar (C99 6.8.4.1p1, 6.8.5p2), by the offset of its statement's keyword. It fails
-/// for want of memory alone.
+/// What a condition breaks, which is a scalar (C99 6.8.4.1p1, 6.8.5p2), by the offset of its statement's keyword. It
+/// fails for want of memory alone.
 #[tactic(auto, using(crate::proofs::Least::of_faults))]
 pub fn condition(
     alloc: Global,
@@ -77,7 +77,8 @@ pub fn condition(
 
 // ---- `switch`
 
-/// What is said of the value of a `switch`: the refusal of what it breaks, and the type in which the cases are compared.
+/// What is said of the value of a `switch`: the refusal of what it breaks, and the type in which the cases are
+/// compared.
 #[derive(Drop)]
 pub struct SwitchSaid {
     pub breach: Option<Breach>,
@@ -105,7 +106,8 @@ fn compared_in(shown: &Option<Shown>) -> IntegerKind
     }
 }
 
-/// What the value of a `switch` says (C99 6.8.4.2p1, p5), by the offset of the keyword. It fails for want of memory alone.
+/// What the value of a `switch` says (C99 6.8.4.2p1, p5), by the offset of the keyword. It fails for want of memory
+/// alone.
 #[tactic(auto, using(crate::proofs::Least::of_both))]
 pub fn switch_value(
     alloc: Global,
@@ -213,8 +215,8 @@ fn return_fault(at: u32, to: &Option<CType>, shown: &Option<Shown>) -> Option<Br
     }
 }
 
-/// What `return` with an expression breaks (C99 6.8.6.4p1, p3), in a function that returns this type. It fails for want of
-/// memory alone.
+/// What `return` with an expression breaks (C99 6.8.6.4p1, p3), in a function that returns this type. It fails for
+/// want of memory alone.
 #[tactic(auto, using(crate::proofs::Least::of_both))]
 pub fn return_value(
     alloc: Global,

@@ -57,7 +57,7 @@ found_in [] s at name m is =
 found_in (b ∷ bs) s at name m is =
     ap (λ (e : Option Entry). or_else e (entry_over s.file bs name)) (entry_found b at name m)
 
-declared_found : (at : ℕ) (name : Name) (m : Means) (s : Scope) →
+pub declared_found : (at : ℕ) (name : Name) (m : Means) (s : Scope) →
     look_up (declared at name m s) name ≡ Some (entry at name m)
 declared_found at name m s = found_in s.blocks s at name m refl
 

@@ -1,5 +1,5 @@
-//! Calls and returns (C99 6.5.2.2, 6.8.6.4): a function begins with nothing printed, noted or met, and its caller goes on
-//! with what it did behind its own.
+//! Calls and returns (C99 6.5.2.2, 6.8.6.4): a function begins with nothing printed, noted or met, and its caller goes
+//! on with what it did behind its own.
 ghost use Rattle.std.specs.Prelude.{◌≡◌, ◌++◌, ℕ, IfOk};
 ghost use Rattle.c_store.specs.Store.{Store};
 ghost use Rattle.c_means.specs.Expressions.{needed};
@@ -41,8 +41,8 @@ impl Machine {
         }
     }
 
-    /// Goes on with the caller, behind a function that came back or ended the run: the value that it gave, where it gave
-    /// one. It fails for want of memory alone.
+    /// Goes on with the caller, behind a function that came back or ended the run: the value that it gave, where it
+    /// gave one. It fails for want of memory alone.
     pub fn resume(&mut self, caller: Caller) -> Result<Option<i128>, Halt>
         ensures world { self.new.world ≡ self.old.world }
         ensures runs { (s : Store) (n : ℕ) → Runs result (state self.new) (returned (state_in caller s n) (state self.old)) }

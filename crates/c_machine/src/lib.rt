@@ -1,5 +1,5 @@
-//! The machine that runs expressions of C: a state of the definition, kept as data, with one call for each operation that
-//! the definition names.
+//! The machine that runs expressions of C: a state of the definition, kept as data, with one call for each operation
+//! that the definition names.
 #![tactic(auto, unfolding(crate::specs::States::state))]
 
 mod calls;

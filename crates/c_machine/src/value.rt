@@ -159,8 +159,8 @@ impl Value {
         self.scalar() == 0
     }
 
-    /// The value of a type that stands in the bytes of this one, from an offset on (C99 6.5.2.3p3). It fails for want of
-    /// memory alone.
+    /// The value of a type that stands in the bytes of this one, from an offset on (C99 6.5.2.3p3). It fails for want
+    /// of memory alone.
     pub fn part(
         &self,
         alloc: Global,

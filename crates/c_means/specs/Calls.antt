@@ -257,13 +257,13 @@ abbrev pub automatic_in : List Block → List Entry
 automatic_in [] = []
 automatic_in (b ∷ bs) = automatic_of b.entries (automatic_in bs)
 
+-- the number that an object of this kind holds; of what is no integer nothing is seen
+abbrev pub seen_in : Option IntegerKind → Store → ℕ → ℤ
+seen_in None s a = pos 0
+seen_in (Some kind) s a = value_at (class.Integer kind) (integers.bytes_of kind) s a
+
 abbrev pub seen_as : Level → Env → Store → ℕ → Means → ℤ
-seen_as l env s at (means.Object t d linkage) =
-    value_at (class_in (Some t)) (integer_bytes (kind_of t)) s (start (object_number d at l env))
-  where
-    integer_bytes : Option IntegerKind → ℕ
-    integer_bytes None = 0
-    integer_bytes (Some kind) = integers.bytes_of kind
+seen_as l env s at (means.Object t d linkage) = seen_in (kind_of t) s (start (object_number d at l env))
 seen_as l env s at (means.Function t linkage) = pos 0
 seen_as l env s at (means.Typedef t) = pos 0
 seen_as l env s at (means.Constant z) = pos 0

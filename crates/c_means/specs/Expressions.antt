@@ -1,6 +1,6 @@
 -- What an expression does (C99 6.5): one function a form, over what its parts do, from left to right.
-use Rattle.std.specs.Prelude.{ℕ, suc, ◌+◌, ◌%◌, ◌^◌, ℤ, pos, Bool, true, false, cond, not, List, [], ◌∷◌, ◌++◌, Option}
-use Rattle.std.specs.Prelude.{Some, None, Ok, Err, slice_get, unwrap_or, unsigned_abs}
+use Rattle.std.specs.Prelude.{ℕ, suc, ◌+◌, ◌%◌, ◌^◌, ℤ, pos, Bool, true, false, cond, not, ◌&&◌, List, [], ◌∷◌, ◌++◌}
+use Rattle.std.specs.Prelude.{Option, Some, None, Ok, Err, slice_get, unwrap_or, unsigned_abs}
 use Rattle.plain_data.specs.declared.run.Undefined.TheVariants.{MissingValue}
 use Rattle.plain_data.specs.declared.run.Side.TheVariants as side
 use Rattle.plain_data.specs.declared.run.Happening.TheVariants as happening
@@ -38,8 +38,8 @@ use Rattle.c_language.specs.declared.scope.Fault.{Fault}
 use Rattle.c_means.specs.Parts.{State, Outcome, Env, Run, Level, Site, Part, ◌>>=◌, note, stop, refused, returned}
 use Rattle.c_means.specs.Values.{address, class_in, bytes_of, bytes_within, converted_to, value_of_bytes}
 use Rattle.c_means.specs.Objects.{load, put}
-use Rattle.c_means.specs.Operators.{Operand, operand, one, value_type, target_in, operated, operated_on, turned_value}
-use Rattle.c_means.specs.Operators.{negated}
+use Rattle.c_means.specs.Operators.{Operand, operand, one, kind_in, value_type, target_in, operated, operated_on}
+use Rattle.c_means.specs.Operators.{turned_value, negated, is_scalar_class, works_on}
 
 -- ---- kinds of parts
 
@@ -68,9 +68,11 @@ over_three c x y = record {
 abbrev pub no_text : Level → Option (List ℕ)
 no_text l = None
 
--- what is no lvalue has no address
-abbrev pub nowhere : Level → Run ℕ
-nowhere l env base d = Ok (0, d)
+-- what is no lvalue has no address: it is evaluated, and 0 stands for one
+abbrev pub nowhere : (Level → Run ℤ) → Level → Run ℕ
+nowhere run l env base d = do
+  v ← run l env base d
+  Ok (0, v.1)
 
 -- a value, whose use makes no difference to what is done
 abbrev pub valued : Typed → Needs → (Level → Run ℤ) → Part
@@ -81,7 +83,7 @@ valued x needs run = record {
   text = no_text;
   size = needs.size;
   room = needs.room;
-  reach = nowhere;
+  reach = nowhere run;
   run = run;
   effect = run;
 }
@@ -231,15 +233,28 @@ arrow at name p = placed (says.arrow at name p.typed) false (over_one p)
       v ← p.run l env base d
       Ok (behind (offset_of p.typed.after.tables (target_in (value_type p.typed)) name) (address v.0), v.1))
 
+-- ---- objects that are read and written again
+
+-- an integer or a pointer, on which the operator has a meaning beside an operand of this kind
+abbrev pub is_updated : BinaryOperator → Typed → Option IntegerKind → Bool
+is_updated op x kind = is_scalar_class (class_in (type_of x)) && works_on op (kind_in (type_of x)) kind
+
 -- ---- `++` and `--` (C99 6.5.2.4, 6.5.3.1): the value before, and the value that is stored
 
-abbrev pub stepped : ℕ → BinaryOperator → Part → Level → Run (ℤ × ℤ)
-stepped at op x l env base d = do
+-- what can't be updated breaks a rule, and is left as it is
+abbrev pub steps_if : Bool → ℕ → BinaryOperator → Part → Level → Run (ℤ × ℤ)
+steps_if true at op x l env base d = do
   a ← x.reach l env base d
   v ← load x.typed x.rooted a.0 a.1
   w ← operated at op (operand x.typed.after.tables x.typed v.0) one v.1
   z ← put at x.typed.after.tables x.typed x.rooted a.0 w.0 w.1
   Ok ((v.0, z.0), z.1)
+steps_if false at op x l env base d = do
+  a ← x.reach l env base d
+  Ok ((pos 0, pos 0), a.1)
+
+abbrev pub stepped : ℕ → BinaryOperator → Part → Level → Run (ℤ × ℤ)
+stepped at op x = steps_if (is_updated op x.typed one.kind) at op x
 
 abbrev pub postfix_by : ℕ → BinaryOperator → Part → Part
 postfix_by at op x = valued (says.postfix at x.typed) (over_one x)
@@ -391,14 +406,22 @@ simple at x y l env base d = do
   w ← y.run l env (base + x.room l) a.1
   put at y.typed.after.tables x.typed x.rooted a.0 w.0 w.1
 
--- C99 6.5.16.2p3: the target is evaluated once, and its value is taken before the right operand is evaluated
-abbrev pub compound : ℕ → BinaryOperator → Part → Part → Level → Run ℤ
-compound at op x y l env base d = do
+-- C99 6.5.16.2p3: the target is evaluated once, and its value is taken before the right operand is evaluated; what
+-- can't be updated breaks a rule, and is left as it is
+abbrev pub compound_if : Bool → ℕ → BinaryOperator → Part → Part → Level → Run ℤ
+compound_if true at op x y l env base d = do
   a ← x.reach l env base d
   v ← load x.typed x.rooted a.0 a.1
   w ← y.run l env (base + x.room l) v.1
   z ← operated_on at op x.typed y.typed v.0 w.0 w.1
   put at y.typed.after.tables x.typed x.rooted a.0 z.0 z.1
+compound_if false at op x y l env base d = do
+  a ← x.reach l env base d
+  w ← y.run l env (base + x.room l) a.1
+  refused w.1
+
+abbrev pub compound : ℕ → BinaryOperator → Part → Part → Level → Run ℤ
+compound at op x y = compound_if (is_updated op x.typed (kind_in (value_type y.typed))) at op x y
 
 abbrev pub assigned : ℕ → Option BinaryOperator → Part → Part → Level → Run ℤ
 assigned at None x y = simple at x y
@@ -503,6 +526,11 @@ abbrev pub text_at : Option ℕ → List (Option (List ℕ)) → Option (List �
 text_at None texts = None
 text_at (Some i) texts = unwrap_or (slice_get texts i) None
 
+abbrev pub answered : ℕ → Typed → (Level → Site) → List Passed → Level → Run ℤ
+answered at x g qs l env base d = do
+  v ← calling g qs l env base d
+  needed at (class_in (type_of x)) v.0 v.1
+
 abbrev pub direct_call : ℕ → Typed → (Level → Site) → List Passed → Part
 direct_call at x g qs = record {
   typed = x;
@@ -511,10 +539,8 @@ direct_call at x g qs = record {
   text = λ l. text_at (l.identity (g l).callee.name) (g l).texts;
   size = λ l. suc (all_sizes qs l + l.size (g l));
   room = λ l. all_rooms qs l + l.room (g l);
-  reach = nowhere;
-  run = λ l env base d. do
-    v ← calling g qs l env base d
-    needed at (class_in (type_of x)) v.0 v.1;
+  reach = nowhere (answered at x g qs);
+  run = answered at x g qs;
   effect = λ l env base d. do
     v ← calling g qs l env base d
     Ok (unwrap_or v.0 (pos 0), v.1);

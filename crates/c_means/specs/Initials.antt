@@ -18,7 +18,7 @@ use Rattle.c_language.specs.Initials.{list_says, item_says, filling_of, is_text_
 use Rattle.c_language.specs.Declarations.{InitialSays}
 use Rattle.c_language.specs.Units.{initialises}
 use Rattle.c_means.specs.Parts.{Level, Site}
-use Rattle.c_means.specs.Values.{bytes_of, converted_to, bytes_of_value}
+use Rattle.c_means.specs.Values.{class_in, bytes_of, converted_to, bytes_of_value}
 use Rattle.c_means.specs.declared.breach.Breach.{Breach}
 use Rattle.c_means.specs.declared.breach.BrokenRule.TheVariants as broken
 use Rattle.c_means.specs.Notes.{Noted, ExprNoted, noted, typed_as, is_static_value}
@@ -98,11 +98,15 @@ text_byte (b ∷ bytes) (suc i) = text_byte bytes i
 abbrev pub lays_text : ℕ → ℕ → List ℕ → Arrow
 lays_text a n bytes d = record d { store = lay a n (text_byte bytes) d.store }
 
--- a value, converted to the type of the part (C99 6.7.8p11, p13)
-abbrev pub stores : Tables → CType → ℕ → ℤ → Arrow
-stores tables t a z d = record d {
-  store = write (bytes_of tables (Some t)) a (bytes_of_value (class_of t) (converted_to (class_of t) z)) d.store;
+-- a value, converted to a type, as it is stored; where there is none, nothing is
+abbrev pub stores_as : Tables → Option CType → ℕ → ℤ → Arrow
+stores_as tables t a z d = record d {
+  store = write (bytes_of tables t) a (bytes_of_value (class_in t) (converted_to (class_in t) z)) d.store;
 }
+
+-- to the type of the part (C99 6.7.8p11, p13)
+abbrev pub stores : Tables → CType → ℕ → ℤ → Arrow
+stores tables t a z d = stores_as tables (Some t) a z d
 
 -- an array of unknown length takes the zero behind the literal too (C99 6.7.8p14, p22)
 abbrev pub text_room : Tables → CType → List ℕ → ℕ
@@ -123,12 +127,19 @@ evaluated [] s = []
 evaluated (Evaluates e ∷ es) s = let x = e s in x ∷ evaluated es x.part.typed.after
 evaluated (Indexes e ∷ es) s = evaluated es (e s).part.typed.after
 
+-- a literal that sets a whole array is one node, and takes no place
+abbrev pub set_size : Part → Noted → Level → ℕ
+set_size p x l = cond (is_text_of p.type x.part.typed) 1 (x.part.size l)
+
+abbrev pub set_room : Part → Noted → Level → ℕ
+set_room p x l = cond (is_text_of p.type x.part.typed) 0 (x.part.room l)
+
 -- in order, into their parts
 abbrev pub sets_all : List Part → List Noted → ℕ → Acts
 sets_all [] xs a l env base d = d
 sets_all (p ∷ ps) [] a l env base d = d
 sets_all (p ∷ ps) (x ∷ xs) a l env base d =
-    running (sets_all ps xs a l env (base + x.part.room l)) (sets p x a l env base d)
+    running (sets_all ps xs a l env (base + set_room p x l)) (sets p x a l env base d)
 
 -- ---- an initializer, as the object's declaration has it
 
@@ -152,13 +163,16 @@ abbrev pub all_called : List Noted → List Name
 all_called [] = []
 all_called (x ∷ xs) = x.notes.called ++ all_called xs
 
-abbrev pub all_sizes : List Noted → Level → ℕ
-all_sizes [] l = 0
-all_sizes (x ∷ xs) l = x.part.size l + all_sizes xs l
+-- of each part with its expression: one that is too many breaks a rule, and isn't evaluated
+abbrev pub all_sizes : List Part → List Noted → Level → ℕ
+all_sizes [] xs l = 0
+all_sizes (p ∷ ps) [] l = 0
+all_sizes (p ∷ ps) (x ∷ xs) l = set_size p x l + all_sizes ps xs l
 
-abbrev pub all_rooms : List Noted → Level → ℕ
-all_rooms [] l = 0
-all_rooms (x ∷ xs) l = x.part.room l + all_rooms xs l
+abbrev pub all_rooms : List Part → List Noted → Level → ℕ
+all_rooms [] xs l = 0
+all_rooms (p ∷ ps) [] l = 0
+all_rooms (p ∷ ps) (x ∷ xs) l = set_room p x l + all_rooms ps xs l
 
 -- what has no type breaks a rule already
 abbrev pub not_static : Noted → List Breach
@@ -174,8 +188,8 @@ initial_of braced y xs = record {
   is_zeroed = braced;
   calls = all_calls xs;
   called = all_called xs;
-  size = all_sizes xs;
-  room = all_rooms xs;
+  size = all_sizes y.parts xs;
+  room = all_rooms y.parts xs;
   constant = all_not_static xs;
   run = λ a. sets_all y.parts xs a;
 }

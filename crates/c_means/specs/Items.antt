@@ -194,11 +194,13 @@ pub record Context : Type 0 where
   pub result : Option CType
 
 -- A statement: the labels that it gives to the block that it is in, those of the block that it is where it stands as
--- one, and all in it; what it is worth as an item of a block; and what stands in the block that it is.
+-- one, and all in it; whether it stands in braces; what it is worth as an item of a block; and what stands in the block
+-- that it is.
 pub record Code : Type 0 where
   pub labels : List Label
   pub own : List Label
   pub every : List Label
+  pub is_block : Bool
   pub here : Context → Item
   pub content : Context → Item
 

@@ -1,10 +1,12 @@
 -- Operators on values (C99 6.5.3.3, 6.5.5 to 6.5.12): the value, or the undefined kind that is met, at the operator's
 -- token.
-use Rattle.std.specs.Prelude.{ℕ, ℤ, pos, neg_ℤ, nat_eq, nat_le, nat_lt, Bool, true, false, cond, not, Option, Some}
-use Rattle.std.specs.Prelude.{None, Ok}
+use Rattle.std.specs.Prelude.{ℕ, ℤ, pos, neg_ℤ, nat_eq, nat_le, nat_lt, Bool, true, false, cond, not, ◌||◌, Option}
+use Rattle.std.specs.Prelude.{Some, None, Ok}
 use Rattle.c_language.specs.declared.expr.BinaryOperator.{BinaryOperator}
 use Rattle.c_language.specs.declared.expr.BinaryOperator.TheVariants as o
 use Rattle.c_language.specs.declared.expr.UnaryOperator.{UnaryOperator}
+use Rattle.c_language.specs.declared.class.Class.{Class}
+use Rattle.c_language.specs.declared.class.Class.TheVariants as class
 use Rattle.c_language.specs.declared.ctype.CType.{CType}
 use Rattle.c_language.specs.declared.ctype.IntegerKind.{IntegerKind}
 use Rattle.c_language.specs.declared.ctype.IntegerKind.TheVariants as k
@@ -120,6 +122,42 @@ operated at o.BitXor x y d = arithmetic at o.BitXor x y d
 operated at o.BitOr x y d = arithmetic at o.BitOr x y d
 operated at o.LogicalAnd x y d = refused d
 operated at o.LogicalOr x y d = refused d
+
+-- ---- whether an operator has a meaning on operands of these kinds; what is no integer is taken as a pointer
+
+abbrev pub compares : BinaryOperator → Bool
+compares o.Less = true
+compares o.Greater = true
+compares o.LessEqual = true
+compares o.GreaterEqual = true
+compares o.Equal = true
+compares o.NotEqual = true
+compares _ = false
+
+abbrev pub adds : BinaryOperator → Bool
+adds o.Add = true
+adds _ = false
+
+abbrev pub subtracts : BinaryOperator → Bool
+subtracts o.Subtract = true
+subtracts _ = false
+
+abbrev pub evaluates_both : BinaryOperator → Bool
+evaluates_both o.LogicalAnd = false
+evaluates_both o.LogicalOr = false
+evaluates_both _ = true
+
+abbrev pub works_on : BinaryOperator → Option IntegerKind → Option IntegerKind → Bool
+works_on op (Some a) (Some b) = evaluates_both op
+works_on op None (Some b) = adds op || subtracts op || compares op
+works_on op (Some a) None = adds op || compares op
+works_on op None None = subtracts op || compares op
+
+-- an integer or a pointer
+abbrev pub is_scalar_class : Class → Bool
+is_scalar_class (class.Integer kind) = true
+is_scalar_class class.Pointer = true
+is_scalar_class _ = false
 
 -- on the values of two expressions, of which the second stands behind the first
 abbrev pub operated_on : ℕ → BinaryOperator → Typed → Typed → ℤ → ℤ → State → Outcome ℤ

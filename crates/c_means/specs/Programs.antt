@@ -1,6 +1,6 @@
 -- Programs: their external declarations in order, the functions that are reached, and the declarations that are
 -- needed (C99 6.9).
-use Rattle.std.specs.Prelude.{ℕ, zero, suc, ◌+◌, ◌*◌, Bool, false, cond, ◌||◌, nat_eq, List, [], ◌∷◌, ◌++◌, length}
+use Rattle.std.specs.Prelude.{ℕ, zero, suc, ◌+◌, ◌*◌, Bool, true, false, cond, ◌||◌, nat_eq, List, [], ◌∷◌, ◌++◌, length}
 use Rattle.std.specs.Prelude.{map, Option, Some, None, is_some, unwrap_or}
 use Rattle.std.specs.Str.{bytes_eq}
 use Rattle.c_language.specs.declared.unit.Body.{Body}
@@ -18,7 +18,7 @@ use Rattle.c_language.specs.Scopes.{Name, Scope, empty, entry_in, leave}
 use Rattle.c_language.specs.Declarations.{FunctionSaid, function_by}
 use Rattle.c_means.specs.declared.profile.Profile.{Profile}
 use Rattle.c_means.specs.Notes.{declarator_noted, specifier_noted}
-use Rattle.c_means.specs.Items.{Item, Code, Context, Lasting, typing, nothing}
+use Rattle.c_means.specs.Items.{Item, Code, Context, Lasting, typing, nothing, node}
 use Rattle.c_means.specs.Statements.{stmt, declaration}
 use Rattle.c_means.specs.Names.{Names, Word, Binding, Literal, same_word, ordinary, none, with_name, settled, ◌then◌}
 use Rattle.c_means.specs.Names.{external_names, specifier_of, declarator_names, all_of}
@@ -53,8 +53,9 @@ body_context f x = record {
   result = f.returned;
 }
 
+-- a body that couldn't be read does nothing
 abbrev pub body_item : FunctionSaid → Option Code → Item
-body_item f None = nothing f.inside
+body_item f None = node (nothing f.inside)
 body_item f (Some x) = x.content (body_context f x)
 
 -- ---- external declarations
@@ -100,8 +101,18 @@ function_outer f unread b head whole s = record {
 abbrev pub with_function : FunctionSaid → Option ℕ → Option Code → Names → Names → Scope → Outer
 with_function f unread x head whole s = function_outer f unread (body_item f x) head whole s
 
+-- a body is a node, as its braces are
+abbrev pub braces : Bool → ℕ
+braces true = 0
+braces false = 1
+
+abbrev pub braced : Code → Code
+braced x = record x {
+  content = λ c. let i = x.content c in record i { size = λ l. braces x.is_block + i.size l };
+}
+
 abbrev pub code_in : Body → Option Code
-code_in (body.Read block) = Some (stmt block)
+code_in (body.Read block) = Some (braced (stmt block))
 code_in (body.Unread at) = None
 
 abbrev pub unread_in : Body → Option ℕ

@@ -23,7 +23,7 @@ use Rattle.c_means.specs.Parts.{State, World, Limits, Level, Site, Calls, entere
 use Rattle.c_means.specs.Values.{bytes_of}
 use Rattle.c_means.specs.declared.profile.Profile.{Profile}
 use Rattle.c_means.specs.Items.{Arrow, Made, Lasting, born, dead, known, running, lived}
-use Rattle.c_means.specs.Initials.{stores, text_byte}
+use Rattle.c_means.specs.Initials.{stores_as, text_byte}
 use Rattle.c_means.specs.Statements.{no_env}
 use Rattle.c_means.specs.Names.{Literal}
 use Rattle.c_means.specs.Rules.{Taking, Rules, LogCall, IdentityCall, BodyCall, LibraryCall, PreludeCall, OutsideCall}
@@ -102,11 +102,7 @@ frame s base [] = []
 frame s base (e ∷ es) = record { at = e.at; place = base; size = parameter_size s e } ∷ frame s (suc base) es
 
 abbrev pub passes_as : Tables → Means → ℕ → ℤ → Arrow
-passes_as tables (means.Object t dur l) a v d = stores tables t a v d
-passes_as tables (means.Function t l) a v d = d
-passes_as tables (means.Typedef t) a v d = d
-passes_as tables (means.Constant z) a v d = d
-passes_as tables means.Faulty a v d = d
+passes_as tables means a v d = stores_as tables (object_type means) a v d
 
 -- each argument is converted to the type of its parameter
 abbrev pub passes : Tables → ℕ → List Entry → List ℤ → Arrow
@@ -153,7 +149,7 @@ rule_of m g =
 
 -- ---- levels
 
--- what runs where no call does: before `main`, and in the calls by rule
+-- what runs where no call does: before `main`, and in the calls by rule; a call there is one level too many
 abbrev pub bare : Machine → ℕ → Level
 bare m turns = record {
   world = m.world;
@@ -163,7 +159,7 @@ bare m turns = record {
   identity = identity_index m.profile;
   size = λ g. 0;
   room = λ g. 0;
-  call = λ g env vs base s count. entered s count;
+  call = λ g env vs base s count. finished (finish.Left g.at) (entered s count);
 }
 
 -- the levels of the functions that a function calls; none where its own was the last

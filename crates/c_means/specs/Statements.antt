@@ -181,7 +181,7 @@ declaration x s = declares_by (map specifier_noted x.specifiers) (map declaring 
 
 -- a form that gives its block no label
 abbrev pub code : (Context → Item) → List Label → Code
-code here every = record { labels = []; own = []; every = every; here = here; content = here }
+code here every = record { labels = []; own = []; every = every; is_block = false; here = here; content = here }
 
 -- ---- compound statements (C99 6.8.2): the objects of a block live from its entry to its end
 
@@ -190,6 +190,7 @@ compound items = record {
   labels = [];
   own = labels_of items;
   every = every_of items;
+  is_block = true;
   here = λ c. without_cases (guarded (closed (content items (opened (labels_of items) (unchosen c)))));
   content = content items;
 }
@@ -214,6 +215,7 @@ labeled at name body = record {
   labels = label ∷ body.labels;
   own = label ∷ body.labels;
   every = label ∷ body.every;
+  is_block = false;
   here = here;
   content = here;
 }
@@ -244,22 +246,24 @@ case_breaches at x c =
 abbrev pub chosen_by : ℕ → Option ℤ → Item → Item
 chosen_by at value x = record x { cases = record { at = at; value = value } ∷ x.cases }
 
--- a case without value breaks a rule, and is no `default`
-abbrev pub case_of : ℕ → Option ℤ → Item → Item
-case_of at None x = x
-case_of at (Some z) x = chosen_by at (Some z) (arrived (at_case (Some z)) x)
+-- a case without value breaks a rule, and is no `default`: it is the statement behind it
+abbrev pub case_of : ℕ → Noted → Option ℤ → Item → Item
+case_of at x None y = y
+case_of at x (Some z) y =
+    record (chosen_by at (Some z) (arrived (at_case (Some z)) y)) { size = λ l. 1 + (x.part.size l + y.size l) }
 
 abbrev pub case_item : ℕ → Noted → Code → Context → Item
 case_item at x body c =
     let i = with_breaches (case_breaches at x c)
-    (case_of at (case_value c.chooses (constant_of x.part.typed)) (body.here (in_scope x.part.typed.after c))) in
-    record i { calls = x.notes.calls ++ i.calls; size = λ l. 1 + (x.part.size l + i.size l) }
+    (case_of at x (case_value c.chooses (constant_of x.part.typed)) (body.here (in_scope x.part.typed.after c))) in
+    record i { calls = x.notes.calls ++ i.calls }
 
 abbrev pub with_here : Code → (Context → Item) → Code
 with_here body here = record {
   labels = body.labels;
   own = body.labels;
   every = body.every;
+  is_block = false;
   here = here;
   content = here;
 }

@@ -17,10 +17,11 @@ abbrev pub class_in : Option CType → Class
 class_in None = class.Void
 class_in (Some t) = class_of t
 
--- integers and pointers have their sizes whatever the tables say; what has no size has no bytes
+-- integers and pointers have their sizes whatever the tables say; what has no size has no bytes, nor has void
 abbrev pub bytes_as : Class → Option ℕ → ℕ
 bytes_as (class.Integer kind) size = bytes_of_kind kind
 bytes_as class.Pointer size = pointer_bytes
+bytes_as class.Void size = 0
 bytes_as c size = unwrap_or size 0
 
 -- the bytes of an object of a type

@@ -19,9 +19,9 @@ pub struct NameAt {
     pub name: Name,
 }
 
-/// The names that a tree uses and declares, the declarations that bind uses inside it, and its string literals; the tags
-/// without a list, which declare themselves where nothing else is declared (C99 6.7.2.3p7); and of a declarator its name,
-/// whether it derives a type, and what the parameters next to its name declare.
+/// The names that a tree uses and declares, the declarations that bind uses inside it, and its string literals; the
+/// tags without a list, which declare themselves where nothing else is declared (C99 6.7.2.3p7); and of a declarator
+/// its name, whether it derives a type, and what the parameters next to its name declare.
 #[derive(Drop)]
 pub struct Found {
     pub uses: Stack<Word>,

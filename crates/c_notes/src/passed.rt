@@ -83,8 +83,8 @@ fn passed_as(
     Ok(passed)
 }
 
-/// The types of arguments as they are converted, from their promoted types: to those of the parameters of what is called,
-/// as far as there are. It fails for want of memory alone.
+/// The types of arguments as they are converted, from their promoted types: to those of the parameters of what is
+/// called, as far as there are. It fails for want of memory alone.
 pub(crate) fn passed_types(
     alloc: Global,
     tables: &Tables,

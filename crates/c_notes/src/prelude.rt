@@ -25,8 +25,8 @@ fn count_if(
 }
 
 /// How many parameters the function of this name has that has a body here, where it is declared with its type: one of
-/// `strlen`, `strcmp`, `strncmp`, `strchr`, `strcpy`, `strcat`, `memset`, `memcpy` and `atoi`, every pointer taken as one
-/// to void. It fails for want of memory alone.
+/// `strlen`, `strcmp`, `strncmp`, `strchr`, `strcpy`, `strcat`, `memset`, `memcpy` and `atoi`, every pointer taken as
+/// one to void. It fails for want of memory alone.
 pub fn prelude_parameters(
     alloc: Global,
     tables: &Tables,

@@ -1,6 +1,6 @@
 -- An initializer meets no place but those of its room.
 use Rattle.std.proofs.Common.{◌≤◌, ℕ, ◌+◌, Bool, true, false, cond, List, [], ◌∷◌, ◌++◌, Option, Some, None}
-use Rattle.std.proofs.Common.{sym, subst, arith, le_refl}
+use Rattle.std.proofs.Common.{sym, ap, subst, arith, le_refl}
 use Rattle.std.specs.Prelude.{map, unwrap_or}
 use Rattle.c_language.specs.declared.unit.Initializer.{Initializer}
 use Rattle.c_language.specs.declared.unit.InitializerItem.{InitializerItem}
@@ -20,7 +20,7 @@ use Rattle.c_means.specs.Notes.{noted}
 use Rattle.std.proofs.Common.{◌≡◌, refl}
 use Rattle.c_places.proofs.Parts.{Calling, Keeps}
 use Rattle.c_language.specs.declared.expr.Expr.{Expr}
-use Rattle.c_means.specs.Initials.{all_sizes}
+use Rattle.c_means.specs.Initials.{all_sizes, set_size, set_room}
 use Rattle.c_places.proofs.Expressions.{noted_keeps}
 use Rattle.c_places.proofs.Blind.{still, Blind, noted_blind}
 use Rattle.c_places.proofs.Items.{runs, with_value_adds}
@@ -98,14 +98,14 @@ pub record InitialKeeps (x : Initial) : Type 0 where
 
 sets_keep : (w : ℕ → ℕ) (p : ℕ) (l : Level) → Calling w p l → (q : Part) (x : Noted) → NotedKeeps x →
     (a : ℕ) (env : Env) (base : ℕ) (d : State) →
-    met p (sets q x a l env base d) + w base ≤ met p d + w (base + x.part.room l)
+    met p (sets q x a l env base d) + w base ≤ met p d + w (base + set_room q x l)
 sets_keep w p l c q x h a env base d = by_text (is_text_of q.type x.part.typed)
   where
     by_text : (b : Bool) → met p (cond b
         (sets_text x.part.typed.after.tables q a (unwrap_or (x.part.text l) []) d)
         (with_value (x.part.run l env base d) (stores x.part.typed.after.tables q.type (a + q.offset)))) + w base
-        ≤ met p d + w (base + x.part.room l)
-    by_text true = omega (arith, c.rises.more base (base + x.part.room l) (omega arith))
+        ≤ met p d + w (base + cond b 0 (x.part.room l))
+    by_text true = omega (arith, c.rises.more base (base + 0) (omega arith))
     by_text false =
         with_value_adds p (w base) (w (base + x.part.room l)) (w (base + x.part.room l)) (met p d)
         (x.part.run l env base d) (stores x.part.typed.after.tables q.type (a + q.offset))
@@ -113,28 +113,39 @@ sets_keep w p l c q x h a env base d = by_text (is_text_of q.type x.part.typed)
 
 sets_all_keep : (w : ℕ → ℕ) (p : ℕ) (l : Level) → Calling w p l → (qs : List Part) (xs : List Noted) → EachNoted xs →
     (a : ℕ) (env : Env) (base : ℕ) (d : State) →
-    met p (sets_all qs xs a l env base d) + w base ≤ met p d + w (base + all_rooms xs l)
-sets_all_keep w p l c [] xs h a env base d = omega (arith, c.rises.more base (base + all_rooms xs l) (omega arith))
+    met p (sets_all qs xs a l env base d) + w base ≤ met p d + w (base + all_rooms qs xs l)
+sets_all_keep w p l c [] xs h a env base d = omega (arith, c.rises.more base (base + 0) (omega arith))
 sets_all_keep w p l c (q ∷ qs) [] h a env base d = omega (arith, c.rises.more base (base + 0) (omega arith))
 sets_all_keep w p l c (q ∷ qs) (x ∷ xs) h a env base d =
-    let next = base + x.part.room l in
+    let next = base + set_room q x l in
+    let rest = all_rooms qs xs l in
     let d' = sets q x a l env base d in
-    let up = c.rises.more next (next + all_rooms xs l) (omega arith) in
+    let up = c.rises.more next (next + rest) (omega arith) in
     omega (
       arith,
       sets_keep w p l c q x h.0 a env base d,
-      runs p (w next) (w (next + all_rooms xs l)) (sets_all qs xs a l env next) d'
+      runs p (w next) (w (next + rest)) (sets_all qs xs a l env next) d'
           (sets_all_keep w p l c qs xs h.1 a env next d') up,
-      c.rises.more (next + all_rooms xs l) (base + (x.part.room l + all_rooms xs l)) (omega arith),
+      c.rises.more (next + rest) (base + (set_room q x l + rest)) (omega arith),
     )
 
-sizes_blind : (xs : List Noted) → EachNoted xs → (l : Level) → all_sizes xs l ≡ all_sizes xs (still l)
-sizes_blind [] h l = refl
-sizes_blind (x ∷ xs) h l = omega (arith, h.0.blind.size l, sizes_blind xs h.1 l)
+set_size_blind : (q : Part) (x : Noted) → NotedKeeps x → (l : Level) → set_size q x l ≡ set_size q x (still l)
+set_size_blind q x h l = ap (cond (is_text_of q.type x.part.typed) 1) (h.blind.size l)
 
-rooms_blind : (xs : List Noted) → EachNoted xs → (l : Level) → all_rooms xs l ≡ all_rooms xs (still l)
-rooms_blind [] h l = refl
-rooms_blind (x ∷ xs) h l = omega (arith, h.0.blind.room l, rooms_blind xs h.1 l)
+set_room_blind : (q : Part) (x : Noted) → NotedKeeps x → (l : Level) → set_room q x l ≡ set_room q x (still l)
+set_room_blind q x h l = ap (cond (is_text_of q.type x.part.typed) 0) (h.blind.room l)
+
+sizes_blind : (qs : List Part) (xs : List Noted) → EachNoted xs → (l : Level) →
+    all_sizes qs xs l ≡ all_sizes qs xs (still l)
+sizes_blind [] xs h l = refl
+sizes_blind (q ∷ qs) [] h l = refl
+sizes_blind (q ∷ qs) (x ∷ xs) h l = omega (arith, set_size_blind q x h.0 l, sizes_blind qs xs h.1 l)
+
+rooms_blind : (qs : List Part) (xs : List Noted) → EachNoted xs → (l : Level) →
+    all_rooms qs xs l ≡ all_rooms qs xs (still l)
+rooms_blind [] xs h l = refl
+rooms_blind (q ∷ qs) [] h l = refl
+rooms_blind (q ∷ qs) (x ∷ xs) h l = omega (arith, set_room_blind q x h.0 l, rooms_blind qs xs h.1 l)
 
 abbrev pub MaybeElements : Option Initially → Type 0
 MaybeElements None = Unit {0}
@@ -155,8 +166,8 @@ initial_keeps (Some x) None s h =
       acts = λ w p l c a env base d. omega (arith, c.rises.more base (base + 0) (omega arith));
     }
 initial_keeps (Some x) (Some t) s h = record {
-  size = sizes_blind (evaluated x.elements s) (evaluated_keep x.elements s h);
-  room = rooms_blind (evaluated x.elements s) (evaluated_keep x.elements s h);
+  size = sizes_blind _ (evaluated x.elements s) (evaluated_keep x.elements s h);
+  room = rooms_blind _ (evaluated x.elements s) (evaluated_keep x.elements s h);
   acts = λ w p l c a env base d.
       sets_all_keep w p l c _ (evaluated x.elements s) (evaluated_keep x.elements s h) a env base d;
 }

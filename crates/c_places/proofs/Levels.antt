@@ -6,8 +6,6 @@ use Rattle.std.specs.Str.{bytes_eq}
 use Rattle.c_language.specs.declared.tables.Tables.{Tables}
 use Rattle.c_store.specs.Store.{Store, start}
 use Rattle.c_language.specs.declared.scope.Entry.{Entry}
-use Rattle.c_language.specs.declared.scope.Means.{Means}
-use Rattle.c_language.specs.declared.scope.Means.TheVariants as means
 use Rattle.c_language.specs.Scopes.{Name, Scope}
 use Rattle.c_means.specs.Parts.{State, Env, Level, Site, entered}
 use Rattle.c_means.specs.Items.{born, known, lived}
@@ -59,21 +57,12 @@ frame_made w p c s base (e ∷ es) =
       c.rises.more (suc base + length es) (base + suc (length es)) (omega arith),
     )
 
-passed_met : (p : ℕ) (tables : Tables) (m : Means) (a : ℕ) (v : ℤ) (d : State) →
-    met p (passes_as tables m a v d) ≡ met p d
-passed_met p tables (means.Object t dur k) a v d = refl
-passed_met p tables (means.Function t k) a v d = refl
-passed_met p tables (means.Typedef t) a v d = refl
-passed_met p tables (means.Constant z) a v d = refl
-passed_met p tables means.Faulty a v d = refl
-
 passes_met : (p : ℕ) (tables : Tables) (base : ℕ) (es : List Entry) (vs : List ℤ) (d : State) →
     met p (passes tables base es vs d) ≡ met p d
 passes_met p tables base [] vs d = refl
 passes_met p tables base (e ∷ es) [] d = refl
 passes_met p tables base (e ∷ es) (v ∷ vs) d =
-    let d' = passes_as tables e.means (start base) v d in
-    omega (arith, passes_met p tables (suc base) es vs d', passed_met p tables e.means (start base) v d)
+    passes_met p tables (suc base) es vs (passes_as tables e.means (start base) v d)
 
 counts_of : (w : ℕ → ℕ) (p : ℕ) (l : Level) → Counting w p l → Counts w p
 counts_of w p l c = record { rises = c.calls.rises; step = c.step }

@@ -20,9 +20,10 @@ use Rattle.c_language.specs.declared.scope.Means.TheVariants as means
 use Rattle.c_language.specs.Scopes.{Name, Scope}
 use Rattle.c_language.specs.Typing.{Typed, NamedType, type_of}
 use Rattle.c_language.specs.Typing as says
-use Rattle.c_means.specs.Parts.{State, Outcome, Env, Run, Level, Site, Part, ◌>>=◌, note, returned, returned_in}
+use Rattle.c_means.specs.Parts.{State, Outcome, Env, Run, Level, Site, Part, ◌>>=◌, note, refused, returned}
+use Rattle.c_means.specs.Parts.{returned_in}
 use Rattle.c_means.specs.Operators.{Operand, operand, one, operated, operated_on, turned_value, negated, target_in}
-use Rattle.c_means.specs.Operators.{value_type}
+use Rattle.c_means.specs.Operators.{value_type, kind_in}
 use Rattle.c_means.specs.Objects.{load, put}
 use Rattle.c_means.specs.Values.{address, class_in, converted_to}
 use Rattle.c_language.specs.Integers.{is_zero, number_of}
@@ -31,9 +32,9 @@ use Rattle.c_means.specs.Expressions.{Needs, valued, placed, alone, over_one, ov
 use Rattle.c_means.specs.Expressions.{part_of_value, both_run, subscript, member, member_by}
 use Rattle.c_means.specs.Expressions.{offset_of, arrow, stepped, postfix, postfix_by, prefix, unary, size_of_expression}
 use Rattle.c_means.specs.Expressions.{size_of_type, cast, cast_as, cast_operand, on_branch, truth_of, and_then, or_else}
-use Rattle.c_means.specs.Expressions.{logical, both_evaluated, binary, chosen, choice_as, choice, simple, compound}
+use Rattle.c_means.specs.Expressions.{logical, both_evaluated, binary, chosen, choice_as, choice, simple}
 use Rattle.c_means.specs.Expressions.{assignment, comma, Passed, passed, all_rooms, arguments, calling, needed}
-use Rattle.c_means.specs.Expressions.{direct_call}
+use Rattle.c_means.specs.Expressions.{direct_call, answered, nowhere, is_updated, steps_if, compound_if}
 use Rattle.c_means.specs.Expressions.{call_of, call, constant, unmeant, made_for, string_literal, function_name}
 use Rattle.c_means.specs.Expressions.{identifier, named_as, object_of, site, designated, parameters_of}
 use Rattle.c_means.specs.declared.kind.Kind.{Kind}
@@ -95,9 +96,12 @@ module _ (w : ℕ → ℕ) (p : ℕ) (l : Level) (c : Calling w p l) where
 
   -- ---- kinds of parts
 
+  nowhere_within : (room : ℕ) (r : Level → Run ℤ) → Within w p room (r l) → Within w p room (nowhere r l)
+  nowhere_within room r h = behind room (r l) (λ env base v. Ok (0, v.1)) h (λ env base v i. quiet p i 0 v.1)
+
   pub value_keeps : (t : Typed) (n : Needs) (r : Level → Run ℤ) → Within w p (n.room l) (r l) → K (valued t n r)
   value_keeps t n r h = record {
-    reach = still {A = ℕ} (n.room l) (λ env base d. Ok (0, d)) (λ env base d i. record { holds = le_refl _ });
+    reach = nowhere_within (n.room l) r h;
     run = h;
     effect = h;
   }
@@ -202,8 +206,11 @@ module _ (w : ℕ → ℕ) (p : ℕ) (l : Level) (c : Calling w p l) where
       target v = Rattle.c_means.specs.Expressions.behind
           (offset_of x.typed.after.tables (target_in (value_type x.typed)) name) (address v)
 
-  steps : (at : ℕ) (op : BinaryOperator) (x : Part) → K x → Within w p (x.room l) (stepped at op x l)
-  steps at op x hx =
+  steps : (b : Bool) (at : ℕ) (op : BinaryOperator) (x : Part) → K x → Within w p (x.room l) (steps_if b at op x l)
+  steps false at op x hx =
+      behind (x.room l) (x.reach l) (λ env base a. Ok ((pos 0, pos 0), a.1)) hx.reach
+      (λ env base a i. quiet p i (pos 0, pos 0) a.1)
+  steps true at op x hx =
       behind (x.room l) (x.reach l) (λ env base a. stores a.0 a.1) hx.reach
       (λ env base a. quietly a.1 (load x.typed x.rooted a.0 a.1) (λ v. reckons a.0 v.0 v.1)
       (loads p x.typed x.rooted a.0 a.1)
@@ -227,7 +234,8 @@ module _ (w : ℕ → ℕ) (p : ℕ) (l : Level) (c : Calling w p l) where
   pub postfix_by_keeps : (at : ℕ) (op : BinaryOperator) (x : Part) → K x → K (postfix_by at op x)
   postfix_by_keeps at op x hx =
       value_keeps (says.postfix at x.typed) (over_one x) _
-      (behind (x.room l) (stepped at op x l) (λ env base v. Ok (v.0.0, v.1)) (steps at op x hx)
+      (behind (x.room l) (stepped at op x l) (λ env base v. Ok (v.0.0, v.1))
+      (steps (is_updated op x.typed one.kind) at op x hx)
       (λ env base v i. quiet p i v.0.0 v.1))
 
   pub postfix_keeps : (at : ℕ) (op : PostfixOperator) (x : Part) → K x → K (postfix at op x)
@@ -237,7 +245,8 @@ module _ (w : ℕ → ℕ) (p : ℕ) (l : Level) (c : Calling w p l) where
   pub prefix_keeps : (at : ℕ) (u : UnaryOperator) (op : BinaryOperator) (x : Part) → K x → K (prefix at u op x)
   prefix_keeps at u op x hx =
       value_keeps (says.unary at u x.typed) (over_one x) _
-      (behind (x.room l) (stepped at op x l) (λ env base v. Ok (v.0.1, v.1)) (steps at op x hx)
+      (behind (x.room l) (stepped at op x l) (λ env base v. Ok (v.0.1, v.1))
+      (steps (is_updated op x.typed one.kind) at op x hx)
       (λ env base v i. quiet p i v.0.1 v.1))
 
   pub on_value_keeps : (at : ℕ) (u : UnaryOperator) (f : Operand → State → Outcome ℤ) (x : Part) →
@@ -354,9 +363,14 @@ module _ (w : ℕ → ℕ) (p : ℕ) (l : Level) (c : Calling w p l) where
       (λ a. behind (y.room l) (y.run l) (λ env base v. put at y.typed.after.tables x.typed x.rooted a v.0 v.1) hy.run
       (λ env base v. puts p at y.typed.after.tables x.typed x.rooted a v.0 v.1))
 
-  compound_within : (at : ℕ) (op : BinaryOperator) (x y : Part) → K x → K y →
-      Within w p (x.room l + y.room l) (compound at op x y l)
-  compound_within at op x y hx hy =
+  compound_within : (b : Bool) (at : ℕ) (op : BinaryOperator) (x y : Part) → K x → K y →
+      Within w p (x.room l + y.room l) (compound_if b at op x y l)
+  compound_within false at op x y hx hy =
+      in_order (x.room l) (y.room l) (x.reach l)
+      (λ a env base d. y.run l env base d >>= (λ v. refused v.1)) hx.reach
+      (λ a. behind (y.room l) (y.run l) (λ env base v. refused v.1) hy.run
+      (λ env base v i. quiet p i (pos 0) v.1))
+  compound_within true at op x y hx hy =
       in_order (x.room l) (y.room l) (x.reach l)
       (λ a env base d. load x.typed x.rooted a d >>= (λ v. reckons a v.0 env base v.1)) hx.reach
       (λ a. quiet_first (y.room l) (λ env base d. load x.typed x.rooted a d) (reckons a)
@@ -377,7 +391,8 @@ module _ (w : ℕ → ℕ) (p : ℕ) (l : Level) (c : Calling w p l) where
   assignment_keeps at None x y hx hy =
       value_keeps (says.assignment at None x.typed y.typed) (over_both x y) _ (simple_within at x y hx hy)
   assignment_keeps at (Some op) x y hx hy =
-      value_keeps (says.assignment at (Some op) x.typed y.typed) (over_both x y) _ (compound_within at op x y hx hy)
+      value_keeps (says.assignment at (Some op) x.typed y.typed) (over_both x y) _
+      (compound_within (is_updated op x.typed (kind_in (value_type y.typed))) at op x y hx hy)
 
   pub comma_keeps : (at : ℕ) (x y : Part) → K x → K y → K (comma at x y)
   comma_keeps at x y hx hy =
@@ -433,10 +448,12 @@ module _ (w : ℕ → ℕ) (p : ℕ) (l : Level) (c : Calling w p l) where
       K (direct_call at t g qs)
   direct_call_keeps at t g qs h =
       let room = all_rooms qs l + l.room (g l) in
+      let answers : Within w p room (answered at t g qs l) =
+      behind room (calling g qs l) (λ env base v. needed at (class_in (type_of t)) v.0 v.1)
+      (calling_within g qs h) (λ env base v. needs_value at (class_in (type_of t)) v.0 v.1) in
       record {
-        reach = still {A = ℕ} room (λ env base d. Ok (0, d)) (λ env base d i. quiet p i 0 d);
-        run = behind room (calling g qs l) (λ env base v. needed at (class_in (type_of t)) v.0 v.1)
-            (calling_within g qs h) (λ env base v. needs_value at (class_in (type_of t)) v.0 v.1);
+        reach = nowhere_within room (answered at t g qs) answers;
+        run = answers;
         effect = behind room (calling g qs l) (λ env base v. Ok (unwrap_or v.0 (pos 0), v.1))
             (calling_within g qs h) (λ env base v i. quiet p i (unwrap_or v.0 (pos 0)) v.1);
       }

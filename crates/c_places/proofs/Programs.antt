@@ -1,7 +1,7 @@
 -- Programs that are read off trees: their functions and declarations keep to their rooms.
 use Rattle.std.proofs.Common.{ℕ, List, [], ◌∷◌, ◌++◌, Option, Some, None}
 use Rattle.std.specs.Prelude.{map}
-use Rattle.std.proofs.Common.{refl}
+use Rattle.std.proofs.Common.{refl, arith}
 use Rattle.c_language.specs.declared.unit.Body.{Body}
 use Rattle.c_language.specs.declared.unit.Body.TheVariants as body
 use Rattle.c_language.specs.declared.unit.External.{External}
@@ -11,13 +11,14 @@ use Rattle.c_language.specs.Scopes.{Scope, empty}
 use Rattle.c_language.specs.Declarations.{FunctionSaid, function_by}
 use Rattle.c_means.specs.Names.{Names, external_names}
 use Rattle.c_means.specs.Notes.{declarator_noted, specifier_noted}
-use Rattle.c_means.specs.Items.{Item, Code}
-use Rattle.c_means.specs.Programs.{Function, Outer, body_context, body_item, function_from}
+use Rattle.c_means.specs.Items.{Item, Code, Context, nothing}
+use Rattle.c_means.specs.Statements.{stmt}
+use Rattle.c_means.specs.Programs.{Function, Outer, body_context, body_item, braced, function_from}
 use Rattle.c_means.specs.Programs.{with_function, code_in, unread_in, head_names, outer, in_order, program_of}
 use Rattle.c_means.specs.Programs.{function_if}
 use Rattle.c_means.specs.Programs.{functions_in, functions_of}
 use Rattle.c_means.specs.Prelude.{functions_from}
-use Rattle.c_places.proofs.Items.{ItemKeeps, CodeKeeps, nothing_keeps}
+use Rattle.c_places.proofs.Items.{ItemKeeps, CodeKeeps, node_keeps, nothing_keeps}
 use Rattle.c_places.proofs.Statements.{statement_keeps}
 use Rattle.c_places.proofs.Declarations.{declaration_keeps}
 use Rattle.c_places.proofs.Levels.{EachFunction, MaybeFunction}
@@ -27,12 +28,25 @@ abbrev MaybeCode : Option Code → Type 0
 MaybeCode None = Unit {0}
 MaybeCode (Some x) = CodeKeeps x
 
+braced_keeps : (x : Code) → CodeKeeps x → CodeKeeps (braced x)
+braced_keeps x h = record { here = h.here; content = kept }
+  where
+    kept : (c : Context) → ItemKeeps ((braced x).content c)
+    kept c =
+        let inside = h.content c in
+        record {
+          acts = inside.acts;
+          lasting = inside.lasting;
+          size = λ l. omega (arith, inside.size l);
+          room = inside.room;
+        }
+
 code_keeps : (b : Body) → MaybeCode (code_in b)
-code_keeps (body.Read block) = statement_keeps block
+code_keeps (body.Read block) = braced_keeps (stmt block) (statement_keeps block)
 code_keeps (body.Unread at) = tt
 
 body_keeps : (f : FunctionSaid) (x : Option Code) → MaybeCode x → ItemKeeps (body_item f x)
-body_keeps f None h = nothing_keeps f.inside
+body_keeps f None h = node_keeps (nothing f.inside) (nothing_keeps f.inside)
 body_keeps f (Some x) h = h.content (body_context f x)
 
 function_keeps : (f : FunctionSaid) (e : Option Entry) (unread : Option ℕ) (b : Item) (names : Names) → ItemKeeps b →

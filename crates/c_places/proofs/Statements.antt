@@ -408,27 +408,28 @@ labeled_keeps at name body h = record { here = kept; content = kept }
           room = inside.room;
         }
 
-case_of_keeps : (at : ℕ) (z : Option ℤ) (x : Item) → ItemKeeps x → ItemKeeps (case_of at z x)
-case_of_keeps at None x h = h
-case_of_keeps at (Some z) x h =
-    let inside = arrived_keeps (at_case (Some z)) x h in
-    record { acts = inside.acts; lasting = inside.lasting; size = inside.size; room = inside.room }
+case_of_keeps : (at : ℕ) (x : Noted) (z : Option ℤ) (y : Item) → NotedKeeps x → ItemKeeps y →
+    ItemKeeps (case_of at x z y)
+case_of_keeps at x None y hx h = h
+case_of_keeps at x (Some z) y hx h =
+    let inside = arrived_keeps (at_case (Some z)) y h in
+    record {
+      acts = inside.acts;
+      lasting = inside.lasting;
+      size = λ l. omega (arith, hx.blind.size l, h.size l);
+      room = inside.room;
+    }
 
-case_keeps : (at : ℕ) (value : ExprNoted) (body : Code) → ExprKeeps value → CodeKeeps body → CodeKeeps (case_labeled at value body)
+case_keeps : (at : ℕ) (value : ExprNoted) (body : Code) → ExprKeeps value → CodeKeeps body →
+    CodeKeeps (case_labeled at value body)
 case_keeps at value body hv h = record { here = kept; content = kept }
   where
     kept : (c : Context) → ItemKeeps ((case_labeled at value body).here c)
     kept c =
         let x = value c.scope in
-        let inside = case_of_keeps at (case_value c.chooses (constant_of x.part.typed))
-        (body.here (in_scope x.part.typed.after c)) (h.here (in_scope x.part.typed.after c)) in
-        let blind = (hv c.scope).blind in
-        record {
-          acts = inside.acts;
-          lasting = inside.lasting;
-          size = λ l. omega (arith, blind.size l, inside.size l);
-          room = inside.room;
-        }
+        let inside = case_of_keeps at x (case_value c.chooses (constant_of x.part.typed))
+        (body.here (in_scope x.part.typed.after c)) (hv c.scope) (h.here (in_scope x.part.typed.after c)) in
+        record { acts = inside.acts; lasting = inside.lasting; size = inside.size; room = inside.room }
 
 default_keeps : (at : ℕ) (body : Code) → CodeKeeps body → CodeKeeps (default_labeled at body)
 default_keeps at body h = record { here = kept; content = kept }

@@ -1,5 +1,5 @@
-//! The steps of the functions that write bytes: their parameters, the statements of their bodies, and the words of their
-//! own types.
+//! The steps of the functions that write bytes: their parameters, the statements of their bodies, and the words of
+//! their own types.
 
 use crate::step::Step;
 use c_language::{BinaryOperator, TypeWord};

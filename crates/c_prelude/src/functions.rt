@@ -229,8 +229,8 @@ fn atoi(alloc: Global) -> Result<Shared<External>, AllocError>
     made(alloc, b"atoi", head, &numbers::ATOI)
 }
 
-/// The functions of the C library that have a body here: `strlen`, `strcmp`, `strncmp`, `strchr`, `strcpy`, `strcat`, `memset`,
-/// `memcpy` and `atoi`, each as the tree of its text. It fails for want of memory alone.
+/// The functions of the C library that have a body here: `strlen`, `strcmp`, `strncmp`, `strchr`, `strcpy`, `strcat`,
+/// `memset`, `memcpy` and `atoi`, each as the tree of its text. It fails for want of memory alone.
 pub fn prelude(alloc: Global) -> Result<Items<Shared<External>>, AllocError>
     ensures { IfOk result (λ xs. xs ≡ texts.externals) }
 {

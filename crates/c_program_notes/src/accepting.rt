@@ -1,5 +1,5 @@
-//! Whether a source is accepted: `main` is one, and no rule is broken by what is needed and by what is reached; else the
-//! broken rule that comes first.
+//! Whether a source is accepted: `main` is one, and no rule is broken by what is needed and by what is reached; else
+//! the broken rule that comes first.
 
 ghost use Rattle.std.specs.Prelude.{◌≡◌, ◌≤◌, length, nat_eq, not, reverse, IfOk, Some};
 ghost use Rattle.std.specs.Option.{option_copied};

@@ -27,7 +27,7 @@ fn bytes_as(class: Class, size: Option<u64>) -> u64
     match class {
         Class::Integer(kind) => kind.bytes(),
         Class::Pointer => 8,
-        Class::Void => size.unwrap_or(0),
+        Class::Void => 0,
         Class::Array => size.unwrap_or(0),
         Class::Function => size.unwrap_or(0),
         Class::Floating => size.unwrap_or(0),

@@ -1,6 +1,6 @@
 //! A whole source read once (C99 6.9): what is noted of each external declaration; which declarations and functions a
-//! program needs, what lives throughout its run, and which rule it breaks first (`c_means`). It fails for want of memory
-//! alone.
+//! program needs, what lives throughout its run, and which rule it breaks first (`c_means`). It fails for want of
+//! memory alone.
 #![tactic(auto)]
 
 mod accepting;

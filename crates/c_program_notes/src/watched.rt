@@ -182,8 +182,8 @@ fn in_blocks(
     Ok(entries)
 }
 
-/// The integers that live throughout the run and that a function names, in the order of their offsets: those of the file,
-/// and those of its own blocks. The scope is that of the file's end. It fails for want of memory alone.
+/// The integers that live throughout the run and that a function names, in the order of their offsets: those of the
+/// file, and those of its own blocks. The scope is that of the file's end. It fails for want of memory alone.
 pub fn watched_lasting(
     alloc: Global,
     scope: &Scope,

@@ -21,8 +21,9 @@ use core_tree::LastingObject;
 use plain_data::{Items, Shared};
 use std::alloc::{AllocError, Global};
 
-/// A source that was read once: what is noted of its external declarations; the functions that are reached and the words
-/// that are needed, the last found first; what lives throughout the run, and the places of all that may (C99 6.9).
+/// A source that was read once: what is noted of its external declarations; the functions that are reached and the
+/// words that are needed, the last found first; what lives throughout the run, and the places of all that may (C99
+/// 6.9).
 #[derive(Drop)]
 pub struct Overview {
     pub program: ProgramNotes,

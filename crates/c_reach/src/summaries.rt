@@ -7,9 +7,9 @@ use c_language::Name;
 use c_names::Names;
 use c_type_scope::HasName;
 
-/// A function definition (C99 6.9.1): the offset of its name's first declaration, how many parameters it has, the `{` of a
-/// body that couldn't be read, whether its type is one that `main` may have (C99 5.1.2.2.1p1), what is noted of its body,
-/// and the names that it uses, declares and binds, with its string literals.
+/// A function definition (C99 6.9.1): the offset of its name's first declaration, how many parameters it has, the `{`
+/// of a body that couldn't be read, whether its type is one that `main` may have (C99 5.1.2.2.1p1), what is noted of
+/// its body, and the names that it uses, declares and binds, with its string literals.
 #[derive(Drop)]
 pub struct FunctionNotes {
     pub at: u32,

@@ -37,7 +37,7 @@ effect_gives_none (Some e) s = refl
 
 module _ (j : Judged) where
   pub case_alike : (at : ℕ) (x : Noted) (c : Context) (y : Item) (z : Option ℤ) →
-      let i = with_breaches (case_breaches at x c) (case_of at z y) in
+      let i = with_breaches (case_breaches at x c) (case_of at x z y) in
       summed j (followed (record (nothing x.part.typed.after) {
         breaches = case_breaches at x c;
         cases = case_at at z;

@@ -27,72 +27,23 @@ use Rattle.core_tree.proofs.Equations as eq
 use Rattle.elaborate.specs.Means.{Numbering, Like, IsValueOf, IsCodeOf, SameType, OfType}
 use Rattle.elaborate.proofs.Codes.{by_item, nothing_code}
 use Rattle.elaborate.proofs.Choices.{Sets, value_sets}
-use Rattle.core_forms.specs.Nodes.{stored_in}
-use Rattle.core_forms.proofs.KindLaws.{of_stored, some_same, none_some}
-use Rattle.code_forms.specs.Nodes.{value_setting_as, value_setting_node}
-
--- ---- types of parts
-
--- an lvalue of a type
-an_lvalue : CType → Typed
-an_lvalue t = typed_in (record { at = 0; shown = Some (an_object t); faults = [] }) empty
-
-same_by : (c : CType) (tables : Tables) (t : ValueType) → OfType tables (an_lvalue c) t
-    → SameType (class_in (type_of (an_lvalue c))) (bytes_of tables (type_of (an_lvalue c))) t
-same_by c tables t o =
-    subst (λ n. SameType (class_in (type_of (an_lvalue c))) n t) (sym o.has_bytes)
-    (subst (λ a. SameType a o.bytes t) (sym o.is_class) o.same)
-
-same_type : (tables : Tables) (c : CType) (t : ValueType) → stored_in (class_of c) (bytes_of tables (Some c)) ≡ Some t
-    → SameType (class_of c) (bytes_of tables (Some c)) t
-unfolding an_lvalue
-same_type tables c t e = same_by c tables t (of_stored tables (an_lvalue c) t e)
+use Rattle.elaborate.proofs.Objects.{stored_in}
+use Rattle.core_forms.specs.Nodes.{type_as}
+use Rattle.code_forms.specs.Nodes.{value_setting_node}
 
 module _ (numbering : Numbering) where
   -- ---- parts that are set
 
-  setting_by : (p : Part) (n : Noted) (e : Expr) (y : Setting) (st : Option ValueType)
-      → is_text_of p.type n.part.typed ≡ false → IsValueOf numbering e n.part
-      → stored_in (class_of p.type) (bytes_of n.part.typed.after.tables (Some p.type)) ≡ st
-      → Some y ≡ value_setting_as p.offset st e → Sets numbering y p n
-  setting_by p n e y None no_text h is made = absurd (none_some (sym made))
-  setting_by p n e y (Some t) no_text h is made =
-      subst (λ y. Sets numbering y p n) (sym (some_same y (setting.Value p.offset t e) made))
-      (value_sets numbering e t p n no_text (same_type n.part.typed.after.tables p.type t is) h)
-
   -- a part that an expression's value sets
   pub value_setting_sets : (tables : Tables) (p : Part) (n : Noted) (e : Expr) (y : Setting)
       → tables ≡ n.part.typed.after.tables → is_text_of p.type n.part.typed ≡ false → IsValueOf numbering e n.part
-      → Some y ≡ value_setting_node tables p.type p.offset e → Sets numbering y p n
+      → y ≡ value_setting_node tables p.type p.offset e → Sets numbering y p n
   value_setting_sets tables p n e y t no_text h made =
-      setting_by p n e y (stored_in (class_of p.type) (bytes_of n.part.typed.after.tables (Some p.type))) no_text h refl
-      (made ∙ ap (λ u. value_setting_node u p.type p.offset e) t)
+      subst (λ y. Sets numbering y p n) (sym (made ∙ ap (λ u. value_setting_node u p.type p.offset e) t))
+      (value_sets numbering e (type_as n.part.typed.after.tables (Some p.type)) p n no_text
+      (stored_in n.part.typed.after.tables (Some p.type)) h)
 
   -- ---- objects that live throughout the run
-
-  -- the values of expressions, in order
-  abbrev pub AllValues : List Expr → List Noted → Type 0
-  AllValues [] [] = Unit {0}
-  AllValues (e ∷ es) (n ∷ ns) = IsValueOf numbering e n.part × AllValues es ns
-  AllValues _ _ = ⊥
-
-  values_sized : (es : List Expr) (ns : List Noted) → AllValues es ns → (l : c.Level) (k : Level Output)
-      → Like numbering l k → all_sizes (map (value {O = Output}) es) k.measures ≡ initials.all_sizes ns l
-  values_sized [] [] h l k like = refl
-  values_sized [] (n ∷ ns) h l k like = absurd h
-  values_sized (e ∷ es) [] h l k like = absurd h
-  values_sized (e ∷ es) (n ∷ ns) h l k like = ap₂ (λ a b. a + b) (h.0.size l k like) (values_sized es ns h.1 l k like)
-
-  -- one with an initializer
-  pub lasting_code : (at : ℕ) (en : Entry) (n : ℕ) (l : Linkage) (braced : Bool) (y : Filling) (es : List Expr)
-      (ns : List Noted) (s : Scope) → AllValues es ns
-      → IsCodeOf numbering (tree.Static true es) (statements.lasting at en n l true (initials.initial_of braced y ns) s)
-  lasting_code at en n l braced y es ns s h = by_item numbering _ _ _ (eq.does-Static true es) (record {
-    size = λ l k like. ap (λ m. 1 + m) (values_sized es ns h l k like);
-    room = λ l k like. refl;
-    objects = λ l k like base. refl;
-    runs = λ l k like env base d. refl;
-  })
 
   -- one without
   pub bare_lasting_code : (at : ℕ) (en : Entry) (n : ℕ) (l : Linkage) (s : Scope)

@@ -17,4 +17,4 @@ pub use labeled::{case_label, case_value, default_label, label};
 pub use objects::{automatic_object, lasting_object, text_setting, value_setting};
 pub use selection::{compared_kind, if_else, switch};
 pub use steps::{declaration, effect, empty, first_part};
-pub use types::{bytes_of, returned_type};
+pub use types::{bytes_of, stored_type};

@@ -1,5 +1,5 @@
 //! Objects of a block (C99 6.2.4, 6.7.8).
-ghost use Rattle.std.specs.Prelude.{◌≡◌, Some, IfOk, IfSome};
+ghost use Rattle.std.specs.Prelude.{◌≡◌, IfOk, IfSome};
 ghost use Rattle.c_means.specs.Initials as initials;
 ghost use Rattle.core_tree.specs.declared.code.Code.TheVariants as code;
 ghost use Rattle.core_tree.specs.declared.code.Setting.TheVariants as setting;
@@ -7,28 +7,23 @@ ghost use Rattle.code_forms.specs.Nodes.{value_setting_node};
 
 use crate::types::stored_type;
 use c_language::{CType, Tables};
-use core_forms::NoCore;
 use core_tree::{Code, Expr, Setting};
 use plain_data::{Bytes, Items, Shared};
 use std::alloc::{AllocError, Global};
 
-/// A part of an object of this type, so many bytes behind its first, that is set to a value (C99 6.7.8p11, p13). A part
-/// whose type has no values of the core has none.
+/// A part of an object of this type, so many bytes behind its first, that is set to a value (C99 6.7.8p11, p13).
 pub fn value_setting(
     tables: &Tables,
     ctype: &CType,
     offset: u64,
     value: Shared<Expr>,
-) -> Result<Setting, NoCore>
-    ensures { IfOk result (λ y. Some y ≡ value_setting_node tables.now ctype.now offset value) }
+) -> Setting
+    ensures { result ≡ value_setting_node tables.now ctype.now offset value }
 {
-    match stored_type(tables, ctype) {
-        Some(stored) => Ok(Setting::Value {
-            offset,
-            stored,
-            value,
-        }),
-        None => Err(NoCore::Outside),
+    Setting::Value {
+        offset,
+        stored: stored_type(tables, ctype),
+        value,
     }
 }
 
@@ -43,13 +38,14 @@ fn text_room(tables: &Tables, ctype: &CType, bytes: &Bytes) -> Option<u64>
     }
 }
 
-/// An array of characters of this type, so many bytes behind an object's first, that a literal sets (C99 6.7.8p14).
+/// An array of characters of this type, so many bytes behind an object's first, that a literal sets (C99 6.7.8p14). It
+/// fails for want of memory alone: no literal has 2^64 bytes.
 pub fn text_setting(
     tables: &Tables,
     ctype: &CType,
     offset: u64,
     bytes: Bytes,
-) -> Result<Setting, NoCore>
+) -> Result<Setting, AllocError>
     ensures { IfOk result (λ y. y ≡ setting.Text offset (initials.text_room tables.now ctype.now bytes) bytes) }
 {
     match text_room(tables, ctype, &bytes) {
@@ -58,7 +54,7 @@ pub fn text_setting(
             size,
             bytes,
         }),
-        None => Err(NoCore::Outside),
+        None => Err(AllocError),
     }
 }
 

@@ -61,8 +61,8 @@ pub fn compared_kind(value: &Told) -> IntegerKind
     }
 }
 
-/// `switch`, by the keyword's offset, which compares its value and the cases of its block in this type (C99 6.8.4.2). It
-/// fails for want of memory alone.
+/// `switch`, by the keyword's offset, which compares its value and the cases of its block in this type (C99 6.8.4.2).
+/// It fails for want of memory alone.
 pub fn switch(
     alloc: Global,
     at: u32,

@@ -1,9 +1,7 @@
-//! Types of objects and of what a function returns.
+//! Types of objects, and how many bytes these take.
 ghost use Rattle.std.specs.Prelude.{◌≡◌, Some};
-ghost use Rattle.c_language.specs.Types as terms;
 ghost use Rattle.c_means.specs.Values as values;
-ghost use Rattle.core_forms.specs.Nodes.{stored_in};
-ghost use Rattle.elaborate.specs.Types as types;
+ghost use Rattle.core_forms.specs.Nodes.{type_as};
 
 use c_language::{CType, Class, Tables};
 use core_tree::ValueType;
@@ -16,7 +14,7 @@ fn bytes_as(class: Class, size: Option<u64>) -> u64
     match class {
         Class::Integer(kind) => kind.bytes(),
         Class::Pointer => 8,
-        Class::Void => size.unwrap_or(0),
+        Class::Void => 0,
         Class::Array => size.unwrap_or(0),
         Class::Function => size.unwrap_or(0),
         Class::Floating => size.unwrap_or(0),
@@ -32,30 +30,9 @@ pub fn bytes_of(tables: &Tables, ctype: &CType) -> u64
     bytes_as(ctype.class(), tables.size_of(ctype))
 }
 
-/// The type in which a part of an object is stored, where it is an integer, a pointer, a structure or a union.
-pub(crate) fn stored_type(tables: &Tables, ctype: &CType) -> Option<ValueType>
-    ensures { result ≡ stored_in (terms.class_of ctype.now) (values.bytes_of tables.now (Some ctype.now)) }
+/// The type in which an object of a type is stored: what is no integer or pointer is taken by its bytes.
+pub fn stored_type(tables: &Tables, ctype: &CType) -> ValueType
+    ensures { result ≡ type_as tables.now (Some ctype.now) }
 {
-    let bytes = bytes_of(tables, ctype);
-    let class = ctype.class();
-    match class {
-        Class::Integer(_) => Some(value_type(class, bytes)),
-        Class::Pointer => Some(ValueType::Pointer),
-        Class::Aggregate(_) => Some(ValueType::Block { bytes }),
-        Class::Array => None,
-        Class::Function => None,
-        Class::Void => None,
-        Class::Floating => None,
-        Class::Opaque => None,
-    }
-}
-
-/// The type of the core that a function's value has, by the type that it returns: none is `void` (C99 6.9.1).
-pub fn returned_type(tables: &Tables, returned: &Option<CType>) -> ValueType
-    ensures { result ≡ types.value_type (values.class_in returned.now) (values.bytes_of tables.now returned.now) }
-{
-    match returned {
-        Some(ctype) => value_type(ctype.class(), bytes_of(tables, ctype)),
-        None => ValueType::Void,
-    }
+    value_type(ctype.class(), bytes_of(tables, ctype))
 }

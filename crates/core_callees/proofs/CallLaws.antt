@@ -24,7 +24,6 @@ use Rattle.elaborate.specs.Callees.{answer_in, answer_of, fill_of, word_types}
 use Rattle.elaborate.specs.Means.{Numbering, Like, IsCallOf, as_done}
 use Rattle.elaborate.proofs.Calls.{body_call_of, rule_call_of}
 use Rattle.elaborate.proofs.Rules.{told_by, is_told, answers_same, heap_same, freed_same, outside_same, log_same}
-use Rattle.core_forms.proofs.KindLaws.{some_same, none_some}
 use Rattle.core_calls.specs.Calling.{answer_by, callee_of, library_in, log_pieces_of}
 use Rattle.core_callees.specs.Known.{Known, rule_in, number_in, ruling_in, bare_in, numbering_in, is_never_null}
 use Rattle.core_callees.specs.Watching.{all_watched}
@@ -67,21 +66,23 @@ module _ (x : Known) (g : c.Site) (t : ValueType)
       → core.called k y g.at t env vs base s o ≡ core.called (told_by l k) y g.at t env vs base s o
   told y l k like env vs base s o = ap (λ k. core.called k y g.at t env vs base s o) (is_told numbering l k like)
 
-  body_is : (n : ℕ) (rule : Rules (Option ℕ)) → rule_in x g ≡ rule → number_in rule ≡ Some n → Calls_ (callee.Body n)
+  body_is : (n : ℕ) (rule : Rules ℕ) → rule_in x g ≡ rule → number_in rule ≡ Some n → Calls_ (callee.Body n)
   body_is n rule is e = body_call_of numbering g.at t (λ l. g) n (λ l. ap number_in is ∙ e) (λ l. refl)
 
-  log_is : (text : LogText) (watched : List Watched) → rule_in x g ≡ LogCall text
-      → all_watched x.place (calls.watched x.watched g) ≡ Some watched
+  abbrev watched : List Watched
+  watched = all_watched x.place (calls.watched x.watched g)
+
+  log_is : (text : LogText) → rule_in x g ≡ LogCall text
       → Calls_ (callee.Log (calls.log_pieces text g) (calls.before_format text) (word_types g.types) watched)
-  log_is text watched is shows =
+  log_is text is =
       let y = callee.Log (calls.log_pieces text g) (calls.before_format text) (word_types g.types) watched in
       rule_call_of numbering y g.at t (λ l. g) _ (λ l. ap (ruling_in x g) is) (λ k. refl) (λ k. refl)
       (λ l k like env vs base s o. told y l k like env vs base s o
       ∙ log_same (bare l) k t g same x.watched text watched env vs base (c.entered s o.count)
-      (λ s. all_seen x.place (bare l) refl env s (calls.watched x.watched g) watched shows))
+      (λ s. all_seen x.place (bare l) refl env s (calls.watched x.watched g)))
 
   -- the other rules: what a callee does, from a state in which a function begins
-  by_rule : (y : Callee) (rule : Rules (Option ℕ))
+  by_rule : (y : Callee) (rule : Rules ℕ)
       (acts : c.World → c.Limits → Env → List ℤ → ℕ → State → State)
       → ((k : Level Output) → core.callee_size y k.measures ≡ 0) → ((k : Level Output) → core.callee_room y k.measures ≡ 4)
       → rule_in x g ≡ rule → ruling_in x g rule ≡ Some (record { room = 4; acts = acts })
@@ -139,27 +140,27 @@ module _ (x : Known) (g : c.Site) (t : ValueType)
 
   -- ---- the callee of a rule
 
-  abbrev callee_by : Rules (Option ℕ) → Option Callee
+  abbrev callee_by : Rules ℕ → Callee
   callee_by (LogCall text) = spec.log_callee x text g
-  callee_by (IdentityCall i) = Some (callee.Identity i)
-  callee_by (BodyCall n) = spec.body_callee n
-  callee_by (LibraryCall f) = Some (callee_of f)
-  callee_by (PreludeCall n) = spec.body_callee n
-  callee_by OutsideCall = Some (spec.outside_callee x g)
+  callee_by (IdentityCall i) = callee.Identity i
+  callee_by (BodyCall n) = callee.Body n
+  callee_by (LibraryCall f) = callee_of f
+  callee_by (PreludeCall n) = callee.Body n
+  callee_by OutsideCall = spec.outside_callee x g
 
-  abbrev the_prelude : Option (Option ℕ)
+  abbrev the_prelude : Option ℕ
   the_prelude = x.prelude (rules.callee_taking g) g.callee.name
 
-  prelude_case : (p : Option (Option ℕ)) → spec.by_prelude x g p ≡ callee_by (rules.prelude_or_outside p)
+  prelude_case : (p : Option ℕ) → spec.by_prelude x g p ≡ callee_by (rules.prelude_or_outside p)
   prelude_case None = refl
   prelude_case (Some n) = refl
 
-  library_case : (l : Option Library) (p : Option (Option ℕ))
+  library_case : (l : Option Library) (p : Option ℕ)
       → spec.by_library x g (library_in l) p ≡ callee_by (rules.library_or l p)
   library_case None p = prelude_case p
   library_case (Some f) p = refl
 
-  source_case : (b : Option (Option ℕ)) → spec.by_source x g b
+  source_case : (b : Option ℕ) → spec.by_source x g b
       ≡ callee_by (rules.body_or b (rules.library_of g) the_prelude)
   source_case None = library_case (rules.library_of g) the_prelude
   source_case (Some n) = refl
@@ -175,30 +176,18 @@ module _ (x : Known) (g : c.Site) (t : ValueType)
   log_case None = identity_case (rules.identity_index x.profile g.callee.name)
   log_case (Some f) = refl
 
-  by_log : (text : LogText) (shown : Option (List Watched)) (y : Callee) → rule_in x g ≡ LogCall text
-      → all_watched x.place (calls.watched x.watched g) ≡ shown → spec.log_with text g shown ≡ Some y → Calls_ y
-  by_log text None y is shows e = absurd (none_some e)
-  by_log text (Some ws) y is shows e =
-      subst Calls_ (ap (λ ps. callee.Log ps (calls.before_format text) (word_types g.types) ws) (sym (pieces_same text g))
-      ∙ some_same (callee.Log (log_pieces_of text g.texts) (calls.before_format text) (word_types g.types) ws) y e)
-      (log_is text ws is shows)
-
-  by_body : (n : Option ℕ) (rule : Rules (Option ℕ)) (y : Callee) → rule_in x g ≡ rule → number_in rule ≡ n
-      → spec.body_callee n ≡ Some y → Calls_ y
-  by_body None rule y is e h = absurd (none_some h)
-  by_body (Some n) rule y is e h = subst Calls_ (some_same (callee.Body n) y h) (body_is n rule is e)
-
-  by_rules : (rule : Rules (Option ℕ)) (y : Callee) → rule_in x g ≡ rule → callee_by rule ≡ Some y → Calls_ y
-  by_rules (LogCall text) y is e = by_log text (all_watched x.place (calls.watched x.watched g)) y is refl e
-  by_rules (IdentityCall i) y is e = subst Calls_ (some_same (callee.Identity i) y e) (identity_is i is)
-  by_rules (BodyCall n) y is e = by_body n (BodyCall n) y is refl e
-  by_rules (LibraryCall f) y is e = subst Calls_ (some_same (callee_of f) y e) (library_is f is)
-  by_rules (PreludeCall n) y is e = by_body n (PreludeCall n) y is refl e
-  by_rules OutsideCall y is e =
+  by_rule_is : (rule : Rules ℕ) → rule_in x g ≡ rule → Calls_ (callee_by rule)
+  by_rule_is (LogCall text) is =
+      subst Calls_ (ap (λ ps. callee.Log ps (calls.before_format text) (word_types g.types) watched)
+      (sym (pieces_same text g))) (log_is text is)
+  by_rule_is (IdentityCall i) is = identity_is i is
+  by_rule_is (BodyCall n) is = body_is n (BodyCall n) is refl
+  by_rule_is (LibraryCall f) is = library_is f is
+  by_rule_is (PreludeCall n) is = body_is n (PreludeCall n) is refl
+  by_rule_is OutsideCall is =
       subst Calls_ (ap (λ a. callee.Outside a (option_map fill_of (rules.fill_of x.profile g.callee.name)))
-      (sym (answer_same (values.class_in g.ctype) (is_never_null x g) g))
-      ∙ some_same (spec.outside_callee x g) y e) (outside_is is)
+      (sym (answer_same (values.class_in g.ctype) (is_never_null x g) g))) (outside_is is)
 
-  pub chosen : (y : Callee) → spec.callee_in x g ≡ Some y → Calls_ y
-  chosen y e = by_rules (rule_in x g) y refl
-      (sym (log_case (rules.log_of x.profile g.callee.name)) ∙ e)
+  pub chosen : (y : Callee) → y ≡ spec.callee_in x g → Calls_ y
+  chosen y is =
+      subst Calls_ (sym (is ∙ log_case (rules.log_of x.profile g.callee.name))) (by_rule_is (rule_in x g) refl)

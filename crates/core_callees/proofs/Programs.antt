@@ -24,7 +24,7 @@ use Rattle.core_programs.specs.Numberings.{Numbers, numbering_of, number_by, rul
 use Rattle.core_callees.specs.declared.bodies.PreludeFunction.{PreludeFunction}
 use Rattle.core_callees.specs.declared.bodies.PreludeFunction.TheVariants as f_
 use Rattle.core_callees.specs.declared.numbered.FunctionNumber.{FunctionNumber}
-use Rattle.core_callees.specs.Bodies.{head_for, named, if_typed, number_from, numbers_from, position, prelude_in}
+use Rattle.core_callees.specs.Bodies.{head_for, named, if_typed, number_from, position, prelude_in}
 use Rattle.core_callees.specs.Known.{Known, number_in, ruling_in, numbering_in}
 use Rattle.core_callees.specs.Knows.{Knows, known, numbered, table_of}
 use Rattle.core_callees.specs.Numbered.{number_of, numbers_in}
@@ -51,7 +51,7 @@ numbers_are ns name None None None (Some l) p = refl
 numbers_are ns name None None None None (Some p) = refl
 numbers_are ns name None None None None None = refl
 
-rulings_are : (m : whole.Machine) (ns : Numbers) (f : Function) (g : Site) (n q : Option ℕ) (a : Option LogFunction)
+rulings_are : (m : whole.Machine) (ns : Numbers) (f : Function) (g : Site) (n q : ℕ) (a : Option LogFunction)
     (i : Option ℕ) (b : Option Function) (l : Option Library) (p : Option Function)
     → ruling_in (known_of m ns f) g (rule_by a i (option_map (λ h. n) b) l (option_map (λ h. q) p))
     ≡ ruling_by m f g (rule_by a i b l p)
@@ -104,35 +104,33 @@ names_are name =
     heads.memcpy ∷ heads.atoi ∷ []) f_.Strcat name _ (by_name (heads.memcpy ∷ heads.atoi ∷ []) f_.Memset name _
     (by_name (heads.atoi ∷ []) f_.Memcpy name _ (by_name [] f_.Atoi name None refl))))))))
 
-if_same : (b c : Bool) (p : PreludeFunction) (first : ℕ) (h : Function) (q : Option ℕ) → b ≡ c
-    → Some (first + position p) ≡ q
-    → numbers_from first (cond b (Some p) None) ≡ option_map (λ h. q) (cond c (Some h) None)
+if_same : (b c : Bool) (p : PreludeFunction) (first : ℕ) (h : Function) (q : ℕ) → b ≡ c → first + position p ≡ q
+    → number_from first (cond b (Some p) None) ≡ option_map (λ h. q) (cond c (Some h) None)
 if_same true true p first h q same is = ap (λ q. Some q) is
 if_same false false p first h q same is = refl
 if_same true false p first h q same is = cc
 if_same false true p first h q same is = cc
 
-by_head : (t : Option Taking) (o : Option Function) (n : Option PreludeFunction) (first : ℕ) (q : Option ℕ)
-    → option_map head_of o ≡ option_map head_for n → number_from first n ≡ q
-    → numbers_from first (if_typed t n) ≡ option_map (λ h. q) (whole.prelude_if t o)
+by_head : (t : Option Taking) (o : Option Function) (n : Option PreludeFunction) (first q : ℕ)
+    → option_map head_of o ≡ option_map head_for n → ((p : PreludeFunction) → n ≡ Some p → first + position p ≡ q)
+    → number_from first (if_typed t n) ≡ option_map (λ h. q) (whole.prelude_if t o)
 by_head t None None first q same is = refl
 by_head t None (Some p) first q same is = absurd (none_some same)
 by_head t (Some h) None first q same is = absurd (none_some (sym same))
 by_head t (Some h) (Some p) first q same is =
     if_same (same_taking t (head_for p).taking) (same_taking t (declared_taking h.inside.tables h.means)) p first h q
-    (ap (λ (x : Head). same_taking t x.taking) (sym (some_same (head_of h) (head_for p) same))) is
+    (ap (λ (x : Head). same_taking t x.taking) (sym (some_same (head_of h) (head_for p) same))) (is p refl)
 
-prelude_is : (fs : List Function) (t : Option Taking) (name : Name) (first : ℕ) (q : Option ℕ)
-    → prelude_functions ≡ fs → number_from first (named name) ≡ q
-    → numbers_from first (prelude_in t name) ≡ option_map (λ h. q) (whole.prelude_if t (function_named fs name))
+prelude_is : (fs : List Function) (t : Option Taking) (name : Name) (first q : ℕ) → prelude_functions ≡ fs
+    → ((p : PreludeFunction) → named name ≡ Some p → first + position p ≡ q)
+    → number_from first (prelude_in t name) ≡ option_map (λ h. q) (whole.prelude_if t (function_named fs name))
 prelude_is fs t name first q are is =
     by_head t (function_named fs name) (named name) first q
     (ap (λ fs. option_map head_of (function_named fs name)) (sym are) ∙ prelude_head name ∙ names_are name) is
 
 -- ---- what is known
 
-abbrev known_with : Profile → (ℕ → ℕ) → (Name → Option (Option ℕ)) → (Option Taking → Name → Option (Option ℕ))
-    → List Entry → Known
+abbrev known_with : Profile → (ℕ → ℕ) → (Name → Option ℕ) → (Option Taking → Name → Option ℕ) → List Entry → Known
 known_with profile place source prelude watched = record {
   profile = profile;
   place = place;
@@ -144,8 +142,8 @@ known_with profile place source prelude watched = record {
 module _ (m : whole.Machine) (ns : Numbers) (f : Function) (profile : Profile) (offsets : List ℕ)
     (functions : List FunctionNumber) (first : ℕ) (watched : List Entry)
     (h : Knows m ns f profile offsets functions first watched) where
-  abbrev found : Option Taking → Name → Option (Option ℕ)
-  found t name = numbers_from first (prelude_in t name)
+  abbrev found : Option Taking → Name → Option ℕ
+  found t name = number_from first (prelude_in t name)
 
   prelude_found : found ≡ (known_of m ns f).prelude
   prelude_found = fun_ext (λ t. fun_ext (λ name. prelude_is m.prelude t name first (ns.prelude name) (sym h.prelude_is)

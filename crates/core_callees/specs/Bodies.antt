@@ -55,7 +55,3 @@ prelude_in t name = if_typed t (named name)
 abbrev pub number_from : ℕ → Option PreludeFunction → Option ℕ
 number_from first None = None
 number_from first (Some g) = Some (first + position g)
-
-abbrev pub numbers_from : ℕ → Option PreludeFunction → Option (Option ℕ)
-numbers_from first None = None
-numbers_from first (Some g) = Some (Some (first + position g))

@@ -1,43 +1,44 @@
 -- What the calls of a function depend on, and what they are by that.
 use Rattle.std.specs.Prelude.{ℕ, ◌+◌, Bool, Option, Some, None, List}
+use Rattle.plain_data.specs.declared.run.Finish.TheVariants as finish
 use Rattle.c_language.specs.declared.scope.Entry.{Entry}
 use Rattle.c_language.specs.Scopes.{Name}
 use Rattle.c_means.specs.Parts.{Level, Limits, Site, World, entered}
 use Rattle.c_means.specs.declared.profile.Profile.{Profile}
-use Rattle.c_means.specs.Calls.{log_call, log_pieces, pointers_in, identity_call, library_call, outside_call}
+use Rattle.c_means.specs.Calls.{finished, log_call, log_pieces, pointers_in, identity_call, library_call, outside_call}
 use Rattle.c_means.specs.Rules.{Taking, Rules, LogCall, IdentityCall, BodyCall, LibraryCall, PreludeCall, OutsideCall}
 use Rattle.c_means.specs.Rules.{rule_by, log_of, identity_index, fill_of, library_of, callee_taking, is_among}
 use Rattle.elaborate.specs.Means.{Numbering, Ruling}
 
--- What is known of functions besides their source; the places of what lives throughout the run, by offset; whether a
--- name has a body in the source, with the number of its core where it has one; the same of a name that is declared
--- with a type, in the prelude; and the variables that live throughout the run that the function names.
+-- What is known of functions besides their source; the places of what lives throughout the run, by offset; the number of
+-- the core of a name that has a body in the source; the same of a name that is declared with a type, in the prelude; and
+-- the variables that live throughout the run that the function names.
 pub record Known : Type 0 where
   pub profile : Profile
   pub place : ℕ → ℕ
-  pub source : Name → Option (Option ℕ)
-  pub prelude : Option Taking → Name → Option (Option ℕ)
+  pub source : Name → Option ℕ
+  pub prelude : Option Taking → Name → Option ℕ
   pub watched : List Entry
 
 -- the rule of a call, where a function with a body is the number of its core
-abbrev pub rule_in : Known → Site → Rules (Option ℕ)
+abbrev pub rule_in : Known → Site → Rules ℕ
 rule_in x g =
     let name = g.callee.name in
     rule_by (log_of x.profile name) (identity_index x.profile name) (x.source name) (library_of g)
     (x.prelude (callee_taking g) name)
 
-abbrev pub number_in : Rules (Option ℕ) → Option ℕ
+abbrev pub number_in : Rules ℕ → Option ℕ
 number_in (LogCall text) = None
 number_in (IdentityCall i) = None
-number_in (BodyCall n) = n
+number_in (BodyCall n) = Some n
 number_in (LibraryCall f) = None
-number_in (PreludeCall n) = n
+number_in (PreludeCall n) = Some n
 number_in OutsideCall = None
 
 abbrev pub is_never_null : Known → Site → Bool
 is_never_null x g = is_among g.callee.name x.profile.never_null
 
--- where a call by rule runs
+-- where a call by rule runs: a call there is one level too many
 abbrev pub bare_in : Known → World → Limits → Level
 bare_in x world limits = record {
   world = world;
@@ -47,11 +48,11 @@ bare_in x world limits = record {
   identity = identity_index x.profile;
   size = λ g. 0;
   room = λ g. 0;
-  call = λ g env vs base s count. entered s count;
+  call = λ g env vs base s count. finished (finish.Left g.at) (entered s count);
 }
 
 -- what a call by rule does
-abbrev pub ruling_in : Known → Site → Rules (Option ℕ) → Option Ruling
+abbrev pub ruling_in : Known → Site → Rules ℕ → Option Ruling
 ruling_in x g (LogCall text) = Some (record {
   room = 4 + pointers_in (log_pieces text g);
   acts = λ world limits env vs base d. log_call (bare_in x world limits) x.watched text g env vs base d;

@@ -1,5 +1,5 @@
 -- What is known of the calls of a function, as code has it, and what it is to know a program's.
-use Rattle.std.specs.Prelude.{◌≡◌, ℕ, List, map, reverse, option_map}
+use Rattle.std.specs.Prelude.{◌≡◌, ℕ, ◌+◌, List, map, reverse, Some, option_map}
 use Rattle.c_language.specs.declared.scope.Entry.{Entry}
 use Rattle.c_language.specs.Scopes.{Name}
 use Rattle.c_means.specs.declared.profile.Profile.{Profile}
@@ -7,9 +7,10 @@ use Rattle.c_means.specs.Prelude.{prelude_functions}
 use Rattle.c_means.specs.Programs.{Function, functions_of, function_named, watched_lasting}
 use Rattle.c_means.specs.Runs as whole
 use Rattle.core_programs.specs.Numberings.{Numbers}
+use Rattle.core_callees.specs.declared.bodies.PreludeFunction.{PreludeFunction}
 use Rattle.core_callees.specs.declared.calling.Calling.{Calling}
 use Rattle.core_callees.specs.declared.numbered.FunctionNumber.{FunctionNumber}
-use Rattle.core_callees.specs.Bodies.{named, number_from, numbers_from, prelude_in}
+use Rattle.core_callees.specs.Bodies.{named, number_from, position, prelude_in}
 use Rattle.core_callees.specs.Known.{Known}
 use Rattle.core_callees.specs.Numbered.{numbers_in}
 
@@ -20,7 +21,7 @@ known profile offsets functions first watched = record {
   profile = profile;
   place = whole.place_in offsets;
   source = numbers_in functions;
-  prelude = λ t name. numbers_from first (prelude_in t name);
+  prelude = λ t name. number_from first (prelude_in t name);
   watched = watched;
 }
 
@@ -44,5 +45,5 @@ pub record Knows (m : whole.Machine) (ns : Numbers) (f : Function) (profile : Pr
     pub places_are : whole.places_of m.program ≡ whole.place_in offsets
     pub functions_are : (name : Name) → numbers_in functions name
         ≡ option_map (λ h. ns.source name) (function_named (functions_of m.program) name)
-    pub prelude_numbers : (name : Name) → number_from first (named name) ≡ ns.prelude name
+    pub prelude_numbers : (name : Name) (g : PreludeFunction) → named name ≡ Some g → first + position g ≡ ns.prelude name
     pub watched_are : watched_lasting m.program.scope f ≡ watched

@@ -12,6 +12,8 @@ use Rattle.c_means.specs.Calls.{automatic_of}
 use Rattle.core_tree.specs.declared.expr.Holder.{Holder}
 use Rattle.core_tree.specs.declared.expr.Holder.TheVariants as holder
 use Rattle.core_tree.specs.declared.expr.Watched.{Watched}
+use Rattle.core_tree.specs.declared.types.ValueType.{ValueType}
+use Rattle.core_tree.specs.declared.types.ValueType.TheVariants as value
 use Rattle.elaborate.specs.Types.{integer_type}
 
 -- ---- a variable in the core
@@ -20,35 +22,31 @@ abbrev pub holder_in : (ℕ → ℕ) → ℕ → Duration → Holder
 holder_in place at duration.Automatic = holder.Local
 holder_in place at duration.Static = holder.Fixed (place at)
 
-abbrev pub watched_by : ℕ → Holder → Option IntegerKind → Option Watched
-watched_by at h None = None
-watched_by at h (Some kind) = Some (record { at = at; holder = h; stored = integer_type kind })
+-- of what is no integer nothing is seen
+abbrev pub stored_in : Option IntegerKind → ValueType
+stored_in None = value.Void
+stored_in (Some kind) = integer_type kind
 
--- an object of integer type; others aren't watched
-abbrev pub watched_as : (ℕ → ℕ) → ℕ → Means → Option Watched
-watched_as place at (means.Object t d linkage) = watched_by at (holder_in place at d) (kind_of t)
-watched_as place at (means.Function t linkage) = None
-watched_as place at (means.Typedef t) = None
-watched_as place at (means.Constant z) = None
-watched_as place at means.Faulty = None
+abbrev pub unseen : ℕ → Watched
+unseen at = record { at = at; holder = holder.Local; stored = value.Void }
 
-abbrev pub watched_of : (ℕ → ℕ) → Entry → Option Watched
+-- a name that is no object shows nothing either
+abbrev pub watched_as : (ℕ → ℕ) → ℕ → Means → Watched
+watched_as place at (means.Object t d linkage) = record {
+  at = at;
+  holder = holder_in place at d;
+  stored = stored_in (kind_of t);
+}
+watched_as place at (means.Function t linkage) = unseen at
+watched_as place at (means.Typedef t) = unseen at
+watched_as place at (means.Constant z) = unseen at
+watched_as place at means.Faulty = unseen at
+
+abbrev pub watched_of : (ℕ → ℕ) → Entry → Watched
 watched_of place e = watched_as place e.at e.means
 
--- ---- all of a list
-
-abbrev pub in_front : {A : Type 0} → Option A → Option (List A) → Option (List A)
-in_front None xs = None
-in_front (Some x) None = None
-in_front (Some x) (Some xs) = Some (x ∷ xs)
-
--- where each is there
-abbrev pub all_there : {A : Type 0} → List (Option A) → Option (List A)
-all_there [] = Some []
-all_there (x ∷ xs) = in_front x (all_there xs)
-
-abbrev pub all_watched : (ℕ → ℕ) → List Entry → Option (List Watched)
-all_watched place es = all_there (map (watched_of place) es)
+abbrev pub all_watched : (ℕ → ℕ) → List Entry → List Watched
+all_watched place es = map (watched_of place) es
 
 -- ---- parameters and locals of all open blocks, the outermost first
 

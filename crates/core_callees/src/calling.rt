@@ -8,11 +8,11 @@ use c_language::{Entry, Name};
 use c_means::Profile;
 use c_type_scope::{Named, Scope};
 use core_exprs::{Callees, Site};
-use core_forms::{NoCore, Places};
+use core_forms::Places;
 use core_programs::PlaceTable;
 use core_tree::Callee;
 use plain_data::Shared;
-use std::alloc::Global;
+use std::alloc::{AllocError, Global};
 
 /// What the calls of a function depend on: what is known of functions besides their source, the places of what lives
 /// throughout the run, the functions with a body in the source, the number of the first function of the prelude, whose
@@ -42,7 +42,7 @@ impl<'a> Callees for Calling<'a> {
         identity_index(self.profile, name.get().as_slice())
     }
 
-    fn callee(&self, alloc: Global, site: &Site, scope: &Scope) -> Result<Callee, NoCore> {
+    fn callee(&self, alloc: Global, site: &Site, scope: &Scope) -> Result<Callee, AllocError> {
         callee_of(alloc, self, site, scope)
     }
 }

@@ -1,10 +1,9 @@
 //! The callee of a call: by the first rule that applies.
-ghost use Rattle.std.specs.Prelude.{◌≡◌, ◌+◌, ◌++◌, Some, IfOk, IsTrue};
+ghost use Rattle.std.specs.Prelude.{◌≡◌, ◌+◌, ◌++◌, IfOk};
 ghost use Rattle.c_means.specs.Calls as calls;
 ghost use Rattle.c_means.specs.Rules as rules;
 ghost use Rattle.core_tree.specs.declared.expr.Callee.TheVariants as callee;
 ghost use Rattle.core_exprs.specs.Sites.{site_of};
-ghost use Rattle.core_calls.specs.Calling.{IsCounted};
 ghost use Rattle.core_callees.specs.Bodies as bodies;
 ghost use Rattle.core_callees.specs.Choices as spec;
 ghost use Rattle.core_callees.specs.Knows.{known_by};
@@ -21,7 +20,6 @@ use c_means::LogText;
 use c_type_scope::Scope;
 use core_calls::{arguments_before, fill, library_callee, log_pieces, outside_answer, word_types};
 use core_exprs::Site;
-use core_forms::NoCore;
 use core_tree::{Callee, Watched};
 use plain_data::Items;
 use std::alloc::{AllocError, Global};
@@ -29,8 +27,8 @@ use std::alloc::{AllocError, Global};
 // ---- log calls
 
 /// The variables that a print shows, those that live throughout the run first.
-fn shown(alloc: Global, calling: &Calling, scope: &Scope) -> Result<Items<Watched>, NoCore>
-    ensures { IfOk result (λ ws. all_watched (known_by calling.now).place ((known_by calling.now).watched ++ calls.automatic_in scope.now.blocks) ≡ Some ws) }
+fn shown(alloc: Global, calling: &Calling, scope: &Scope) -> Result<Items<Watched>, AllocError>
+    ensures { IfOk result (λ ws. ws ≡ all_watched (known_by calling.now).place ((known_by calling.now).watched ++ calls.automatic_in scope.now.blocks)) }
 {
     let mut all = Items::new(alloc);
     watch(calling.places, calling.watched, &mut all)?;
@@ -39,28 +37,15 @@ fn shown(alloc: Global, calling: &Calling, scope: &Scope) -> Result<Items<Watche
     Ok(all)
 }
 
-/// Whether the arguments up to a format can be counted.
-fn is_counted(text: &LogText) -> bool
-    ensures { IsTrue result → IsCounted text.now }
-{
-    match text {
-        LogText::Format { index, .. } => *index < u32::MAX,
-        LogText::Text { .. } => true,
-    }
-}
-
 fn log_callee(
     alloc: Global,
     calling: &Calling,
     text: &LogText,
     site: &Site,
     scope: &Scope,
-) -> Result<Callee, NoCore>
-    ensures { IfOk result (λ c. spec.log_callee (known_by calling.now) text.now (site_of site.now scope.now) ≡ Some c) }
+) -> Result<Callee, AllocError>
+    ensures { IfOk result (λ c. c ≡ spec.log_callee (known_by calling.now) text.now (site_of site.now scope.now)) }
 {
-    if !is_counted(text) {
-        return Err(NoCore::Outside);
-    }
     let watched = shown(alloc, calling, scope)?;
     let pieces = log_pieces(alloc, text, site.texts.as_slice())?;
     let types = word_types(alloc, site.types.as_slice())?;
@@ -74,23 +59,13 @@ fn log_callee(
 
 // ---- calls by body
 
-/// The function of this number, where it has one.
-fn body_callee(number: Option<u32>) -> Result<Callee, NoCore>
-    ensures { IfOk result (λ c. spec.body_callee number ≡ Some c) }
-{
-    match number {
-        Some(function) => Ok(Callee::Body { function }),
-        None => Err(NoCore::Outside),
-    }
-}
-
-/// A function of the prelude, whose first has this number.
-fn prelude_callee(first: u32, function: PreludeFunction) -> Result<Callee, NoCore>
+/// A function of the prelude, whose first has this number. It fails where there are more functions than memory holds.
+fn prelude_callee(first: u32, function: PreludeFunction) -> Result<Callee, AllocError>
     ensures { IfOk result (λ c. c ≡ callee.Body (first + bodies.position function)) }
 {
     match first.checked_add(function.position()) {
         Some(function) => Ok(Callee::Body { function }),
-        None => Err(NoCore::Outside),
+        None => Err(AllocError),
     }
 }
 
@@ -130,12 +105,12 @@ fn prelude_or_outside(
     calling: &Calling,
     site: &Site,
     scope: &Scope,
-) -> Result<Callee, NoCore>
-    ensures { IfOk result (λ c. spec.by_prelude (known_by calling.now) (site_of site.now scope.now) ((known_by calling.now).prelude (rules.callee_taking (site_of site.now scope.now)) (site_of site.now scope.now).callee.name) ≡ Some c) }
+) -> Result<Callee, AllocError>
+    ensures { IfOk result (λ c. c ≡ spec.by_prelude (known_by calling.now) (site_of site.now scope.now) ((known_by calling.now).prelude (rules.callee_taking (site_of site.now scope.now)) (site_of site.now scope.now).callee.name)) }
 {
     match prelude_function(alloc, scope.tables(), site.callee.get())? {
         Some(function) => prelude_callee(calling.prelude, function),
-        None => Ok(outside_callee(alloc, calling, site, scope)?),
+        None => outside_callee(alloc, calling, site, scope),
     }
 }
 
@@ -145,8 +120,8 @@ fn declared_callee(
     calling: &Calling,
     site: &Site,
     scope: &Scope,
-) -> Result<Callee, NoCore>
-    ensures { IfOk result (λ c. spec.declared_callee (known_by calling.now) (site_of site.now scope.now) ≡ Some c) }
+) -> Result<Callee, AllocError>
+    ensures { IfOk result (λ c. c ≡ spec.declared_callee (known_by calling.now) (site_of site.now scope.now)) }
 {
     match library_callee(alloc, scope.tables(), site.callee.get())? {
         Some(callee) => Ok(callee),
@@ -160,11 +135,11 @@ fn source_callee(
     calling: &Calling,
     site: &Site,
     scope: &Scope,
-) -> Result<Callee, NoCore>
-    ensures { IfOk result (λ c. spec.by_source (known_by calling.now) (site_of site.now scope.now) ((known_by calling.now).source (site_of site.now scope.now).callee.name) ≡ Some c) }
+) -> Result<Callee, AllocError>
+    ensures { IfOk result (λ c. c ≡ spec.by_source (known_by calling.now) (site_of site.now scope.now) ((known_by calling.now).source (site_of site.now scope.now).callee.name)) }
 {
     match number_named(calling.functions, site.callee.get().name.get().as_slice()) {
-        Some(number) => body_callee(number),
+        Some(number) => Ok(Callee::Body { function: number }),
         None => declared_callee(alloc, calling, site, scope),
     }
 }
@@ -175,8 +150,8 @@ pub(crate) fn callee_of(
     calling: &Calling,
     site: &Site,
     scope: &Scope,
-) -> Result<Callee, NoCore>
-    ensures { IfOk result (λ c. spec.callee_in (known_by calling.now) (site_of site.now scope.now) ≡ Some c) }
+) -> Result<Callee, AllocError>
+    ensures { IfOk result (λ c. c ≡ spec.callee_in (known_by calling.now) (site_of site.now scope.now)) }
 {
     let name = site.callee.get().name.get().as_slice();
     match log_function(calling.profile, name) {

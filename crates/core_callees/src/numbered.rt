@@ -7,11 +7,11 @@ use c_type_scope::{HasName, Named};
 use plain_data::Shared;
 use std::alloc::{AllocError, Global};
 
-/// A function with a body in the source, and the number of its core, where it has one.
+/// A function with a body in the source, and the number of its core.
 #[derive(Drop)]
 pub struct FunctionNumber {
     pub name: Name,
-    pub number: Option<u32>,
+    pub number: u32,
 }
 
 impl HasName for FunctionNumber {
@@ -38,8 +38,8 @@ pub fn numbered_functions(
     Ok(named)
 }
 
-/// Whether a function of this name has a body in the source, and the number of its core, where it has one.
-pub fn number_named(functions: &Named<FunctionNumber>, name: &[u8]) -> Option<Option<u32>>
+/// The number of the core of this name's function, where it has a body in the source.
+pub fn number_named(functions: &Named<FunctionNumber>, name: &[u8]) -> Option<u32>
     ensures { result ≡ spec.numbers_in functions.now name.now }
 {
     match functions.get(name) {

@@ -1,21 +1,23 @@
 //! Variables that a print shows, in the core.
-ghost use Rattle.std.specs.Prelude.{◌≡◌, ◌++◌, Some, map, IfOk, OnOk};
+ghost use Rattle.std.specs.Prelude.{◌≡◌, ◌++◌, IfOk, OnOk};
 ghost use Rattle.c_means.specs.Runs.{place_in};
 ghost use Rattle.core_callees.specs.Watching as spec;
-ghost use Rattle.elaborate.specs.Types.{integer_type};
 
 use c_language::{Class, Duration, Entry, IntegerKind, Means};
-use core_forms::NoCore;
 use core_programs::PlaceTable;
 use core_tree::{Holder, ValueType, Watched};
 use elaborate::value_type;
 use plain_data::{Items, Shared};
 use std::alloc::{AllocError, Global};
 
-fn stored_as(kind: IntegerKind) -> ValueType
-    ensures { result ≡ integer_type kind }
+/// As what an object of this kind is seen; of what is no integer nothing is.
+fn stored_as(kind: Option<IntegerKind>) -> ValueType
+    ensures { result ≡ spec.stored_in kind }
 {
-    value_type(Class::Integer(kind), 0)
+    match kind {
+        Some(kind) => value_type(Class::Integer(kind), 0),
+        None => ValueType::Void,
+    }
 }
 
 fn holder(places: &PlaceTable, at: u32, duration: Duration) -> Holder
@@ -30,8 +32,19 @@ fn holder(places: &PlaceTable, at: u32, duration: Duration) -> Holder
     }
 }
 
-/// A variable of integer type in the core; another name is none.
-fn watched_variable(places: &PlaceTable, entry: &Entry) -> Option<Watched>
+/// A name that is no object.
+fn unseen(at: u32) -> Watched
+    ensures { result ≡ spec.unseen at }
+{
+    Watched {
+        at,
+        holder: Holder::Local,
+        stored: ValueType::Void,
+    }
+}
+
+/// A variable in the core.
+fn watched_variable(places: &PlaceTable, entry: &Entry) -> Watched
     ensures { result ≡ spec.watched_of (place_in places.now) entry.now }
 {
     let at = entry.at;
@@ -40,18 +53,15 @@ fn watched_variable(places: &PlaceTable, entry: &Entry) -> Option<Watched>
             ctype,
             duration,
             ..
-        } => match ctype.get().kind() {
-            Some(kind) => Some(Watched {
-                at,
-                holder: holder(places, at, *duration),
-                stored: stored_as(kind),
-            }),
-            None => None,
+        } => Watched {
+            at,
+            holder: holder(places, at, *duration),
+            stored: stored_as(ctype.get().kind()),
         },
-        Means::Function { .. } => None,
-        Means::Typedef { .. } => None,
-        Means::Constant { .. } => None,
-        Means::Faulty => None,
+        Means::Function { .. } => unseen(at),
+        Means::Typedef { .. } => unseen(at),
+        Means::Constant { .. } => unseen(at),
+        Means::Faulty => unseen(at),
     }
 }
 
@@ -60,25 +70,22 @@ pub(crate) fn watch(
     places: &PlaceTable,
     entries: &[Shared<Entry>],
     all: &mut Items<Watched>,
-) -> Result<(), NoCore>
-    ensures { OnOk result (map Some all.new ≡ map Some all.old ++ map (spec.watched_of (place_in places.now)) entries.now) }
+) -> Result<(), AllocError>
+    ensures { OnOk result (all.new ≡ all.old ++ spec.all_watched (place_in places.now) entries.now) }
 {
     for entry in entries {
-        match watched_variable(places, entry.get()) {
-            Some(watched) => all.push(watched)?,
-            None => return Err(NoCore::Outside),
-        }
+        all.push(watched_variable(places, entry.get()))?;
     }
     Ok(())
 }
 
-/// Variables that a print shows, in order; there is no core where one isn't an object of integer type.
+/// Variables that a print shows, in order. It fails for want of memory alone.
 pub fn watched_variables(
     alloc: Global,
     places: &PlaceTable,
     entries: &[Shared<Entry>],
-) -> Result<Items<Watched>, NoCore>
-    ensures { IfOk result (λ ws. spec.all_watched (place_in places.now) entries.now ≡ Some ws) }
+) -> Result<Items<Watched>, AllocError>
+    ensures { IfOk result (λ ws. ws ≡ spec.all_watched (place_in places.now) entries.now) }
 {
     let mut all = Items::new(alloc);
     watch(places, entries, &mut all)?;

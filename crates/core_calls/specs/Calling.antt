@@ -1,6 +1,5 @@
 -- What is called in the core, by what is known of the call.
-use Rattle.std.specs.Prelude.{ℕ, ◌-◌, ◌^◌, ◌<◌, Bool, true, false, cond, List, [], ◌++◌, Option, Some, None, option_map}
-use Rattle.std.specs.Str.{bytes_eq}
+use Rattle.std.specs.Prelude.{ℕ, Bool, List, ◌++◌, Option, option_map}
 use Rattle.printf_text.specs.declared.piece.Piece.{Piece}
 use Rattle.printf_text.specs.Pieces.{pieces_of}
 use Rattle.c_language.specs.declared.class.Class.{Class}
@@ -52,8 +51,3 @@ pieces_of_format format = pieces_or_none (pieces_of format)
 abbrev pub log_pieces_of : LogText → List (Option (List ℕ)) → List Piece
 log_pieces_of (text_.Format i newline) texts = pieces_of_format (literal_at texts i) ++ newline_if newline
 log_pieces_of (text_.Text format) texts = pieces_of_format format
-
--- the index of a format leaves one to count
-abbrev pub IsCounted : LogText → Type 0
-IsCounted (text_.Format i newline) = i < 2 ^ 32 - 1
-IsCounted (text_.Text format) = Unit {0}

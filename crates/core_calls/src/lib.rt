@@ -1,5 +1,5 @@
-//! What is called in the core, for calls that are no calls by body: functions of the C library, functions outside, and the
-//! formats of log calls.
+//! What is called in the core, for calls that are no calls by body: functions of the C library, functions outside, and
+//! the formats of log calls.
 #![tactic(auto)]
 
 mod library;

@@ -30,8 +30,8 @@ fn callee_named(name: &[u8]) -> Option<Callee>
     None
 }
 
-/// What a call of a name is that is declared as `exit`, `abort`, `malloc`, `calloc` or `free` with its type. It fails for
-/// want of memory alone.
+/// What a call of a name is that is declared as `exit`, `abort`, `malloc`, `calloc` or `free` with its type. It fails
+/// for want of memory alone.
 pub fn library_callee(
     alloc: Global,
     tables: &Tables,

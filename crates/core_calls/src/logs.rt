@@ -58,12 +58,11 @@ pub fn log_pieces(
 }
 
 /// How many arguments of a log call stand before those of its format.
-pub fn arguments_before(text: &LogText) -> u32
-    requires { spec.IsCounted text.now }
+pub fn arguments_before(text: &LogText) -> u64
     ensures { result ≡ calls.before_format text.now }
 {
     match text {
-        LogText::Format { index, .. } => *index + 1,
+        LogText::Format { index, .. } => u64::from(*index) + 1,
         LogText::Text { .. } => 0,
     }
 }

@@ -44,8 +44,8 @@ fn pointee(tables: &Tables, target: Option<&CType>) -> Pointee
     }
 }
 
-/// What a function outside answers, by the type of its call; where that is a pointer, null may come or not. It fails for
-/// want of memory alone.
+/// What a function outside answers, by the type of its call; where that is a pointer, null may come or not. It fails
+/// for want of memory alone.
 pub fn outside_answer(
     alloc: Global,
     tables: &Tables,

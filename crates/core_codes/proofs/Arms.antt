@@ -1,8 +1,8 @@
 -- What each function of the recursion makes is the core of the statement that it is handed, by the equations that hold
 -- where it ends.
-use Rattle.std.proofs.Common.{◌≡◌, ℕ, ℤ, true, false, List, [], ◌++◌, map, Option, Some, None, refl, sym}
+use Rattle.std.proofs.Common.{◌≡◌, ℕ, ℤ, Bool, true, false, List, [], ◌++◌, map, Option, Some, None, refl, sym}
 use Rattle.std.proofs.Common.{ap, ap₂, ◌∙◌, subst}
-use Rattle.std.specs.Prelude.{option_map, IfSome}
+use Rattle.std.specs.Prelude.{option_map}
 use Rattle.c_language.specs.declared.expr.Expr.{Expr as CExpr}
 use Rattle.c_language.specs.declared.unit.Declaration.{Declaration}
 use Rattle.c_language.specs.declared.unit.ForStart.{ForStart}
@@ -34,7 +34,7 @@ use Rattle.core_codes.specs.declared.pieces.ForBegun.{ForBegun}
 use Rattle.core_codes.specs.declared.pieces.IfBegun.{IfBegun}
 use Rattle.core_codes.specs.Made.{IsMade, IsContent, IsSub, MaybeSub, IsIfBegun}
 use Rattle.core_codes.specs.Parts.{IsValued, IsBegun, IsForBegun, MaybeWorth, MaybeDone, alone, bare, effect_node}
-use Rattle.core_codes.specs.Parts.{return_node, code_if, settings_if, Wraps, same_cases, IsCase}
+use Rattle.core_codes.specs.Parts.{return_node, code_if, settings_if, labeled_made, case_made}
 use Rattle.core_codes.proofs.LoopParts.{declaration_gives_none, begun_gives_none}
 use Rattle.core_codes.proofs.Forms.{within, on_block, on_compound_content, on_other_content, on_sub, on_value}
 use Rattle.core_codes.proofs.Forms.{on_return, on_goto, on_continue, on_break, on_label, on_default, on_case, on_if}
@@ -43,29 +43,36 @@ use Rattle.core_codes.proofs.Forms.{for_node}
 
 -- ---- what is no compound statement is one item of its block
 
-abbrev IsOther : Stmt → Type 0
-IsOther x = ((at : ℕ) (items : List Stmt) → x ≡ tree.Block at items → ⊥) → (stmt x).content ≡ (stmt x).here
+record OneItem (x : Stmt) : Type 0 where
+  content : (stmt x).content ≡ (stmt x).here
+  block : (stmt x).is_block ≡ false
 
-by_step : (x : Stmt) (k : runs.Code) → stmt x ≡ k → k.content ≡ k.here → (stmt x).content ≡ (stmt x).here
-by_step x k e h = ap (λ (k : runs.Code). k.content) e ∙ h ∙ sym (ap (λ (k : runs.Code). k.here) e)
+abbrev IsOther : Stmt → Type 0
+IsOther x = ((at : ℕ) (items : List Stmt) → x ≡ tree.Block at items → ⊥) → OneItem x
+
+by_step : (x : Stmt) (k : runs.Code) → stmt x ≡ k → k.content ≡ k.here → k.is_block ≡ false → OneItem x
+by_step x k e h b = record {
+  content = ap (λ (k : runs.Code). k.content) e ∙ h ∙ sym (ap (λ (k : runs.Code). k.here) e);
+  block = ap (λ (k : runs.Code). k.is_block) e ∙ b;
+}
 
 others : StmtSteps IsOther
 others = record {
   on_block = λ at items _ different. absurd (different at items refl);
-  on_declared = λ d different. by_step _ _ (eq.does-Declared d) refl;
-  on_value = λ at value different. by_step _ _ (eq.does-Value at value) refl;
-  on_label = λ at name body _ different. by_step _ _ (eq.does-Label at name body) refl;
-  on_case = λ at value body _ different. by_step _ _ (eq.does-Case at value body) refl;
-  on_default = λ at body _ different. by_step _ _ (eq.does-Default at body) refl;
-  on_if = λ at condition positive negative _ _ different. by_step _ _ (eq.does-If at condition positive negative) refl;
-  on_switch = λ at value body _ different. by_step _ _ (eq.does-Switch at value body) refl;
-  on_while = λ at condition body _ different. by_step _ _ (eq.does-While at condition body) refl;
-  on_do = λ at body condition _ different. by_step _ _ (eq.does-Do at body condition) refl;
-  on_for = λ at start condition step body _ different. by_step _ _ (eq.does-For at start condition step body) refl;
-  on_goto = λ at name different. by_step _ _ (eq.does-Goto at name) refl;
-  on_continue = λ at different. by_step _ _ (eq.does-Continue at) refl;
-  on_break = λ at different. by_step _ _ (eq.does-Break at) refl;
-  on_return = λ at value different. by_step _ _ (eq.does-Return at value) refl;
+  on_declared = λ d different. by_step _ _ (eq.does-Declared d) refl refl;
+  on_value = λ at value different. by_step _ _ (eq.does-Value at value) refl refl;
+  on_label = λ at name body _ different. by_step _ _ (eq.does-Label at name body) refl refl;
+  on_case = λ at value body _ different. by_step _ _ (eq.does-Case at value body) refl refl;
+  on_default = λ at body _ different. by_step _ _ (eq.does-Default at body) refl refl;
+  on_if = λ at condition positive negative _ _ different. by_step _ _ (eq.does-If at condition positive negative) refl refl;
+  on_switch = λ at value body _ different. by_step _ _ (eq.does-Switch at value body) refl refl;
+  on_while = λ at condition body _ different. by_step _ _ (eq.does-While at condition body) refl refl;
+  on_do = λ at body condition _ different. by_step _ _ (eq.does-Do at body condition) refl refl;
+  on_for = λ at start condition step body _ different. by_step _ _ (eq.does-For at start condition step body) refl refl;
+  on_goto = λ at name different. by_step _ _ (eq.does-Goto at name) refl refl;
+  on_continue = λ at different. by_step _ _ (eq.does-Continue at) refl refl;
+  on_break = λ at different. by_step _ _ (eq.does-Break at) refl refl;
+  on_return = λ at value different. by_step _ _ (eq.does-Return at value) refl refl;
 }
 
 abbrev if_made : ℕ → IfBegun → Option SubBlock → Made
@@ -108,13 +115,13 @@ module _ (numbering : Numbering) (x : Context) (s : Scope) where
 
   pub of_label : (st : Stmt) (at : ℕ) (name : Name) (b b' : Stmt) (body y : Made) (t : Scope)
       → st ≡ tree.Label at name b → b' ≡ b → IsMade numbering x s (stmt b').here body t
-      → Wraps (code.Label name) same_cases body y → IsMade numbering x s (stmt st).here y t
+      → y ≡ labeled_made (code.Label name) body.cases body → IsMade numbering x s (stmt st).here y t
   of_label st at name b b' body y t is c h w = as_form st (statements.labeled at name (stmt b')) y t
       (ap stmt is ∙ eq.does-Label at name b ∙ ap (λ b. statements.labeled at name (stmt b)) (sym c))
       (on_label numbering x s at name (stmt b') body y t h w)
 
   pub of_default : (st : Stmt) (at : ℕ) (b b' : Stmt) (body y : Made) (t : Scope) → st ≡ tree.Default at b
-      → b' ≡ b → IsMade numbering x s (stmt b').here body t → Wraps code.Default same_cases body y
+      → b' ≡ b → IsMade numbering x s (stmt b').here body t → y ≡ labeled_made code.Default body.cases body
       → IsMade numbering x s (stmt st).here y t
   of_default st at b b' body y t is c h w = as_form st (statements.default_labeled at (stmt b')) y t
       (ap stmt is ∙ eq.does-Default at b ∙ ap (λ b. statements.default_labeled at (stmt b)) (sym c))
@@ -245,8 +252,16 @@ module _ (numbering : Numbering) (x : Context) (s : Scope) where
       → z ≡ body_of false made
       → IsContent numbering x s (stmt st).content z t
   other_content st made z t different h made_of =
-      subst (λ f. IsContent numbering x s f z t) (sym (of_stmt IsOther others st different))
+      subst (λ f. IsContent numbering x s f z t) (sym (of_stmt IsOther others st different).content)
       (on_other_content numbering x s (stmt st).here made z t h made_of)
+
+  pub block_is : (st : Stmt) (at : ℕ) (items : List Stmt) (b : Bool) → st ≡ tree.Block at items → b ≡ true
+      → b ≡ (stmt st).is_block
+  block_is st at items b is e = e ∙ sym (ap (λ (k : runs.Code). k.is_block) (ap stmt is ∙ eq.does-Block at items))
+
+  pub other_is : (st : Stmt) (b : Bool) → ((at : ℕ) (items : List Stmt) → st ≡ tree.Block at items → ⊥) → b ≡ false
+      → b ≡ (stmt st).is_block
+  other_is st b different e = e ∙ sym (of_stmt IsOther others st different).block
 
   pub a_sub : (st : Stmt) (x' : Context) (s' : Scope) (z : Body) (y : SubBlock) (t w : Scope) → x' ≡ within x
       → s' ≡ enter s → IsContent numbering x' s' (stmt st).content z t → w ≡ leave t
@@ -314,8 +329,7 @@ module _ (numbering : Numbering) (x : Context) (s : Scope) where
   -- `case`, whose expression is evaluated in no run
   pub a_case : (at : ℕ) (f : ExprNoted) (v : Valued) (t : Scope) (o : Option ℤ) (b : runs.Code) (body y : Made)
       (u : Scope) → IsValued numbering v (f s) t
-      → IfSome o (λ z. Some z ≡ statements.case_value x.compared (value_in v.told.shown))
-      → IsMade numbering x t b.here body u → IsCase o v.value body y
+      → o ≡ statements.case_value x.compared (value_in v.told.shown)
+      → IsMade numbering x t b.here body u → y ≡ case_made o v.value body
       → IsMade numbering x s (statements.case_labeled at f b).here y u
-  a_case at f v t None b body y u g q h w = absurd w
-  a_case at f v t (Some z) b body y u g q h w = on_case numbering x s at f v t z b body y u g q h w
+  a_case at f v t o b body y u g q h w = on_case numbering x s at f v t o b body y u g q h w

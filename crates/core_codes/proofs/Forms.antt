@@ -7,7 +7,7 @@ use Rattle.c_language.specs.Scopes.{Name, Scope, enter, leave}
 use Rattle.c_language.specs.Typing.{type_in, value_in, used_told}
 use Rattle.c_means.specs.Operators.{kind_in}
 use Rattle.c_means.specs.Notes.{Noted, ExprNoted}
-use Rattle.c_means.specs.Items.{Item, Case, Label, at_case}
+use Rattle.c_means.specs.Items.{Item, Case, Label}
 use Rattle.c_means.specs.Items as runs
 use Rattle.c_means.specs.Statements as statements
 use Rattle.core_tree.specs.declared.code.Code.{Code}
@@ -17,13 +17,13 @@ use Rattle.core_tree.specs.declared.expr.Expr.TheVariants as expr
 use Rattle.core_tree.specs.declared.program.LastingSetting.{LastingSetting}
 use Rattle.elaborate.specs.Means.{Numbering, IsValueOf, IsCodeOf}
 use Rattle.elaborate.specs.Types.{word_type}
-use Rattle.elaborate.proofs.Codes.{bare_return_code, label_code, case_code, default_code, if_code, while_code, do_code}
+use Rattle.elaborate.proofs.Codes.{bare_return_code, if_code, while_code, do_code}
 use Rattle.elaborate.proofs.Codes.{no_item, goto_code, continue_code, break_code}
 use Rattle.code_forms.specs.Nodes.{negative_node}
 use Rattle.code_forms.specs.Contents.{AreCodesOf, value_if, case_values}
 use Rattle.code_forms.proofs.Statements.{returned_code, compound_code, content_code, bare_if_code, switch_content}
 use Rattle.code_forms.proofs.Statements.{turns_code, for_code}
-use Rattle.code_forms.proofs.Turns.{alone_codes, only_code, joined_codes}
+use Rattle.code_forms.proofs.Turns.{alone_codes, joined_codes}
 use Rattle.core_codes.specs.declared.context.Context.{Context}
 use Rattle.core_codes.specs.declared.made.Body.{Body}
 use Rattle.core_codes.specs.declared.made.Made.{Made}
@@ -33,9 +33,10 @@ use Rattle.core_codes.specs.declared.pieces.ForBegun.{ForBegun}
 use Rattle.core_codes.specs.declared.pieces.IfBegun.{IfBegun}
 use Rattle.core_codes.specs.Made.{Around, context_in, Returns, IsMade, IsContent, IsSub, IsIfBegun, joined}
 use Rattle.core_codes.specs.Parts.{IsValued, IsForBegun, MaybeWorth, MaybeDone, alone, bare, effect_node, return_node}
-use Rattle.core_codes.specs.Parts.{Wraps, same_cases, and_case}
+use Rattle.core_codes.specs.Parts.{or_nothing, round_first, labeled_made, case_made}
 use Rattle.core_codes.specs.Settings.{AreAllSet}
 use Rattle.core_codes.proofs.Settings.{none_set, none_set_of, both_set, set_alone, loop_set}
+use Rattle.core_codes.proofs.Labels.{label_first, default_first, case_first}
 use Rattle.core_codes.proofs.LoopParts.{tested, stepped, first_after, effect_code, value_has_none, test_has_none}
 
 -- a block within, and more labels
@@ -201,68 +202,67 @@ module _ (numbering : Numbering) (x : Context) (s : Scope) where
 
   -- ---- labeled statements
 
-  -- the one code of a statement
-  the_one : (f : runs.Context → Item) (c : Code) (zs : List ℤ) (xs : List LastingSetting) (t : Scope)
-      → IsMade numbering x s f (alone c zs xs) t → (a : Around) → Returns x a
-      → IsCodeOf numbering c (f (context_in x s a))
-  the_one f c zs xs t h a r = only_code numbering c (f (context_in x s a)) (h.codes a r)
+  -- a labeled statement, whose label stands at the first of its items
+  labeled_made_is : (f : runs.Context → Item) (g : Code → Code) (zs : List ℤ) (body y : Made) (t : Scope)
+      → y ≡ labeled_made g zs body
+      → ((a : Around) → Returns x a → AreCodesOf numbering (round_first g (or_nothing body.codes)) (f (context_in x s a)))
+      → ((a : Around) → Returns x a → zs ≡ case_values (f (context_in x s a)).cases)
+      → ((a : Around) → Returns x a → AreAllSet numbering body.settings (f (context_in x s a)).lasting)
+      → ((a : Around) → Returns x a → t ≡ (f (context_in x s a)).after) → IsMade numbering x s f y t
+  labeled_made_is f g zs body y t is h c k r =
+      subst (λ y. IsMade numbering x s f y t) (sym is) (record { codes = h; cases = c; lasting = k; after = r })
 
   pub on_label : (at : ℕ) (name : Name) (b : runs.Code) (body y : Made) (t : Scope)
-      → IsMade numbering x s b.here body t → Wraps (code.Label name) same_cases body y
+      → IsMade numbering x s b.here body t → y ≡ labeled_made (code.Label name) body.cases body
       → IsMade numbering x s (statements.labeled at name b).here y t
-  on_label at name b body y t h w =
-      let g = subst (λ m. IsMade numbering x s b.here m t) w.is_one h in
-      one_made (statements.labeled at name b).here y (code.Label name w.inner) w.given w.settings t w.is
-      (λ a r. let c = label_code numbering at name [] w.inner (b.here (context_in x s a))
-      (the_one b.here w.inner w.given w.settings t g a r) in
+  on_label at name b body y t h is =
+      labeled_made_is (statements.labeled at name b).here (code.Label name) body.cases body y t is
+      (λ a r. let c = label_first numbering name body.codes (b.here (context_in x s a)) (h.codes a r) in
       record { size = c.size; room = c.room; objects = c.objects; runs = c.runs })
-      g.cases g.lasting g.after
+      h.cases h.lasting h.after
 
   pub on_default : (at : ℕ) (b : runs.Code) (body y : Made) (t : Scope) → IsMade numbering x s b.here body t
-      → Wraps code.Default same_cases body y → IsMade numbering x s (statements.default_labeled at b).here y t
-  on_default at b body y t h w =
-      let g = subst (λ m. IsMade numbering x s b.here m t) w.is_one h in
-      one_made (statements.default_labeled at b).here y (code.Default w.inner) w.given w.settings t w.is
-      (λ a r. let c = default_code numbering at [] w.inner (b.here (context_in x s a))
-      (the_one b.here w.inner w.given w.settings t g a r) in
+      → y ≡ labeled_made code.Default body.cases body → IsMade numbering x s (statements.default_labeled at b).here y t
+  on_default at b body y t h is =
+      labeled_made_is (statements.default_labeled at b).here code.Default body.cases body y t is
+      (λ a r. let c = default_first numbering body.codes (b.here (context_in x s a)) (h.codes a r) in
       record { size = c.size; room = c.room; objects = c.objects; runs = c.runs })
-      g.cases g.lasting g.after
+      h.cases h.lasting h.after
 
   -- a case, by its value as the `switch` compares it
   abbrev case_with : ℕ → Noted → Option ℤ → runs.Code → runs.Context → Item
   case_with at n o b c =
       let i = runs.with_breaches (statements.case_breaches at n c)
-      (statements.case_of at o (b.here (runs.in_scope n.part.typed.after c))) in
-      record i { calls = n.notes.calls ++ i.calls; size = λ l. 1 + (n.part.size l + i.size l) }
+      (statements.case_of at n o (b.here (runs.in_scope n.part.typed.after c))) in
+      record i { calls = n.notes.calls ++ i.calls }
 
-  -- by the value that it has
-  valued_case : (at : ℕ) (n : Noted) (z : ℤ) (e : Expr) (b : runs.Code) (body y : Made) (t : Scope)
+  valued_case : (at : ℕ) (n : Noted) (o : Option ℤ) (e : Expr) (b : runs.Code) (body y : Made) (t : Scope)
       → IsValueOf numbering e n.part → IsMade numbering x n.part.typed.after b.here body t
-      → Wraps (code.Case z e) (and_case z) body y → IsMade numbering x s (case_with at n (Some z) b) y t
-  valued_case at n z e b body y t g h w =
-      let m = subst (λ m. IsMade numbering x n.part.typed.after b.here m t) w.is_one h in
-      one_made (case_with at n (Some z) b) y (code.Case z e w.inner) (z ∷ w.given) w.settings t w.is
-      (λ a r. case_as a
-      (case_code numbering z e n.part w.inner (b.here (context_in x n.part.typed.after a)) g
-      (only_code numbering w.inner (b.here (context_in x n.part.typed.after a)) (m.codes a r))))
-      (λ a r. ap (λ zs. z ∷ zs) (m.cases a r)) m.lasting m.after
-    where
-      case_as : (a : Around) → IsCodeOf numbering (code.Case z e w.inner)
-          (record (statements.arrived (at_case (Some z)) (b.here (context_in x n.part.typed.after a))) {
-            size = λ l. 1 + (n.part.size l + (b.here (context_in x n.part.typed.after a)).size l);
-          })
-          → IsCodeOf numbering (code.Case z e w.inner) (case_with at n (Some z) b (context_in x s a))
-      case_as a c = record { size = c.size; room = c.room; objects = c.objects; runs = c.runs }
+      → y ≡ case_made o e body → IsMade numbering x s (case_with at n o b) y t
+  valued_case at n None e b body y t g h is =
+      subst (λ y. IsMade numbering x s (case_with at n None b) y t) (sym is) (record {
+        codes = λ a r. let c = h.codes a r in
+            record { size = c.size; room = c.room; objects = c.objects; runs = c.runs };
+        cases = h.cases;
+        lasting = h.lasting;
+        after = h.after;
+      })
+  valued_case at n (Some z) e b body y t g h is =
+      labeled_made_is (case_with at n (Some z) b) (code.Case z e) (z ∷ body.cases) body y t is
+      (λ a r. let c = case_first numbering z e n.part body.codes (b.here (context_in x n.part.typed.after a)) g
+      (h.codes a r) in
+      record { size = c.size; room = c.room; objects = c.objects; runs = c.runs })
+      (λ a r. ap (λ zs. z ∷ zs) (h.cases a r)) h.lasting h.after
 
-  pub on_case : (at : ℕ) (f : ExprNoted) (v : Valued) (t : Scope) (z : ℤ) (b : runs.Code) (body y : Made) (u : Scope)
-      → IsValued numbering v (f s) t → Some z ≡ statements.case_value x.compared (value_in v.told.shown)
-      → IsMade numbering x t b.here body u → Wraps (code.Case z v.value) (and_case z) body y
+  pub on_case : (at : ℕ) (f : ExprNoted) (v : Valued) (t : Scope) (o : Option ℤ) (b : runs.Code) (body y : Made)
+      (u : Scope) → IsValued numbering v (f s) t → o ≡ statements.case_value x.compared (value_in v.told.shown)
+      → IsMade numbering x t b.here body u → y ≡ case_made o v.value body
       → IsMade numbering x s (statements.case_labeled at f b).here y u
-  on_case at f v t z b body y u g q h w =
+  on_case at f v t o b body y u g q h is =
       let compared = q ∙ ap (λ (d : Told). statements.case_value x.compared (value_in d.shown)) g.told in
       let m = subst (λ o. IsMade numbering x s (case_with at (f s) o b) y u) compared
-      (valued_case at (f s) z v.value b body y u g.value
-      (subst (λ t. IsMade numbering x t b.here body u) g.after h) w) in
+      (valued_case at (f s) o v.value b body y u g.value
+      (subst (λ t. IsMade numbering x t b.here body u) g.after h) is) in
       record { codes = m.codes; cases = m.cases; lasting = m.lasting; after = m.after }
 
   -- ---- selection

@@ -1,5 +1,6 @@
 pub mod Settings
 pub mod LoopParts
+pub mod Labels
 pub mod Forms
 pub mod InTurn
 pub mod Arms

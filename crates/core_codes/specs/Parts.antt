@@ -101,21 +101,24 @@ abbrev pub return_node : ValueType → Option Expr → Code
 return_node t None = code.Return None
 return_node t (Some e) = code.Return (Some (expr.Convert t e))
 
--- a labeled statement: round the one code of its body, with more cases
-pub record Wraps (f : Code → Code) (g : List ℤ → List ℤ) (body y : Made) : Type 0 where
-  pub inner : Code
-  pub given : List ℤ
-  pub settings : List LastingSetting
-  pub is_one : body ≡ alone inner given settings
-  pub is : y ≡ alone (f inner) (g given) settings
+-- items, of which there is one that does nothing where there is no other
+abbrev pub or_nothing : List Code → List Code
+or_nothing [] = code.Nothing false ∷ []
+or_nothing (c ∷ cs) = c ∷ cs
 
-abbrev pub same_cases : List ℤ → List ℤ
-same_cases zs = zs
+-- a labeled statement: round the first of its items
+abbrev pub round_first : (Code → Code) → List Code → List Code
+round_first f [] = []
+round_first f (c ∷ cs) = f c ∷ cs
 
-abbrev pub and_case : ℤ → List ℤ → List ℤ
-and_case z zs = z ∷ zs
+abbrev pub labeled_made : (Code → Code) → List ℤ → Made → Made
+labeled_made f cases body = record {
+  codes = round_first f (or_nothing body.codes);
+  cases = cases;
+  settings = body.settings;
+}
 
--- a case of a value, which it must have
-abbrev pub IsCase : Option ℤ → Expr → Made → Made → Type 0
-IsCase None e body y = ⊥
-IsCase (Some z) e body y = Wraps (code.Case z e) (and_case z) body y
+-- a case without value is the statement behind it
+abbrev pub case_made : Option ℤ → Expr → Made → Made
+case_made None e body = body
+case_made (Some z) e body = labeled_made (code.Case z e) (z ∷ body.cases) body

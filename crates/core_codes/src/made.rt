@@ -1,8 +1,8 @@
 //! What is made of a statement.
-ghost use Rattle.std.specs.Prelude.{◌≡◌, [], ◌∷◌, IfOk, IfSome};
+ghost use Rattle.std.specs.Prelude.{◌≡◌, [], ◌∷◌, IfOk};
 ghost use Rattle.core_tree.specs.declared.code.Code.TheVariants as core_code;
 ghost use Rattle.core_codes.specs.Made.{joined};
-ghost use Rattle.core_codes.specs.Parts.{alone, bare};
+ghost use Rattle.core_codes.specs.Parts.{alone, bare, or_nothing};
 
 use code_forms::{Content, substatement};
 use core_tree::{Code, LastingSetting};
@@ -31,14 +31,6 @@ pub struct Body {
 #[derive(Drop)]
 pub(crate) struct SubBlock {
     pub code: Shared<Code>,
-    pub settings: Items<LastingSetting>,
-}
-
-/// One item, as a statement is: its code, the cases that it gives, and what is set in it.
-#[derive(Drop)]
-pub(crate) struct Single {
-    pub code: Shared<Code>,
-    pub cases: Items<i128>,
     pub settings: Items<LastingSetting>,
 }
 
@@ -125,25 +117,6 @@ impl Made {
         };
         Body { content, settings }
     }
-
-    /// The only item: a statement is one.
-    pub(crate) fn only(self) -> Option<Single>
-        ensures { IfSome result (λ x. self ≡ alone x.code x.cases x.settings) }
-    {
-        let Made {
-            mut codes,
-            cases,
-            settings,
-        } = self;
-        match codes.pop() {
-            Some(code) if codes.is_empty() => Some(Single {
-                code,
-                cases,
-                settings,
-            }),
-            _ => None,
-        }
-    }
 }
 
 impl SubBlock {
@@ -155,6 +128,37 @@ impl SubBlock {
         let code = substatement(alloc, content)?;
         Ok(SubBlock { code, settings })
     }
+}
+
+/// The first of these codes, which does nothing where there is none, and those behind it. It fails for want of memory
+/// alone.
+pub(crate) fn parted(
+    alloc: Global,
+    codes: Items<Shared<Code>>,
+) -> Result<(Shared<Code>, Items<Shared<Code>>), AllocError>
+    ensures { IfOk result (λ x. x.0 ∷ x.1 ≡ or_nothing codes) }
+{
+    let mut codes = codes;
+    if codes.is_empty() {
+        let first = Shared::new(alloc, Code::Nothing { is_node: false })?;
+        return Ok((first, codes));
+    }
+    let first = codes.remove(0);
+    Ok((first, codes))
+}
+
+/// A code, and others behind it. It fails for want of memory alone.
+pub(crate) fn led(
+    alloc: Global,
+    first: Shared<Code>,
+    codes: Items<Shared<Code>>,
+) -> Result<Items<Shared<Code>>, AllocError>
+    ensures { IfOk result (λ all. all ≡ first ∷ codes) }
+{
+    let mut all = Items::new(alloc);
+    all.push(first)?;
+    all.append(codes)?;
+    Ok(all)
 }
 
 /// The values of a case and of those behind it. It fails for want of memory alone.

@@ -7,10 +7,9 @@ ghost use Rattle.core_codes.specs.Parts as spec;
 use c_language as tree;
 use c_language::Told;
 use c_type_scope::Scope;
-use core_forms::NoCore;
 use core_tree::{Code, Expr, LastingSetting};
 use plain_data::{Items, Shared};
-use std::alloc::Global;
+use std::alloc::{AllocError, Global};
 
 /// An expression whose value is used: what the types say of it as it stands, and the core of its value.
 #[derive(Drop)]
@@ -35,7 +34,7 @@ pub trait Parts {
     ghost numbering: { Self → Numbering };
 
     /// An expression whose value is used.
-    fn value(&self, alloc: Global, expr: &tree::Expr, scope: &mut Scope) -> Result<Valued, NoCore>
+    fn value(&self, alloc: Global, expr: &tree::Expr, scope: &mut Scope) -> Result<Valued, AllocError>
         ensures { IfOk result (λ y. spec.IsValued (numbering self.now) y (notes.noted expr.now scope.old) scope.new) };
 
     /// An expression whose value isn't used.
@@ -44,7 +43,7 @@ pub trait Parts {
         alloc: Global,
         expr: &tree::Expr,
         scope: &mut Scope,
-    ) -> Result<Shared<Expr>, NoCore>
+    ) -> Result<Shared<Expr>, AllocError>
         ensures { IfOk result (λ y. spec.IsDone (numbering self.now) y (notes.noted expr.now scope.old) scope.new) };
 
     /// A declaration in a block: several declarators are several items.
@@ -53,6 +52,6 @@ pub trait Parts {
         alloc: Global,
         declaration: &tree::Declaration,
         scope: &mut Scope,
-    ) -> Result<Begun, NoCore>
+    ) -> Result<Begun, AllocError>
         ensures { IfOk result (λ y. spec.IsBegun (numbering self.now) y (form.declaration declaration.now scope.old) scope.new) };
 }

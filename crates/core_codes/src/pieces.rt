@@ -1,5 +1,5 @@
 //! Statements without substatements, and the parts of those with some.
-ghost use Rattle.std.specs.Prelude.{◌≡◌, true, false, [], ◌∷◌, ◌++◌, Some, None, IfOk, IfSome, option_map};
+ghost use Rattle.std.specs.Prelude.{◌≡◌, true, false, [], ◌∷◌, ◌++◌, Some, None, IfOk, option_map};
 ghost use Rattle.c_means.specs.Notes.{noted};
 ghost use Rattle.c_means.specs.Statements as form;
 ghost use Rattle.c_language.specs.Typing.{type_in, value_in, used_told};
@@ -11,13 +11,12 @@ ghost use Rattle.core_codes.specs.Parts as spec;
 ghost use Rattle.core_codes.specs.Parts.{alone, bare};
 
 use crate::context::Context;
-use crate::made::{Body, Made, SubBlock, in_front};
+use crate::made::{Body, Made, SubBlock, in_front, led, parted};
 use crate::parts::{Begun, Parts, Valued};
 use c_language as tree;
 use c_language::{ForStart, IntegerKind, Name, Tables, Told};
 use c_type_forms as forms;
 use c_type_scope::Scope;
-use core_forms::NoCore;
 use core_tree::{Code, Expr, LastingSetting};
 use plain_data::{Items, Shared};
 use std::alloc::{AllocError, Global};
@@ -28,7 +27,7 @@ pub(crate) fn maybe_value<P: Parts>(
     parts: &P,
     value: &Option<Shared<tree::Expr>>,
     scope: &mut Scope,
-) -> Result<Option<Shared<Expr>>, NoCore>
+) -> Result<Option<Shared<Expr>>, AllocError>
     ensures { IfOk result (λ y. spec.MaybeWorth (P.numbering parts.now) y (option_map noted value.now) scope.old scope.new) }
 {
     match value {
@@ -46,7 +45,7 @@ pub(crate) fn maybe_effect<P: Parts>(
     parts: &P,
     value: &Option<Shared<tree::Expr>>,
     scope: &mut Scope,
-) -> Result<Option<Shared<Expr>>, NoCore>
+) -> Result<Option<Shared<Expr>>, AllocError>
     ensures { IfOk result (λ y. spec.MaybeDone (P.numbering parts.now) y (option_map noted value.now) scope.old scope.new) }
 {
     match value {
@@ -56,7 +55,7 @@ pub(crate) fn maybe_effect<P: Parts>(
 }
 
 /// The first part of a `for` that is an expression.
-fn first_value(alloc: Global, value: Option<Shared<Expr>>) -> Result<Begun, NoCore>
+fn first_value(alloc: Global, value: Option<Shared<Expr>>) -> Result<Begun, AllocError>
     ensures { IfOk result (λ y. y ≡ spec.first_begun value) }
 {
     let mut codes = Items::new(alloc);
@@ -73,7 +72,7 @@ fn begun_by<P: Parts>(
     parts: &P,
     start: &ForStart,
     scope: &mut Scope,
-) -> Result<Begun, NoCore>
+) -> Result<Begun, AllocError>
     ensures { IfOk result (λ y. spec.IsBegun (P.numbering parts.now) y (form.begun_by start.now scope.old) scope.new) }
 {
     match start {
@@ -101,7 +100,7 @@ pub(crate) fn for_begun<P: Parts>(
     condition: &Option<Shared<tree::Expr>>,
     step: &Option<Shared<tree::Expr>>,
     scope: &mut Scope,
-) -> Result<ForBegun, NoCore>
+) -> Result<ForBegun, AllocError>
     ensures { IfOk result (λ y. spec.IsForBegun (P.numbering parts.now) scope.old (form.begun_by start.now) (option_map noted condition.now) (option_map noted step.now) y scope.new) }
 {
     let first = begun_by(alloc, parts, start, scope)?;
@@ -122,7 +121,7 @@ pub(crate) struct IfBegun {
 }
 
 /// A declaration, of these items. It takes no memory.
-pub(crate) fn declared_made(alloc: Global, begun: Begun) -> Result<Made, NoCore>
+pub(crate) fn declared_made(alloc: Global, begun: Begun) -> Result<Made, AllocError>
     ensures { IfOk result (λ y. y ≡ record { codes = begun.codes; cases = []; settings = begun.settings }) }
 {
     let Begun { codes, settings } = begun;
@@ -134,7 +133,7 @@ pub(crate) fn declared_made(alloc: Global, begun: Begun) -> Result<Made, NoCore>
 }
 
 /// `value;`, and `;` alone.
-pub(crate) fn effect_made(alloc: Global, value: Option<Shared<Expr>>) -> Result<Made, NoCore>
+pub(crate) fn effect_made(alloc: Global, value: Option<Shared<Expr>>) -> Result<Made, AllocError>
     ensures { IfOk result (λ y. y ≡ bare (spec.effect_node value)) }
 {
     let code = match value {
@@ -149,7 +148,7 @@ pub(crate) fn return_made(
     alloc: Global,
     x: Context,
     value: Option<Shared<Expr>>,
-) -> Result<Made, NoCore>
+) -> Result<Made, AllocError>
     ensures { IfOk result (λ y. y ≡ bare (spec.return_node x.returned value)) }
 {
     let code = match value {
@@ -159,21 +158,21 @@ pub(crate) fn return_made(
     Ok(Made::one(alloc, code)?)
 }
 
-pub(crate) fn goto_made(alloc: Global, name: &Name) -> Result<Made, NoCore>
+pub(crate) fn goto_made(alloc: Global, name: &Name) -> Result<Made, AllocError>
     ensures { IfOk result (λ y. y ≡ bare (code.Goto name.now)) }
 {
     let code = code_forms::goto_label(alloc, name.clone()?)?;
     Ok(Made::one(alloc, code)?)
 }
 
-pub(crate) fn continue_made(alloc: Global) -> Result<Made, NoCore>
+pub(crate) fn continue_made(alloc: Global) -> Result<Made, AllocError>
     ensures { IfOk result (λ y. y ≡ bare code.Continue) }
 {
     let code = code_forms::continue_loop(alloc)?;
     Ok(Made::one(alloc, code)?)
 }
 
-pub(crate) fn break_made(alloc: Global) -> Result<Made, NoCore>
+pub(crate) fn break_made(alloc: Global) -> Result<Made, AllocError>
     ensures { IfOk result (λ y. y ≡ bare code.Break) }
 {
     let code = code_forms::break_out(alloc)?;
@@ -181,82 +180,103 @@ pub(crate) fn break_made(alloc: Global) -> Result<Made, NoCore>
 }
 
 /// A compound statement of these items.
-pub(crate) fn compound_made(alloc: Global, items: Made) -> Result<Made, NoCore>
+pub(crate) fn compound_made(alloc: Global, items: Made) -> Result<Made, AllocError>
     ensures { IfOk result (λ y. y ≡ alone (code.Block true items.codes) [] items.settings) }
 {
     let code = code_forms::compound(alloc, items.codes)?;
     Ok(Made::with_settings(alloc, code, items.settings)?)
 }
 
-/// A label, in front of a statement. What has several items is no statement, and has no core behind a label.
-pub(crate) fn label_made(alloc: Global, name: &Name, body: Made) -> Result<Made, NoCore>
-    ensures { IfOk result (λ y. spec.Wraps (code.Label name.now) spec.same_cases body y) }
+/// A label, in front of a statement: it stands at the first of its items. It fails for want of memory alone.
+pub(crate) fn label_made(alloc: Global, name: &Name, body: Made) -> Result<Made, AllocError>
+    ensures { IfOk result (λ y. y ≡ spec.labeled_made (code.Label name.now) body.cases body) }
 {
-    match body.only() {
-        Some(body) => {
-            let code = code_forms::label(alloc, name.clone()?, body.code)?;
-            Ok(Made::with_cases(alloc, code, body.cases, body.settings)?)
-        }
-        None => Err(NoCore::Outside),
-    }
+    let Made {
+        codes,
+        cases,
+        settings,
+    } = body;
+    let (first, codes) = parted(alloc, codes)?;
+    let code = code_forms::label(alloc, name.clone()?, first)?;
+    let codes = led(alloc, code, codes)?;
+    Ok(Made {
+        codes,
+        cases,
+        settings,
+    })
 }
 
-/// `default`, in front of a statement.
-pub(crate) fn default_made(alloc: Global, body: Made) -> Result<Made, NoCore>
-    ensures { IfOk result (λ y. spec.Wraps code.Default spec.same_cases body y) }
+/// `default`, in front of a statement. It fails for want of memory alone.
+pub(crate) fn default_made(alloc: Global, body: Made) -> Result<Made, AllocError>
+    ensures { IfOk result (λ y. y ≡ spec.labeled_made code.Default body.cases body) }
 {
-    match body.only() {
-        Some(body) => {
-            let code = code_forms::default_label(alloc, body.code)?;
-            Ok(Made::with_cases(alloc, code, body.cases, body.settings)?)
-        }
-        None => Err(NoCore::Outside),
-    }
+    let Made {
+        codes,
+        cases,
+        settings,
+    } = body;
+    let (first, codes) = parted(alloc, codes)?;
+    let code = code_forms::default_label(alloc, first)?;
+    let codes = led(alloc, code, codes)?;
+    Ok(Made {
+        codes,
+        cases,
+        settings,
+    })
 }
 
-/// The value of a `case` as its `switch` compares it: it stands in the block of one, and its expression is constant (C99
-/// 6.8.1p2, 6.8.4.2p3).
+/// The value of a `case` as its `switch` compares it, where its expression is constant (C99 6.8.4.2p3); outside of one
+/// its own (C99 6.8.1p2).
 pub(crate) fn case_constant(x: Context, told: &Told) -> Option<i128>
-    ensures { IfSome result (λ z. Some z ≡ form.case_value x.compared (value_in told.now.shown)) }
+    ensures { result ≡ form.case_value x.compared (value_in told.now.shown) }
 {
+    let constant = match &told.shown {
+        Some(shown) => shown.value?,
+        None => return None,
+    };
     match x.compared {
-        Some(compared) => match &told.shown {
-            Some(shown) => match shown.value {
-                Some(constant) => Some(code_forms::case_value(compared, constant)),
-                None => None,
-            },
-            None => None,
-        },
-        None => None,
+        Some(compared) => Some(code_forms::case_value(compared, constant)),
+        None => Some(constant),
     }
 }
 
-/// A `case` of this value, in front of a statement.
-fn valued_case(alloc: Global, value: i128, label: Shared<Expr>, body: Made) -> Result<Made, NoCore>
-    ensures { IfOk result (λ y. spec.Wraps (code.Case value label) (spec.and_case value) body y) }
+/// A `case` of this value, in front of a statement. It fails for want of memory alone.
+fn valued_case(
+    alloc: Global,
+    value: i128,
+    label: Shared<Expr>,
+    body: Made,
+) -> Result<Made, AllocError>
+    ensures { IfOk result (λ y. y ≡ spec.labeled_made (code.Case value label) (value ∷ body.cases) body) }
 {
-    match body.only() {
-        Some(body) => {
-            let code = code_forms::case_label(alloc, value, label, body.code)?;
-            let cases = in_front(alloc, value, body.cases)?;
-            Ok(Made::with_cases(alloc, code, cases, body.settings)?)
-        }
-        None => Err(NoCore::Outside),
-    }
+    let Made {
+        codes,
+        cases,
+        settings,
+    } = body;
+    let (first, codes) = parted(alloc, codes)?;
+    let code = code_forms::case_label(alloc, value, label, first)?;
+    let codes = led(alloc, code, codes)?;
+    let cases = in_front(alloc, value, cases)?;
+    Ok(Made {
+        codes,
+        cases,
+        settings,
+    })
 }
 
-/// `case`, in front of a statement; without a value it has no core.
+/// `case`, in front of a statement; without a value it is the statement. It fails for want of memory alone.
 pub(crate) fn case_made(
     alloc: Global,
     value: Option<i128>,
     label: Shared<Expr>,
     body: Made,
-) -> Result<Made, NoCore>
-    ensures { IfOk result (λ y. spec.IsCase value label body y) }
+) -> Result<Made, AllocError>
+    ensures { IfOk result (λ y. y ≡ spec.case_made value label body) }
 {
     match value {
         Some(value) => valued_case(alloc, value, label, body),
-        None => Err(NoCore::Outside),
+        None => Ok(body),
     }
 }
 
@@ -278,7 +298,7 @@ pub(crate) fn if_made(
     at: u32,
     begun: IfBegun,
     negative: Option<SubBlock>,
-) -> Result<Made, NoCore>
+) -> Result<Made, AllocError>
     ensures { IfOk result (λ y. y ≡ alone (code.If at begun.condition begun.positive.code (negative_node (spec.code_if negative))) [] (begun.positive.settings ++ spec.settings_if negative)) }
 {
     let IfBegun {
@@ -310,7 +330,7 @@ pub(crate) fn switch_made(
     compared: IntegerKind,
     value: Shared<Expr>,
     body: Body,
-) -> Result<Made, NoCore>
+) -> Result<Made, AllocError>
     ensures { IfOk result (λ y. y ≡ alone (code.Switch at (word_type compared) body.content.cases value body.content.is_compound body.content.items) [] body.settings) }
 {
     let Body { content, settings } = body;
@@ -323,7 +343,7 @@ pub(crate) fn while_made(
     at: u32,
     condition: Shared<Expr>,
     body: SubBlock,
-) -> Result<Made, NoCore>
+) -> Result<Made, AllocError>
     ensures { IfOk result (λ y. y ≡ alone (code.Loop at (Some condition) None body.code) [] body.settings) }
 {
     let SubBlock { code, settings } = body;
@@ -336,7 +356,7 @@ pub(crate) fn do_made(
     at: u32,
     body: SubBlock,
     condition: Shared<Expr>,
-) -> Result<Made, NoCore>
+) -> Result<Made, AllocError>
     ensures { IfOk result (λ y. y ≡ alone (code.Repeat at condition body.code) [] body.settings) }
 {
     let SubBlock { code, settings } = body;
@@ -349,7 +369,7 @@ pub(crate) fn for_made(
     at: u32,
     begun: ForBegun,
     body: SubBlock,
-) -> Result<Made, NoCore>
+) -> Result<Made, AllocError>
     ensures { IfOk result (λ y. y ≡ alone (code.Block false (begun.first.codes ++ code.Loop at begun.condition begun.step body.code ∷ [])) [] (begun.first.settings ++ body.settings)) }
 {
     let ForBegun {

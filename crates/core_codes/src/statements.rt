@@ -1,5 +1,5 @@
 //! The recursion over statements (C99 6.8).
-ghost use Rattle.std.specs.Prelude.{ℕ, map, option_map, IfOk};
+ghost use Rattle.std.specs.Prelude.{◌≡◌, ℕ, map, option_map, IfOk};
 ghost use Rattle.c_means.specs.Items.{in_turn, sub};
 ghost use Rattle.c_means.specs.Notes.{noted};
 ghost use Rattle.c_means.specs.Statements as form;
@@ -17,9 +17,8 @@ use crate::pieces::{
 use c_language as tree;
 use c_language::Stmt;
 use c_type_scope::Scope;
-use core_forms::NoCore;
 use plain_data::Shared;
-use std::alloc::Global;
+use std::alloc::{AllocError, Global};
 
 /// The core of a statement, or of a declaration in a block, in front of which these names are in force; behind it the
 /// scope has those that the definition says. A statement is one item, a declaration one for each declarator.
@@ -30,7 +29,7 @@ pub fn statement<P: Parts>(
     x: Context,
     node: &Stmt,
     scope: &mut Scope,
-) -> Result<Made, NoCore>
+) -> Result<Made, AllocError>
     ensures { IfOk result (λ y. spec.IsMade (P.numbering parts.now) x scope.old (stmt node.now).here y scope.new) }
 {
     match node {
@@ -109,7 +108,7 @@ fn block<P: Parts>(
     x: Context,
     items: &[Shared<Stmt>],
     scope: &mut Scope,
-) -> Result<Made, NoCore>
+) -> Result<Made, AllocError>
     ensures { IfOk result (λ y. spec.IsMade (P.numbering parts.now) x scope.old (form.compound (map stmt items.now)).here y scope.new) }
 {
     scope.enter()?;
@@ -126,7 +125,7 @@ fn all_items<P: Parts>(
     x: Context,
     items: &[Shared<Stmt>],
     scope: &mut Scope,
-) -> Result<Made, NoCore>
+) -> Result<Made, AllocError>
     ensures { IfOk result (λ y. spec.IsMade (P.numbering parts.now) x scope.old (in_turn (map stmt items.now)) y scope.new) }
 {
     let mut made = Made::nothing(alloc);
@@ -146,8 +145,9 @@ pub fn content<P: Parts>(
     x: Context,
     node: &Stmt,
     scope: &mut Scope,
-) -> Result<Body, NoCore>
-    ensures { IfOk result (λ y. spec.IsContent (P.numbering parts.now) x scope.old (stmt node.now).content y scope.new) }
+) -> Result<Body, AllocError>
+    ensures content { IfOk result (λ y. spec.IsContent (P.numbering parts.now) x scope.old (stmt node.now).content y scope.new) }
+    ensures block { IfOk result (λ y. y.content.is_compound ≡ (stmt node.now).is_block) }
 {
     match node {
         Stmt::Block { items, .. } => {
@@ -169,7 +169,7 @@ fn sub_block<P: Parts>(
     x: Context,
     node: &Stmt,
     scope: &mut Scope,
-) -> Result<SubBlock, NoCore>
+) -> Result<SubBlock, AllocError>
     ensures { IfOk result (λ y. spec.IsSub (P.numbering parts.now) x scope.old (sub (stmt node.now)) y scope.new) }
 {
     scope.enter()?;
@@ -188,7 +188,7 @@ fn case_statement<P: Parts>(
     body: &Stmt,
     value: &tree::Expr,
     scope: &mut Scope,
-) -> Result<Made, NoCore>
+) -> Result<Made, AllocError>
     ensures { IfOk result (λ y. (at : ℕ) → spec.IsMade (P.numbering parts.now) x scope.old (form.case_labeled at (noted value.now) (stmt body.now)).here y scope.new) }
 {
     let found = parts.value(alloc, value, scope)?;
@@ -207,7 +207,7 @@ fn if_begun<P: Parts>(
     positive: &Stmt,
     condition: &tree::Expr,
     scope: &mut Scope,
-) -> Result<IfBegun, NoCore>
+) -> Result<IfBegun, AllocError>
     ensures { IfOk result (λ y. spec.IsIfBegun (P.numbering parts.now) x scope.old (noted condition.now) (stmt positive.now) y scope.new) }
 {
     scope.enter()?;
@@ -228,7 +228,7 @@ fn else_block<P: Parts>(
     x: Context,
     negative: &Option<Shared<Stmt>>,
     scope: &mut Scope,
-) -> Result<Option<SubBlock>, NoCore>
+) -> Result<Option<SubBlock>, AllocError>
     ensures { IfOk result (λ y. spec.MaybeSub (P.numbering parts.now) x scope.old (option_map stmt negative.now) y scope.new) }
 {
     match negative {
@@ -250,7 +250,7 @@ fn switch_statement<P: Parts>(
     at: u32,
     value: &tree::Expr,
     scope: &mut Scope,
-) -> Result<Made, NoCore>
+) -> Result<Made, AllocError>
     ensures { IfOk result (λ y. spec.IsMade (P.numbering parts.now) x scope.old (form.switch_of at (noted value.now) (stmt body.now)).here y scope.new) }
 {
     scope.enter()?;
@@ -274,7 +274,7 @@ fn while_statement<P: Parts>(
     at: u32,
     condition: &tree::Expr,
     scope: &mut Scope,
-) -> Result<Made, NoCore>
+) -> Result<Made, AllocError>
     ensures { IfOk result (λ y. spec.IsMade (P.numbering parts.now) x scope.old (form.while_of at (noted condition.now) (stmt body.now)).here y scope.new) }
 {
     scope.enter()?;
@@ -295,7 +295,7 @@ fn do_statement<P: Parts>(
     at: u32,
     condition: &tree::Expr,
     scope: &mut Scope,
-) -> Result<Made, NoCore>
+) -> Result<Made, AllocError>
     ensures { IfOk result (λ y. spec.IsMade (P.numbering parts.now) x scope.old (form.do_of at (stmt body.now) (noted condition.now)).here y scope.new) }
 {
     scope.enter()?;

@@ -1,6 +1,6 @@
 -- Initializers, from what the code has found of their parts.
 use Rattle.std.proofs.Common.{◌≡◌, ℕ, suc, add-one, ◌+◌, ◌<◌, ◌≤◌, Bool, true, false, List, [], ◌∷◌, ◌++◌, map, length, drop, get_or}
-use Rattle.std.proofs.Common.{Option, Some, None, Result, Ok, Err, IfOk, drop-cons, refl, sym, ap, ap₂, ◌∙◌, subst}
+use Rattle.std.proofs.Common.{Option, Some, None, drop-cons, refl, sym, ap, ap₂, ◌∙◌, subst}
 use Rattle.std.proofs.lemmas.List.{drop_all}
 use Rattle.c_language.specs.declared.expr.Expr.{Expr as Tree}
 use Rattle.c_language.specs.declared.unit.Initializer.{Initializer}
@@ -33,11 +33,13 @@ use Rattle.core_tree.specs.Values as values
 use Rattle.core_tree.specs.Codes as core
 use Rattle.elaborate.specs.Means.{Numbering, Like, as_done}
 use Rattle.elaborate.proofs.Codes.{running_same}
-use Rattle.core_objects.specs.declared.given.Given.{Given}
 use Rattle.core_declarations.specs.declared.initials.Walked.{Walked}
-use Rattle.core_objects.specs.Given.{IsGiven, none_given}
-use Rattle.core_declarations.specs.Walked.{Goes, Step, Walks, noted_of, parts_of, settings_of, values_of}
+use Rattle.core_declarations.specs.declared.pairing.Paired.{Paired}
+use Rattle.core_objects.specs.Given.{IsCounted, IsGiven}
+use Rattle.core_declarations.specs.Pairing.{Holds, Step, counted_of, none_paired, noted_of, parts_of, settings_of}
+use Rattle.core_declarations.specs.Walked.{HasGone, Walks}
 use Rattle.core_declarations.proofs.DesignatedParts.{designated_parts}
+use Rattle.core_declarations.proofs.Pairs.{none_held}
 use Rattle.core_declarations.proofs.Walking.{walks_both, walks_designated, walks_from, walks_none, walks_one}
 
 -- ---- an expression without braces
@@ -63,7 +65,7 @@ alone_says i v told s s1 p t is h whole =
     ∙ sym (ap (λ (k : Initially). filling_of k.says t s) (value_of i v is))
 
 pub value_walks : (n : Numbering) (i : Initializer) (v : Tree) (x y : Walked) (s t : Scope) → i ≡ initial.Value v
-    → Goes n (noted v s ∷ []) x.filling x.given y.filling y.given → t ≡ (noted v s).part.typed.after
+    → ((ns : List Noted) → HasGone n ns x → HasGone n (ns ++ noted v s ∷ []) y) → t ≡ (noted v s).part.typed.after
     → Walks n (initially i).elements x s y t
 value_walks n i v x y s t is h after =
     subst (λ (k : Initially). Walks n k.elements x s y t) (sym (value_of i v is))
@@ -99,28 +101,28 @@ list_says_it at fs f f1 inside z r o s t left begun behind filled ended =
 -- within braces
 pub within_walks : (n : Numbering) (es : List Element) (x inside y z : Walked) (s t : Scope) (at : ℕ) (tables : Tables)
     (fs hs : List Frame) (o : Option GoesOn)
-    → inside.filling ≡ opened at tables fs (record x.filling { frames = hs }) → inside.given ≡ x.given
-    → Walks n es inside s y t → filling_in z.filling t ≡ closed o (filling_in y.filling t) → z.given ≡ y.given
+    → inside.filling ≡ opened at tables fs (record x.filling { frames = hs }) → inside.paired ≡ x.paired
+    → Walks n es inside s y t → filling_in z.filling t ≡ closed o (filling_in y.filling t) → z.paired ≡ y.paired
     → Walks n es x s z t
-within_walks n es x inside y z s t at tables fs hs o begun given h ended given' =
+within_walks n es x inside y z s t at tables fs hs o begun paired h ended paired' =
     walks_from n es x inside z y s t
     (sym (ap (λ (f : Filled). f.parts) begun ∙ opened_parts at tables fs (record x.filling { frames = hs })))
-    (sym given)
+    (sym paired)
     (ap (λ (f : Filling). f.parts) ended ∙ closed_parts o (filling_in y.filling t))
-    given' h
+    paired' h
 
 -- ---- an item of a list
 
-pub item_walks : (n : Numbering) (x : InitializerItem) (w w1 z : Walked) (s s1 t : Scope) → w1.given ≡ w.given
+pub item_walks : (n : Numbering) (x : InitializerItem) (w w1 z : Walked) (s s1 t : Scope) → w1.paired ≡ w.paired
     → filling_in w1.filling s1 ≡ by_tree x.designators (filling_in w.filling s)
     → Walks n (initially x.value).elements w1 s1 z t → Walks n (listed_item x).elements w s z t
-item_walks n x w w1 z s s1 t given h k =
+item_walks n x w w1 z s s1 t paired h k =
     let y = filling_in w.filling s in
     let parts = ap (λ (f : Filling). f.parts) h ∙ designated_parts x.designators y in
     subst (λ (l : Listed). Walks n l.elements w s z t) (sym (listed-Item x))
     (walks_designated n x.designators (initially x.value).elements y w z t
-    (walks_from n (initially x.value).elements w w1 z z (by_notes x.designators y).scope t (sym parts) (sym given) refl refl
-    (subst (λ u. Walks n (initially x.value).elements w1 u z t)
+    (walks_from n (initially x.value).elements w w1 z z (by_notes x.designators y).scope t (sym parts) (sym paired) refl
+    refl (subst (λ u. Walks n (initially x.value).elements w1 u z t)
     (ap (λ (f : Filling). f.scope) (h ∙ same_by x.designators y)) k)))
 
 -- ---- items in turn
@@ -153,85 +155,85 @@ all_items n xs x s i y t over leads =
 -- ---- a whole initializer
 
 module _ (n : Numbering) where
-  all_sizes : (xs : List (Step n)) (l : c.Level) (k : Level Output) → Like n l k
-      → (core.all_needs Output (settings_of n xs)).size k.measures ≡ runs.all_sizes (noted_of n xs) l
-  all_sizes [] l k like = refl
-  all_sizes (x ∷ xs) l k like = ap₂ (λ a b. a + b) (x.is_set.size l k like) (all_sizes xs l k like)
+  all_sizes : (xs : List (Step n)) (ms : List Noted) (l : c.Level) (k : Level Output) → Like n l k
+      → (core.all_needs Output (settings_of n xs)).size k.measures
+      ≡ runs.all_sizes (parts_of n xs) (noted_of n xs ++ ms) l
+  all_sizes [] ms l k like = refl
+  all_sizes (x ∷ xs) ms l k like = ap₂ (λ a b. a + b) (x.is_pair.set.size l k like) (all_sizes xs ms l k like)
 
-  all_rooms : (xs : List (Step n)) (l : c.Level) (k : Level Output) → Like n l k
-      → (core.all_needs Output (settings_of n xs)).room k.measures ≡ runs.all_rooms (noted_of n xs) l
-  all_rooms [] l k like = refl
-  all_rooms (x ∷ xs) l k like = ap₂ (λ a b. a + b) (x.is_set.room l k like) (all_rooms xs l k like)
+  all_rooms : (xs : List (Step n)) (ms : List Noted) (l : c.Level) (k : Level Output) → Like n l k
+      → (core.all_needs Output (settings_of n xs)).room k.measures
+      ≡ runs.all_rooms (parts_of n xs) (noted_of n xs ++ ms) l
+  all_rooms [] ms l k like = refl
+  all_rooms (x ∷ xs) ms l k like = ap₂ (λ a b. a + b) (x.is_pair.set.room l k like) (all_rooms xs ms l k like)
 
-  all_values : (xs : List (Step n)) (l : c.Level) (k : Level Output) → Like n l k
-      → values.all_sizes (map (value {O = Output}) (values_of n xs)) k.measures ≡ runs.all_sizes (noted_of n xs) l
-  all_values [] l k like = refl
-  all_values (x ∷ xs) l k like = ap₂ (λ a b. a + b) (x.is_value.size l k like) (all_values xs l k like)
+  all_counted : (xs : List (Step n)) (ms : List Noted) (l : c.Level) (k : Level Output) → Like n l k
+      → values.all_sizes (map (value {O = Output}) (counted_of n xs)) k.measures
+      ≡ runs.all_sizes (parts_of n xs) (noted_of n xs ++ ms) l
+  all_counted [] ms l k like = refl
+  all_counted (x ∷ xs) ms l k like = ap₂ (λ a b. a + b) (x.is_pair.size l k like) (all_counted xs ms l k like)
 
-  all_set : (xs : List (Step n)) (l : c.Level) (k : Level Output) → Like n l k → (a : ℕ) (env : Env) (base : ℕ) (d : State)
-      → core.sets_all (settings_of n xs) a k env base (as_done d)
-      ≡ Some (as_done (runs.sets_all (parts_of n xs) (noted_of n xs) a l env base d))
-  all_set [] l k like a env base d = refl
-  all_set (x ∷ xs) l k like a env base d =
+  all_set : (xs : List (Step n)) (ms : List Noted) (l : c.Level) (k : Level Output) → Like n l k → (a : ℕ) (env : Env)
+      (base : ℕ) (d : State) → core.sets_all (settings_of n xs) a k env base (as_done d)
+      ≡ Some (as_done (runs.sets_all (parts_of n xs) (noted_of n xs ++ ms) a l env base d))
+  all_set [] ms l k like a env base d = refl
+  all_set (x ∷ xs) ms l k like a env base d =
       let more = settings_of n xs in
       let p = x.part in
       let m = x.noted in
-      ap (λ o. onward o (running (core.sets_all more a k env (base + (core.setting_needs Output x.setting).room k.measures))))
-      (x.is_set.runs l k like a env base d)
+      let y = x.pair.setting in
+      ap (λ o. onward o (running (core.sets_all more a k env (base + (core.setting_needs Output y).room k.measures))))
+      (x.is_pair.set.runs l k like a env base d)
       ∙ ap (λ r. running (core.sets_all more a k env (base + r)) (as_done (runs.sets p m a l env base d)))
-      (x.is_set.room l k like)
-      ∙ running_same (core.sets_all more a k env (base + m.part.room l))
-      (runs.sets_all (parts_of n xs) (noted_of n xs) a l env (base + m.part.room l)) (runs.sets p m a l env base d)
-      (all_set xs l k like a env (base + m.part.room l) (runs.sets p m a l env base d))
+      (x.is_pair.set.room l k like)
+      ∙ running_same (core.sets_all more a k env (base + runs.set_room p m l))
+      (runs.sets_all (parts_of n xs) (noted_of n xs ++ ms) a l env (base + runs.set_room p m l))
+      (runs.sets p m a l env base d)
+      (all_set xs ms l k like a env (base + runs.set_room p m l) (runs.sets p m a l env base d))
 
-  by_steps : (xs : List (Step n)) (b : Bool) (y : Filling) → y.parts ≡ parts_of n xs
-      → IsGiven n b (record { settings = settings_of n xs; values = values_of n xs }) (initial_of b y (noted_of n xs))
-  by_steps xs b y parts = record {
-    zeroed = refl;
-    size = all_sizes xs;
-    room = all_rooms xs;
-    runs = λ l k like a env base d.
-        all_set xs l k like a env base d
-        ∙ ap (λ (ps : List Part). Some (as_done (runs.sets_all ps (noted_of n xs) a l env base d))) (sym parts);
-    values = all_values xs;
-  }
+  steps_given : (xs : List (Step n)) (ms : List Noted) (b : Bool) (y : Filling) → y.parts ≡ parts_of n xs
+      → IsGiven n (settings_of n xs) (initial_of b y (noted_of n xs ++ ms))
+  steps_given xs ms b y parts =
+      let ns = noted_of n xs ++ ms in
+      record {
+        size = λ l k like. all_sizes xs ms l k like
+            ∙ ap (λ (ps : List Part). runs.all_sizes ps ns l) (sym parts);
+        room = λ l k like. all_rooms xs ms l k like
+            ∙ ap (λ (ps : List Part). runs.all_rooms ps ns l) (sym parts);
+        runs = λ l k like a env base d. all_set xs ms l k like a env base d
+            ∙ ap (λ (ps : List Part). Some (as_done (runs.sets_all ps ns a l env base d))) (sym parts);
+      }
 
-  pub given_by : (b : Bool) (y : Filling) (ns : List Noted) (f f' : Filled) (g g' : Given) → f.parts ≡ [] → g ≡ none_given
-      → f'.parts ≡ y.parts → Goes n ns f g f' g' → IsGiven n b g' (initial_of b y ns)
-  given_by b y ns f f' g g' none none' parts h =
-      let xs = h.steps in
-      let settings = h.settings ∙ ap (λ (g : Given). g.settings ++ settings_of n xs) none' in
-      let values = h.values ∙ ap (λ (g : Given). g.values ++ values_of n xs) none' in
-      subst (λ (g : Given). IsGiven n b g (initial_of b y ns))
-      (sym (ap₂ (λ a e. given_of a e) settings values))
-      (subst (λ ns. IsGiven n b (given_of (settings_of n xs) (values_of n xs)) (initial_of b y ns)) (sym h.noted)
-      (by_steps xs b y (sym parts ∙ h.parts ∙ ap (λ (ps : List Part). ps ++ parts_of n xs) none)))
-    where
-      given_of : List Setting → List Expr → Given
-      given_of a e = record { settings = a; values = e }
+  -- what the expressions set that have their parts is what the whole initializer sets
+  pub held_given : (b : Bool) (y : Filling) (ns : List Noted) (f : Filled) (x : Paired) → f.parts ≡ y.parts
+      → Holds n ns f.parts x → IsGiven n x.settings (initial_of b y ns)
+  held_given b y ns f x parts h =
+      subst (λ (zs : List Setting). IsGiven n zs (initial_of b y ns)) (sym h.settings)
+      (subst (λ ns. IsGiven n (settings_of n h.steps) (initial_of b y ns)) (sym h.noted)
+      (steps_given h.steps h.left b y (sym parts ∙ h.parts)))
 
--- both facts of one answer
-pub both_ok : {X Y : Type 0} (r : Result X Y) (P Q R : X → Type 0) → ((x : X) → P x → Q x → R x) → IfOk r P → IfOk r Q
-    → IfOk r R
-both_ok (Ok x) P Q R f h g = f x h g
-both_ok (Err y) P Q R f h g = tt
+  pub held_counted : (b : Bool) (y : Filling) (ns : List Noted) (f : Filled) (x : Paired) → f.parts ≡ y.parts
+      → Holds n ns f.parts x → IsCounted n x.counted (initial_of b y ns)
+  held_counted b y ns f x parts h =
+      subst (λ (es : List Expr). IsCounted n es (initial_of b y ns)) (sym h.counted)
+      (subst (λ ns. IsCounted n (counted_of n h.steps) (initial_of b y ns)) (sym h.noted) (record {
+        size = λ l k like. all_counted h.steps h.left l k like
+            ∙ ap (λ (ps : List Part). runs.all_sizes ps (noted_of n h.steps ++ h.left) l)
+            (sym h.parts ∙ parts);
+      }))
 
-pub whole_given : (n : Numbering) (i : Initializer) (t : CType) (s u : Scope) (x z : Walked) → x.filling.parts ≡ []
-    → x.given ≡ none_given → filling_in z.filling u ≡ filling_of (initially i).says t s
-    → Walks n (initially i).elements x s z u → IsGiven n (initially i).is_braced z.given (initialising (initially i) t s)
-whole_given n i t s u x z none none' says h =
-    given_by n (initially i).is_braced (filling_of (initially i).says t s) (evaluated (initially i).elements s)
-    x.filling z.filling x.given z.given none none' (ap (λ (y : Filling). y.parts) says) h.goes
+  -- an expression without braces
+  pub value_gone : (i : Initializer) (v : Tree) (s : Scope) (z : Walked) → i ≡ initial.Value v
+      → HasGone n (noted v s ∷ []) z → HasGone n (evaluated (initially i).elements s) z
+  value_gone i v s z is h =
+      subst (λ (k : Initially). HasGone n (evaluated k.elements s) z) (sym (value_of i v is)) h
 
-pub value_given : (n : Numbering) (i : Initializer) (v : Tree) (t : CType) (s u : Scope) (z : Walked)
-    → i ≡ initial.Value v → filling_in z.filling u ≡ filling_of (initially i).says t s
-    → Goes n (noted v s ∷ []) no_filling none_given z.filling z.given
-    → IsGiven n (initially i).is_braced z.given (initialising (initially i) t s)
-value_given n i v t s u z is says h =
-    given_by n (initially i).is_braced (filling_of (initially i).says t s) (evaluated (initially i).elements s)
-    no_filling z.filling none_given z.given refl refl (ap (λ (y : Filling). y.parts) says)
-    (subst (λ (k : Initially). Goes n (evaluated k.elements s) no_filling none_given z.filling z.given)
-    (sym (value_of i v is)) h)
+  -- a list in braces, from where nothing is filled
+  pub list_gone : (i : Initializer) (s u : Scope) (x z : Walked) → x.filling.parts ≡ [] → x.paired ≡ none_paired
+      → Walks n (initially i).elements x s z u → HasGone n (evaluated (initially i).elements s) z
+  list_gone i s u x z parts paired h =
+      h.goes [] (subst (λ (ps : List Part). Holds n [] ps x.paired) (sym parts)
+      (subst (λ (y : Paired). Holds n [] [] y) (sym paired) (none_held n)))
 
 -- whether it stands in braces
 pub value_braced : (i : Initializer) (v : Tree) → i ≡ initial.Value v → false ≡ (initially i).is_braced

@@ -1,6 +1,6 @@
 pub mod InOrder
 pub mod Declarators
-pub mod Sources
+pub mod Pairs
 pub mod Walking
 pub mod DesignatedParts
 pub mod Fillings

@@ -1,3 +1,4 @@
 pub mod Hearing
+pub mod Pairing
 pub mod Walked
 pub mod Items

@@ -4,11 +4,11 @@ ghost use Rattle.core_objects.specs.Begun.{bare};
 use c_language::Name;
 use c_type_scope::Scope;
 use core_exprs::{Callees, Site};
-use core_forms::{NoCore, Places};
+use core_forms::Places;
 use core_tree::Callee;
-use std::alloc::Global;
+use std::alloc::{AllocError, Global};
 
-/// The places of a program, where nothing is called.
+/// The places of a program, where each call is one too many.
 #[derive(Clone, Copy)]
 pub(crate) struct Bare<'a, C> {
     pub(crate) callees: &'a C,
@@ -27,7 +27,8 @@ impl<'a, C: Callees> Callees for Bare<'a, C> {
         self.callees.identity(name)
     }
 
-    fn callee(&self, _alloc: Global, _site: &Site, _scope: &Scope) -> Result<Callee, NoCore> {
-        Err(NoCore::Outside)
+    /// No call is left, whatever function is called.
+    fn callee(&self, _alloc: Global, _site: &Site, _scope: &Scope) -> Result<Callee, AllocError> {
+        Ok(Callee::Body { function: 0 })
     }
 }

@@ -1,6 +1,6 @@
-//! Declarations (C99 6.7), in a block or in the file: declarators from left to right, each in the scope that those before
-//! it leave.
-ghost use Rattle.std.specs.Prelude.{◌≡◌, ℕ, not, map, option_map, Some, IfOk};
+//! Declarations (C99 6.7), in a block or in the file: declarators from left to right, each in the scope that those
+//! before it leave.
+ghost use Rattle.std.specs.Prelude.{◌≡◌, ℕ, not, map, option_map, Some, None, IfOk};
 ghost use Rattle.c_language.specs.Scopes as scopes;
 ghost use Rattle.c_language.specs.Declares as forms;
 ghost use Rattle.c_language.specs.Declarations as says;
@@ -11,12 +11,12 @@ ghost use Rattle.c_item_notes.specs.ItemTellings.{item_as, begun_item};
 ghost use Rattle.c_means.specs.Initials as runs;
 ghost use Rattle.c_means.specs.Statements as statements;
 ghost use Rattle.core_objects.specs.Begun.{IsBegun};
-ghost use Rattle.core_objects.specs.Given as gives;
 ghost use Rattle.core_declarations.specs.Items as spec;
 
 use crate::initials::{Filled, initialised};
 use c_declarations::{
-    Begun as Fronted, Declared, declared_filled, declared_first, declared_plainly, object_in,
+    Begun as Fronted, Declared, declared_filled, declared_first, declared_plainly,
+    declared_unfilled, object_in,
 };
 use c_declares::{Formed, Said};
 use c_initials::Filling;
@@ -24,8 +24,8 @@ use c_language::{CType, Declaration, Duration, InitDeclarator, Initializer, Mean
 use c_type_scope::Scope;
 use c_typing::{declarator, specifiers};
 use core_exprs::Callees;
-use core_forms::NoCore;
 use core_objects::{Begun, Initial, declared_object, joined, not_initialised, nothing_begun};
+use plain_data::Shared;
 use std::alloc::{AllocError, Global};
 
 // ---- a declarator with its initializer
@@ -38,8 +38,8 @@ fn declared_name<C: Callees>(
     declared: Declared,
     initial: Initial,
     scope: &Scope,
-) -> Result<Begun, NoCore>
-    ensures { (at : ℕ) (x : runs.Initial) → gives.IsInitial (C.numbering callees.now) initial x → IfOk result (λ y. IsBegun (C.numbering callees.now) y (spec.declared_as at is_defined (declared_in declared scope.now) x) scope.now) }
+) -> Result<Begun, AllocError>
+    ensures { (at : ℕ) (x : runs.Initial) → spec.IsInitialOf declared.entry (C.numbering callees.now) initial x → IfOk result (λ y. IsBegun (C.numbering callees.now) y (spec.declared_as at is_defined (declared_in declared scope.now) x) scope.now) }
 {
     let Declared { entry, .. } = declared;
     match entry {
@@ -55,7 +55,9 @@ fn is_extern(storage: Option<StorageClass>) -> bool
 }
 
 /// Whether an object that lives throughout the run is declared (C99 6.2.4p3).
-fn lasts(front: &Fronted) -> bool {
+fn lasts(front: &Fronted) -> bool
+    ensures { result ≡ spec.lasts front.now.named }
+{
     match &front.named {
         None => false,
         Some(named) => match &named.means {
@@ -81,26 +83,58 @@ fn declared_with(
     declared_filled(alloc, front, high, faults, scope)
 }
 
-/// With an initializer, from what is in force in front of it (C99 6.2.1p7). Only objects have one.
+/// An object with an initializer that fills it.
+fn with_object<C: Callees>(
+    alloc: Global,
+    callees: &C,
+    front: Fronted,
+    initializer: &Initializer,
+    ctype: Shared<CType>,
+    scope: &mut Scope,
+) -> Result<Begun, AllocError>
+    ensures { (at : ℕ) → beginnings.object_of front.named ≡ Some ctype → IfOk result (λ y. IsBegun (C.numbering callees.now) y (begun_item at (beginnings.begins_in front scope.old) (runs.initially initializer.now)) scope.new) }
+{
+    let lasts = lasts(&front);
+    let filled = initialised(alloc, callees, lasts, initializer, ctype, scope)?;
+    let Filled { filling, initial } = filled;
+    let declared = declared_with(alloc, front, filling, scope)?;
+    declared_name(alloc, callees, true, declared, initial, scope)
+}
+
+/// What is no object, with an initializer: nothing is initialised (C99 6.7.8p3).
+fn with_nothing<C: Callees>(
+    alloc: Global,
+    callees: &C,
+    front: Fronted,
+    scope: &mut Scope,
+) -> Result<Begun, AllocError>
+    ensures { (at : ℕ) (i : runs.Initially) → beginnings.object_of front.named ≡ None → IfOk result (λ y. IsBegun (C.numbering callees.now) y (begun_item at (beginnings.begins_in front scope.old) i) scope.new) }
+{
+    let declared = declared_unfilled(alloc, front, scope)?;
+    declared_name(
+        alloc,
+        callees,
+        true,
+        declared,
+        not_initialised(alloc),
+        scope,
+    )
+}
+
+/// With an initializer, from what is in force in front of it (C99 6.2.1p7).
 fn with_initializer<C: Callees>(
     alloc: Global,
     callees: &C,
     front: Fronted,
     initializer: &Initializer,
     scope: &mut Scope,
-) -> Result<Begun, NoCore>
+) -> Result<Begun, AllocError>
     ensures { (at : ℕ) → IfOk result (λ y. IsBegun (C.numbering callees.now) y (begun_item at (beginnings.begins_in front scope.old) (runs.initially initializer.now)) scope.new) }
 {
     let object = object_in(&front)?;
     match object {
-        None => Err(NoCore::Outside),
-        Some(ctype) => {
-            let is_static = lasts(&front);
-            let filled = initialised(alloc, callees, is_static, initializer, ctype, scope)?;
-            let Filled { filling, initial } = filled;
-            let declared = declared_with(alloc, front, filling, scope)?;
-            declared_name(alloc, callees, true, declared, initial, scope)
-        }
+        None => with_nothing(alloc, callees, front, scope),
+        Some(ctype) => with_object(alloc, callees, front, initializer, ctype, scope),
     }
 }
 
@@ -110,7 +144,7 @@ fn without_initializer<C: Callees>(
     storage: Option<StorageClass>,
     front: Fronted,
     scope: &Scope,
-) -> Result<Begun, NoCore>
+) -> Result<Begun, AllocError>
     ensures { (at : ℕ) → IfOk result (λ y. IsBegun (C.numbering callees.now) y (spec.declared_as at (not (says.is_extern storage)) (beginnings.plainly (beginnings.begins_in front scope.now)) runs.uninitialised) scope.now) }
 {
     let declared = declared_plainly(alloc, front, scope)?;
@@ -132,7 +166,7 @@ fn one_declarator<C: Callees>(
     formed: Formed,
     initializer: &Option<Initializer>,
     scope: &mut Scope,
-) -> Result<Begun, NoCore>
+) -> Result<Begun, AllocError>
     ensures { IfOk result (λ y. IsBegun (C.numbering callees.now) y (item_as storage specified.now (formed_in formed scope.old) (option_map runs.initially initializer.now)) scope.new) }
 {
     match initializer {
@@ -157,7 +191,7 @@ fn and_declarator<C: Callees>(
     item: &InitDeclarator,
     before: Begun,
     scope: &mut Scope,
-) -> Result<Begun, NoCore>
+) -> Result<Begun, AllocError>
     ensures { IfOk result (λ y. spec.AndItem (C.numbering callees.now) before (item_as storage specified.now ((statements.declaring item.now).declarator scope.old) (statements.declaring item.now).initial) y scope.new) }
 {
     let formed = declarator(alloc, &item.declarator, scope)?;
@@ -170,7 +204,7 @@ fn and_declarator<C: Callees>(
         &item.initializer,
         scope,
     )?;
-    Ok(joined(before, one)?)
+    joined(before, one)
 }
 
 fn each_declarator<C: Callees>(
@@ -180,7 +214,7 @@ fn each_declarator<C: Callees>(
     specified: &Option<CType>,
     items: &[InitDeclarator],
     scope: &mut Scope,
-) -> Result<Begun, NoCore>
+) -> Result<Begun, AllocError>
     ensures { IfOk result (λ y. IsBegun (C.numbering callees.now) y (spec.items_by storage specified.now (map statements.declaring items.now) scope.old) scope.new) }
 {
     let mut begun = nothing_begun(alloc);
@@ -206,14 +240,13 @@ fn specified_by(alloc: Global, said: &Said) -> Result<Option<CType>, AllocError>
     said.specified(alloc)
 }
 
-/// The core of a declaration, in a block or in the file (C99 6.7, 6.2.4). It fails for want of memory, where an expression
-/// has no core, and where an initializer breaks a rule.
+/// The core of a declaration, in a block or in the file (C99 6.7, 6.2.4). It fails for want of memory alone.
 pub fn declaration<C: Callees>(
     alloc: Global,
     callees: &C,
     declaration: &Declaration,
     scope: &mut Scope,
-) -> Result<Begun, NoCore>
+) -> Result<Begun, AllocError>
     ensures { IfOk result (λ y. IsBegun (C.numbering callees.now) y (statements.declaration declaration.now scope.old) scope.new) }
 {
     let items = declaration.declarators.as_slice();

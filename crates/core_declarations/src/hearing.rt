@@ -9,7 +9,7 @@ ghost use Rattle.core_declarations.specs.Hearing.{IsHeard, IsHeardOf};
 use c_language::{Entry, Expr, Shown, Told};
 use c_type_scope::Scope;
 use core_exprs::{Callees, Found, core_of};
-use core_forms::{NoCore, Used, operand};
+use core_forms::{Used, operand};
 use core_tree::Expr as CoreExpr;
 use plain_data::{Bytes, Items, Shared};
 use std::alloc::{AllocError, Global};
@@ -69,7 +69,7 @@ fn copied(alloc: Global, told: &Told) -> Result<Told, AllocError>
 }
 
 /// The value of what was found, with what the types say of it as it stands.
-fn as_value(alloc: Global, scope: &Scope, x: Found) -> Result<Heard, NoCore>
+fn as_value(alloc: Global, scope: &Scope, x: Found) -> Result<Heard, AllocError>
     ensures { (numbering : Numbering) (p : Part) → IsFoundOf numbering x p scope.now → IfOk result (λ y. IsHeardOf numbering y p scope.now) }
 {
     let Found { built, text } = x;
@@ -79,13 +79,13 @@ fn as_value(alloc: Global, scope: &Scope, x: Found) -> Result<Heard, NoCore>
     Ok(Heard { told, value, text })
 }
 
-/// An expression whose value is used (C99 6.5). It fails for want of memory, and where a part has no core.
+/// An expression whose value is used (C99 6.5). It fails for want of memory alone.
 pub fn hear<C: Callees>(
     alloc: Global,
     callees: &C,
     expr: &Expr,
     scope: &mut Scope,
-) -> Result<Heard, NoCore>
+) -> Result<Heard, AllocError>
     ensures { IfOk result (λ x. IsHeard (C.numbering callees.now) x (notes.noted expr.now scope.old) scope.new) }
 {
     let x = core_of(alloc, callees, expr, scope)?;

@@ -1,6 +1,5 @@
 //! Initializers (C99 6.7.8): what they say of the object that is declared, with what their expressions set.
-ghost use Rattle.std.specs.Prelude.{◌≡◌, ◌+◌, ◌∷◌, [], ◌&&◌, true, length, slice_get, map, Some, IfOk};
-ghost use Rattle.c_language.specs.Types.{element_of};
+ghost use Rattle.std.specs.Prelude.{◌≡◌, ◌++◌, ◌∷◌, [], List, map, IfOk};
 ghost use Rattle.c_language.specs.Scopes as scopes;
 ghost use Rattle.c_language.specs.Typing.{typed_in};
 ghost use Rattle.c_language.specs.Initials as braces;
@@ -8,192 +7,71 @@ ghost use Rattle.c_initials.specs.Filled.{filling_in, no_filling};
 ghost use Rattle.c_means.specs.Initials as runs;
 ghost use Rattle.c_means.specs.Notes.{Noted};
 ghost use Rattle.elaborate.specs.Means.{Numbering};
-ghost use Rattle.code_forms.specs.Nodes.{value_setting_node};
 ghost use Rattle.core_objects.specs.Given as gives;
 ghost use Rattle.core_declarations.specs.Hearing.{IsHeard};
+ghost use Rattle.core_declarations.specs.Items as items;
 ghost use Rattle.core_declarations.specs.Walked as spec;
 
 use crate::bare::Bare;
 use crate::hearing::{Heard, hear};
+use crate::pairing::{Paired, Source, and_source, is_literal, none_paired};
 use c_initials::{
     Filling, Opened, Part, designated_by, fills_value, list_alone, list_begun, list_closed,
     value_alone, with_part_left,
 };
-use c_language::{CType, Initializer, InitializerItem, Tables, Told};
+use c_language::{CType, Initializer, InitializerItem};
 use c_type_scope::Scope;
-use code_forms::{text_setting, value_setting};
 use core_exprs::Callees;
-use core_forms::NoCore;
-use core_objects::{Given, Initial, and_given, none_given};
+use core_objects::Initial;
 use core_tree::{Expr, Setting};
-use plain_data::{Bytes, Shared};
+use plain_data::{Items, Shared};
 use std::alloc::{AllocError, Global};
 
 /// Where the closest braces have come to, and what the expressions set so far.
 #[derive(Drop)]
 pub(crate) struct Walked {
     pub(crate) filling: Filling,
-    pub(crate) given: Given,
+    pub(crate) paired: Paired,
 }
 
 // ---- one expression
 
-fn is_literal(told: &Told) -> bool
-    ensures { result ≡ braces.is_literal_in told.now.shown }
-{
-    match &told.shown {
-        None => false,
-        Some(shown) => shown.is_literal,
-    }
-}
-
-fn is_byte_type(ctype: &Option<CType>) -> bool
-    ensures { result ≡ braces.is_byte_type ctype.now }
-{
-    match ctype {
-        None => false,
-        Some(ctype) => match ctype.kind() {
-            None => false,
-            Some(kind) => kind.bytes() == 1,
-        },
-    }
-}
-
-/// Whether a string literal initialises a whole array of characters of this type (C99 6.7.8p14).
-fn is_text(alloc: Global, literal: bool, ctype: &CType) -> Result<bool, AllocError>
-    ensures { IfOk result (λ b. b ≡ (literal && braces.is_byte_type (element_of ctype.now))) }
-{
-    if literal {
-        let element = ctype.element(alloc)?;
-        Ok(is_byte_type(&element))
-    } else {
-        Ok(false)
-    }
-}
-
-fn is_fixed(e: &Expr) -> bool
-    ensures { result ≡ true → spec.IsFixed e.now }
-{
-    match e {
-        Expr::Fixed { .. } => true,
-        _ => false,
-    }
-}
-
-/// A literal in an array of characters (C99 6.7.8p14). Its value is the address of the array that was made for it.
-fn text_set(
-    tables: &Tables,
-    part: &Part,
-    value: &Expr,
-    text: Option<Bytes>,
-) -> Result<Setting, NoCore>
-    ensures { (numbering : Numbering) (n : Noted) → spec.IsSource numbering true tables.now value.now text n → braces.is_byte_type (element_of part.now.type) ≡ true → IfOk result (λ y. gives.IsSet numbering y part.now n) }
-{
-    if !is_fixed(value) {
-        return Err(NoCore::Outside);
-    }
-    match text {
-        None => Err(NoCore::Outside),
-        Some(bytes) => text_setting(tables, part.ctype.get(), part.offset, bytes),
-    }
-}
-
-fn value_set(tables: &Tables, part: &Part, value: &Shared<Expr>) -> Result<Setting, NoCore>
-    ensures { IfOk result (λ y. Some y ≡ value_setting_node tables.now part.now.type part.now.offset value.now) }
-{
-    let value = value.clone()?;
-    value_setting(tables, part.ctype.get(), part.offset, value)
-}
-
-/// What an expression sets, where it initialises this part.
-fn setting_for(
-    alloc: Global,
-    tables: &Tables,
-    part: &Part,
-    literal: bool,
-    value: &Shared<Expr>,
-    text: Option<Bytes>,
-) -> Result<Setting, NoCore>
-    ensures { (numbering : Numbering) (n : Noted) → spec.IsSource numbering literal tables.now value.now text n → IfOk result (λ y. gives.IsSet numbering y part.now n) }
-{
-    let whole_text = is_text(alloc, literal, part.ctype.get())?;
-    if whole_text {
-        text_set(tables, part, value.get(), text)
-    } else {
-        value_set(tables, part, value)
-    }
-}
-
-fn and_part(
-    alloc: Global,
-    tables: &Tables,
-    part: &Part,
-    literal: bool,
-    value: Shared<Expr>,
-    text: Option<Bytes>,
-    given: Given,
-) -> Result<Given, NoCore>
-    ensures { (numbering : Numbering) (n : Noted) → spec.IsSource numbering literal tables.now value text n → IfOk result (λ g. spec.GivesOne numbering given part.now n g) }
-{
-    let setting = setting_for(alloc, tables, part, literal, &value, text)?;
-    Ok(and_given(given, setting, value)?)
-}
-
-/// The part that is filled behind so many others. Where there is none, the expression is one too many (C99 6.7.8p2).
-fn last_part(filling: &Filling, before: usize) -> Result<Shared<Part>, NoCore>
-    ensures { IfOk result (λ p. spec.IsLast filling.now.parts before p) }
-{
-    if filling.parts.len().saturating_sub(before) != 1 {
-        return Err(NoCore::Outside);
-    }
-    match filling.parts.get(before) {
-        None => Err(NoCore::Outside),
-        Some(part) => Ok(part.clone()?),
-    }
-}
-
 /// One more expression as the next part.
-fn and_next(alloc: Global, scope: &Scope, x: Heard, found: Walked) -> Result<Walked, NoCore>
+fn and_next(alloc: Global, scope: &Scope, x: Heard, found: Walked) -> Result<Walked, AllocError>
     ensures says { IfOk result (λ z. filling_in z.filling scope.now ≡ braces.fills_value (typed_in x.told scope.now) (filling_in found.filling scopes.empty)) }
-    ensures goes { (numbering : Numbering) (n : Noted) → IsHeard numbering x n scope.now → IfOk result (λ z. spec.Goes numbering (n ∷ []) found.filling found.given z.filling z.given) }
+    ensures goes { (numbering : Numbering) (n : Noted) → IsHeard numbering x n scope.now → IfOk result (λ z. (ns : List Noted) → spec.HasGone numbering ns found → spec.HasGone numbering (ns ++ n ∷ []) z) }
 {
-    let Walked { filling, given } = found;
+    let Walked { filling, paired } = found;
     let Heard { told, value, text } = x;
-    let before = filling.parts.len();
-    let literal = is_literal(&told);
-    let filling = fills_value(alloc, scope, told, filling)?;
-    let part = last_part(&filling, before)?;
-    let given = and_part(
-        alloc,
-        scope.tables(),
-        part.get(),
-        literal,
+    let source = Source {
+        is_literal: is_literal(&told),
         value,
         text,
-        given,
-    )?;
-    Ok(Walked { filling, given })
+    };
+    let filling = fills_value(alloc, scope, told, filling)?;
+    let paired = and_source(alloc, scope, &filling.parts, source, paired)?;
+    Ok(Walked { filling, paired })
 }
 
 /// An expression without braces, for a whole object.
-fn as_whole(alloc: Global, scope: &Scope, x: Heard, whole: Shared<Part>) -> Result<Walked, NoCore>
+fn as_whole(
+    alloc: Global,
+    scope: &Scope,
+    x: Heard,
+    whole: Shared<Part>,
+) -> Result<Walked, AllocError>
     ensures says { IfOk result (λ z. filling_in z.filling scope.now ≡ braces.value_alone (typed_in x.told scope.now) whole (filling_in no_filling scopes.empty)) }
-    ensures goes { (numbering : Numbering) (n : Noted) → IsHeard numbering x n scope.now → IfOk result (λ z. spec.Goes numbering (n ∷ []) no_filling gives.none_given z.filling z.given) }
+    ensures goes { (numbering : Numbering) (n : Noted) → IsHeard numbering x n scope.now → IfOk result (λ z. spec.HasGone numbering (n ∷ []) z) }
 {
     let Heard { told, value, text } = x;
-    let literal = is_literal(&told);
-    let given = none_given(alloc);
-    let given = and_part(
-        alloc,
-        scope.tables(),
-        whole.get(),
-        literal,
+    let source = Source {
+        is_literal: is_literal(&told),
         value,
         text,
-        given,
-    )?;
+    };
     let filling = value_alone(alloc, scope, told, whole)?;
-    Ok(Walked { filling, given })
+    let paired = and_source(alloc, scope, &filling.parts, source, none_paired(alloc))?;
+    Ok(Walked { filling, paired })
 }
 
 // ---- lists in braces
@@ -206,7 +84,7 @@ fn fills<C: Callees>(
     initializer: &Initializer,
     found: Walked,
     scope: &mut Scope,
-) -> Result<Walked, NoCore>
+) -> Result<Walked, AllocError>
     ensures says { IfOk result (λ z. filling_in z.filling scope.new ≡ (runs.initially initializer.now).says.fills (filling_in found.filling scope.old)) }
     ensures walks { IfOk result (λ z. spec.Walks (C.numbering callees.now) (runs.initially initializer.now).elements found scope.old z scope.new) }
 {
@@ -229,23 +107,23 @@ fn fills_list<C: Callees>(
     at: u32,
     found: Walked,
     scope: &mut Scope,
-) -> Result<Walked, NoCore>
+) -> Result<Walked, AllocError>
     ensures says { IfOk result (λ z. filling_in z.filling scope.new ≡ (braces.list_says at (runs.all_fills (map runs.listed_item items.now))).fills (filling_in found.filling scope.old)) }
     ensures walks { IfOk result (λ z. spec.Walks (C.numbering callees.now) (runs.all_elements (map runs.listed_item items.now)) found scope.old z scope.new) }
 {
-    let Walked { filling, given } = found;
+    let Walked { filling, paired } = found;
     let filling = with_part_left(scope, filling);
     let opened = list_begun(alloc, scope, at, filling)?;
     let Opened { inside, outside } = opened;
     let begun = Walked {
         filling: inside,
-        given,
+        paired,
     };
     let filled = fills_all(alloc, callees, items, begun, scope)?;
-    let Walked { filling, given } = filled;
+    let Walked { filling, paired } = filled;
     Ok(Walked {
         filling: list_closed(outside, filling, scope),
-        given,
+        paired,
     })
 }
 
@@ -256,7 +134,7 @@ fn fills_all<C: Callees>(
     items: &[Shared<InitializerItem>],
     found: Walked,
     scope: &mut Scope,
-) -> Result<Walked, NoCore>
+) -> Result<Walked, AllocError>
     ensures says { IfOk result (λ z. filling_in z.filling scope.new ≡ braces.fills_all (runs.all_fills (map runs.listed_item items.now)) (filling_in found.filling scope.old)) }
     ensures walks { IfOk result (λ z. spec.Walks (C.numbering callees.now) (runs.all_elements (map runs.listed_item items.now)) found scope.old z scope.new) }
 {
@@ -274,13 +152,13 @@ fn fills_item<C: Callees>(
     item: &InitializerItem,
     found: Walked,
     scope: &mut Scope,
-) -> Result<Walked, NoCore>
+) -> Result<Walked, AllocError>
     ensures says { IfOk result (λ z. filling_in z.filling scope.new ≡ (runs.listed_item item.now).fills (filling_in found.filling scope.old)) }
     ensures walks { IfOk result (λ z. spec.Walks (C.numbering callees.now) (runs.listed_item item.now).elements found scope.old z scope.new) }
 {
-    let Walked { filling, given } = found;
+    let Walked { filling, paired } = found;
     let filling = designated_by(alloc, item.designators.as_slice(), filling, scope)?;
-    let found = Walked { filling, given };
+    let found = Walked { filling, paired };
     fills(alloc, callees, item.value.get(), found, scope)
 }
 
@@ -302,9 +180,9 @@ fn fill_object<C: Callees>(
     initializer: &Initializer,
     ctype: Shared<CType>,
     scope: &mut Scope,
-) -> Result<Walked, NoCore>
+) -> Result<Walked, AllocError>
     ensures says { IfOk result (λ z. filling_in z.filling scope.new ≡ braces.filling_of (runs.initially initializer.now).says ctype scope.old) }
-    ensures given { IfOk result (λ z. gives.IsGiven (C.numbering callees.now) (runs.initially initializer.now).is_braced z.given (runs.initialising (runs.initially initializer.now) ctype scope.old)) }
+    ensures gone { IfOk result (λ z. spec.HasGone (C.numbering callees.now) (runs.evaluated (runs.initially initializer.now).elements scope.old) z) }
 {
     let whole = Part::whole(alloc, ctype)?;
     match initializer {
@@ -316,7 +194,7 @@ fn fill_object<C: Callees>(
             let filling = list_alone(alloc, whole)?;
             let begun = Walked {
                 filling,
-                given: none_given(alloc),
+                paired: none_paired(alloc),
             };
             fills_all(alloc, callees, items.as_slice(), begun, scope)
         }
@@ -330,35 +208,60 @@ pub(crate) struct Filled {
     pub(crate) initial: Initial,
 }
 
-fn as_initial(walked: Walked, is_bare: bool, is_zeroed: bool) -> Filled
-    ensures { result ≡ record { filling = walked.filling; initial = record { is_bare = is_bare; is_zeroed = is_zeroed; given = walked.given } } }
+fn as_initial(
+    filling: Filling,
+    is_zeroed: bool,
+    settings: Items<Setting>,
+    counted: Items<Shared<Expr>>,
+) -> Filled
+    ensures { result ≡ record { filling = filling; initial = record { is_zeroed = is_zeroed; settings = settings; counted = counted } } }
 {
-    let Walked { filling, given } = walked;
     Filled {
         filling,
         initial: Initial {
-            is_bare,
             is_zeroed,
-            given,
+            settings,
+            counted,
         },
     }
 }
 
-/// An initializer of an object that lives throughout the run: nothing is called in it.
+/// What counts as many nodes as an initializer does where it stands; the names that it declares are left again.
+fn counted_here<C: Callees>(
+    alloc: Global,
+    callees: &C,
+    initializer: &Initializer,
+    ctype: Shared<CType>,
+    scope: &Scope,
+) -> Result<Items<Shared<Expr>>, AllocError>
+    ensures { IfOk result (λ es. gives.IsCounted (C.numbering callees.now) es (runs.initialising (runs.initially initializer.now) ctype scope.now)) }
+{
+    let mut inside = scope.duplicate()?;
+    let walked = fill_object(alloc, callees, initializer, ctype, &mut inside)?;
+    let Walked { paired, .. } = walked;
+    let Paired { counted, .. } = paired;
+    Ok(counted)
+}
+
+/// An initializer of an object that lives throughout the run. Its expressions are gone through twice: as they stand in
+/// the function, where their nodes are counted, and where no function runs, as they are evaluated.
 fn initialised_bare<C: Callees>(
     alloc: Global,
     callees: &C,
     initializer: &Initializer,
     ctype: Shared<CType>,
     scope: &mut Scope,
-) -> Result<Filled, NoCore>
+) -> Result<Filled, AllocError>
     ensures says { IfOk result (λ z. filling_in z.filling scope.new ≡ braces.filling_of (runs.initially initializer.now).says ctype scope.old) }
-    ensures initial { IfOk result (λ z. gives.IsInitial (C.numbering callees.now) z.initial (runs.initialising (runs.initially initializer.now) ctype scope.old)) }
+    ensures zeroed { IfOk result (λ z. z.initial.is_zeroed ≡ (runs.initially initializer.now).is_braced) }
+    ensures given { IfOk result (λ z. gives.IsLasting (C.numbering callees.now) z.initial (runs.initialising (runs.initially initializer.now) ctype scope.old)) }
 {
-    let is_zeroed = is_braced(initializer);
+    let counted = counted_here(alloc, callees, initializer, ctype.clone()?, scope)?;
     let bare = Bare { callees };
     let walked = fill_object(alloc, &bare, initializer, ctype, scope)?;
-    Ok(as_initial(walked, true, is_zeroed))
+    let Walked { filling, paired } = walked;
+    let Paired { settings, .. } = paired;
+    Ok(as_initial(filling, is_braced(initializer), settings, counted))
 }
 
 /// An initializer of an object of a block.
@@ -368,28 +271,35 @@ fn initialised_here<C: Callees>(
     initializer: &Initializer,
     ctype: Shared<CType>,
     scope: &mut Scope,
-) -> Result<Filled, NoCore>
+) -> Result<Filled, AllocError>
     ensures says { IfOk result (λ z. filling_in z.filling scope.new ≡ braces.filling_of (runs.initially initializer.now).says ctype scope.old) }
-    ensures initial { IfOk result (λ z. gives.IsInitial (C.numbering callees.now) z.initial (runs.initialising (runs.initially initializer.now) ctype scope.old)) }
+    ensures zeroed { IfOk result (λ z. z.initial.is_zeroed ≡ (runs.initially initializer.now).is_braced) }
+    ensures given { IfOk result (λ z. gives.IsGiven (C.numbering callees.now) z.initial.settings (runs.initialising (runs.initially initializer.now) ctype scope.old)) }
 {
-    let is_zeroed = is_braced(initializer);
     let walked = fill_object(alloc, callees, initializer, ctype, scope)?;
-    Ok(as_initial(walked, false, is_zeroed))
+    let Walked { filling, paired } = walked;
+    let Paired {
+        settings,
+        counted,
+        ..
+    } = paired;
+    Ok(as_initial(filling, is_braced(initializer), settings, counted))
 }
 
 /// An initializer of an object of a type that is declared with it.
 pub(crate) fn initialised<C: Callees>(
     alloc: Global,
     callees: &C,
-    is_static: bool,
+    lasts: bool,
     initializer: &Initializer,
     ctype: Shared<CType>,
     scope: &mut Scope,
-) -> Result<Filled, NoCore>
+) -> Result<Filled, AllocError>
     ensures says { IfOk result (λ z. filling_in z.filling scope.new ≡ braces.filling_of (runs.initially initializer.now).says ctype scope.old) }
-    ensures initial { IfOk result (λ z. gives.IsInitial (C.numbering callees.now) z.initial (runs.initialising (runs.initially initializer.now) ctype scope.old)) }
+    ensures zeroed { IfOk result (λ z. z.initial.is_zeroed ≡ (runs.initially initializer.now).is_braced) }
+    ensures given { IfOk result (λ z. items.IsGivenIf lasts (C.numbering callees.now) z.initial (runs.initialising (runs.initially initializer.now) ctype scope.old)) }
 {
-    if is_static {
+    if lasts {
         initialised_bare(alloc, callees, initializer, ctype, scope)
     } else {
         initialised_here(alloc, callees, initializer, ctype, scope)

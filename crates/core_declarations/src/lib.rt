@@ -6,6 +6,7 @@ mod bare;
 mod declarations;
 mod hearing;
 mod initials;
+mod pairing;
 
 pub use core_objects::Begun;
 pub use declarations::declaration;

@@ -1,5 +1,5 @@
 -- A call by a name, by what was found of its arguments.
-use Rattle.std.proofs.Common.{◌≡◌, ℕ, ℤ, List, [], ◌∷◌, Option, Some, true, false, refl, sym, ap, ap₂, ◌∙◌, subst}
+use Rattle.std.proofs.Common.{◌≡◌, ℕ, ℤ, List, [], ◌∷◌, Option, Some, None, true, false, refl, sym, ap, ap₂, ◌∙◌, subst}
 use Rattle.c_language.specs.declared.ctype.CType.{CType}
 use Rattle.c_language.specs.declared.tables.Tables.{Tables}
 use Rattle.c_language.specs.declared.scope.Entry.{Entry}
@@ -20,12 +20,14 @@ use Rattle.core_tree.specs.declared.types.ValueType.{ValueType}
 use Rattle.elaborate.specs.Means.{Numbering, as_done, IsCallOf, AreArguments}
 use Rattle.elaborate.proofs.Calls.{call_effect, call_value, needed_same}
 use Rattle.core_forms.specs.declared.built.Node.TheVariants as node
-use Rattle.core_forms.specs.Nodes.{type_as}
+use Rattle.core_forms.specs.declared.built.Built.{Built}
+use Rattle.core_forms.specs.Nodes.{a_part, type_as, unmeant}
 use Rattle.core_forms.proofs.Forms.{converted_does}
 use Rattle.core_exprs.specs.declared.arguments.Passing.{Passing}
 use Rattle.core_exprs.specs.declared.found.Found.{Found}
 use Rattle.core_exprs.specs.declared.site.Site.{Site as CodeSite}
-use Rattle.core_exprs.specs.Found.{IsCallAt, IsFoundOf}
+use Rattle.core_exprs.specs.Found.{IsCallAt, IsFoundOf, plain}
+use Rattle.core_exprs.proofs.EachForm as each
 use Rattle.core_exprs.specs.Passing.{AreValues, ArePassed, all_converted, texts_of, types_passed, value_types}
 use Rattle.core_exprs.specs.Sites.{site_of}
 
@@ -117,6 +119,7 @@ module _ (n : Numbering) where
             rooted = refl;
             node = record {
               is_value = refl;
+              nowhere = record { reaches = λ l env base d. refl };
               value = call_value n f.typed.at values_ passed_ c.callee t said_ g args calls (λ l. refl)
                   (needed_same f.typed.at (class_in (type_of said_)) (bytes_of s.tables (type_of said_)));
               effect = call_effect n f.typed.at values_ passed_ c.callee t said_ g args calls (λ l. refl);
@@ -159,6 +162,22 @@ module _ (n : Numbering) where
         let values_is : values ≡ values_ = vs ∙ ap (λ ts. all_converted s.tables ts xs.values) types_is in
         subst (λ p. IsFoundOf n x p s) (sym is_direct) (direct_found x (moved name told ctype types values x
         (sym same) told_is ctype_is types_is values_is c))
+
+-- a call of what is no name
+pub uncalled_found : (n : Numbering) (at name : ℕ) (f : Part) (ps : List Part) (s : Scope) (shown : Option Shown)
+    (xs : Passing) (told : Told) (z : Built) (x : Found) → f.typed.at ≡ name → f.typed.shown ≡ shown
+    → form.designated shown ≡ None → ArePassed n f.typed.faults ps xs
+    → typed_in told s ≡ says.call at name shown xs.arguments s → z ≡ a_part told false unmeant → x ≡ plain z
+    → IsFoundOf n x (form.call at f ps s) s
+uncalled_found n at name f ps s shown xs told z x same is none h tells made found =
+    let said = says.call at f.typed.at f.typed.shown (arguments_said (no_arguments f.typed.faults) ps) s in
+    let told_is : told ≡ told_of said = ap told_of tells
+    ∙ ap₂ (λ (y : Option Shown) (zs : says.Arguments). told_of (says.call at name y zs s)) (sym is) h.said
+    ∙ ap (λ a. told_of (says.call at a f.typed.shown (arguments_said (no_arguments f.typed.faults) ps) s)) (sym same)
+    in
+    subst (λ p. IsFoundOf n x p s)
+    (sym (ap (λ y. form.call_of y f.typed said (passed ps (parameters_of s.tables (type_of f.typed))))
+    (ap form.designated is ∙ none))) (each.on_unmeant n said told s z x made told_is refl found)
 
 -- what is made of what is called
 pub made_at : (n : Numbering) (s : Scope) (tables : Tables) (told : Told) (g : CodeSite) (es : List Expr) (c : Callee)

@@ -30,9 +30,9 @@ use Rattle.elaborate.specs.Operators.{operator_of}
 use Rattle.core_forms.specs.declared.built.Built.{Built}
 use Rattle.core_forms.specs.declared.built.Used.{Used}
 use Rattle.core_forms.specs.Nodes as nodes
-use Rattle.core_forms.specs.Nodes.{Makes, HasWorth, a_value, a_place, operand_by, type_by, cast_type, is_cast_of_used}
-use Rattle.core_forms.specs.Nodes.{named_node, is_object, turned_node, binary_node, pointer_node, target_of_sum}
-use Rattle.core_forms.specs.Nodes.{member_node, member_rooted, stored_by, stored_node, scalar_by, updated_node}
+use Rattle.core_forms.specs.Nodes.{HasWorth, a_part, a_value, a_place, operand_by, type_by, cast_type, is_cast_of_used}
+use Rattle.core_forms.specs.Nodes.{named_node, is_object, turned_node, binary_node, address_in, target_of_sum, unmeant}
+use Rattle.core_forms.specs.Nodes.{member_node, member_rooted, stored_node, scalar_access_by, updated_by}
 use Rattle.core_forms.specs.Nodes.{stepped_node, step_behind}
 use Rattle.core_forms.specs.Built.{IsBuilt, IsUsed, IsDiscarded, IsCastOperand}
 use Rattle.core_forms.proofs.Forms as built
@@ -125,6 +125,12 @@ module _ (n : Numbering) where
       (built.constant_built n z (says.character_told at value) (expr.Constant value) value
       (says.character_constant at value s) m refl refl) (λ l. refl) refl
 
+  -- what breaks a rule, and isn't run
+  pub on_unmeant : (x : Typed) (told : Told) (s : Scope) (z : Built) (w : Found) → z ≡ a_part told false unmeant
+      → told ≡ told_of x → s ≡ x.after → w ≡ plain z → IsFoundOf n w (forms.unmeant x) s
+  on_unmeant x told s z w m said e is =
+      simply w z (forms.unmeant x) s is (built.unmeant_built n z told x m said) (λ l. refl) e
+
   pub on_literal : (at : ℕ) (pieces : List (List ℕ)) (tables : Tables) (s : Scope) (z : Built) (text : List ℕ)
       → tables ≡ s.tables
       → z ≡ a_place (says.node at (says.literal_shown tables pieces) []) false (expr.Fixed (n.place at))
@@ -151,7 +157,7 @@ module _ (n : Numbering) where
       stays (Some f) = refl
 
   pub on_name : (at : ℕ) (s : Scope) (e e' : Option Entry) (z : Built) (x : Found) → e ≡ e'
-      → Makes z (says.named_told at e) (is_object e) (named_node e n.place) → x ≡ plain z
+      → z ≡ a_part (says.named_told at e) (is_object e) (named_node e n.place) → x ≡ plain z
       → IsFoundOf n x (forms.identifier at s e') s
   on_name at s e e' z x same m is =
       subst (λ e. IsFoundOf n x (forms.identifier at s e) s) same
@@ -173,8 +179,8 @@ module _ (n : Numbering) where
   pub on_member : (at : ℕ) (name : Name) (tables : Tables) (s : Scope) (x : Found) (p : Part) (z : Built) (w : Found)
       → tables ≡ s.tables → IsFoundOf n x p s
       → (let told = says.node_over at x.built.told.shown (says.member_shown_of tables name) x.built.told.faults in
-      Makes z told (member_rooted x.built.rooted x.built.node)
-      (member_node (forms.offset_of tables (type_in x.built.told.shown) name) (stored_by tables told) x.built.node))
+      z ≡ a_part told (member_rooted x.built.rooted x.built.node)
+      (member_node (forms.offset_of tables (type_in x.built.told.shown) name) (type_by tables told) x.built.node))
       → w ≡ plain z → IsFoundOf n w (forms.member at name p) s
   on_member at name tables s x p z w t h m is =
       quietly w z (forms.member at name p) s p.typed.after is
@@ -195,7 +201,7 @@ module _ (n : Numbering) where
 
   pub on_postfix : (at : ℕ) (op : PostfixOperator) (tables : Tables) (s : Scope) (x : Found) (p : Part) (z : Built)
       (w : Found) → tables ≡ s.tables → IsFoundOf n x p s
-      → Makes z (says.node_over at x.built.told.shown (says.stepped tables) x.built.told.faults) false
+      → z ≡ a_value (says.node_over at x.built.told.shown (says.stepped tables) x.built.told.faults)
       (stepped_node at (step_behind op) answered.Before tables x.built)
       → w ≡ plain z → IsFoundOf n w (forms.postfix at op p) s
   on_postfix at op tables s x p z w t h m is =
@@ -242,8 +248,8 @@ module _ (n : Numbering) where
 
   pub on_address : (at : ℕ) (tables : Tables) (s : Scope) (x : Found) (p : Part) (z : Built) (w : Found)
       → tables ≡ s.tables → IsFoundOf n x p s
-      → Makes z (says.node_over at x.built.told.shown (says.unary_judged tables u.Address) x.built.told.faults) false
-      (pointer_node x.built.node)
+      → z ≡ a_value (says.node_over at x.built.told.shown (says.unary_judged tables u.Address) x.built.told.faults)
+      (expr.Pointer (address_in x.built.node))
       → w ≡ plain z → IsFoundOf n w (forms.unary at u.Address p) s
   on_address at tables s x p z w t h m is =
       simply w z (forms.unary at u.Address p) s is
@@ -251,7 +257,7 @@ module _ (n : Numbering) where
 
   pub on_increment : (at : ℕ) (tables : Tables) (s : Scope) (x : Found) (p : Part) (z : Built) (w : Found)
       → tables ≡ s.tables → IsFoundOf n x p s
-      → Makes z (says.node_over at x.built.told.shown (says.unary_judged tables u.Increment) x.built.told.faults) false
+      → z ≡ a_value (says.node_over at x.built.told.shown (says.unary_judged tables u.Increment) x.built.told.faults)
       (stepped_node at o.Add answered.Stored tables x.built)
       → w ≡ plain z → IsFoundOf n w (forms.unary at u.Increment p) s
   on_increment at tables s x p z w t h m is =
@@ -260,7 +266,7 @@ module _ (n : Numbering) where
 
   pub on_decrement : (at : ℕ) (tables : Tables) (s : Scope) (x : Found) (p : Part) (z : Built) (w : Found)
       → tables ≡ s.tables → IsFoundOf n x p s
-      → Makes z (says.node_over at x.built.told.shown (says.unary_judged tables u.Decrement) x.built.told.faults) false
+      → z ≡ a_value (says.node_over at x.built.told.shown (says.unary_judged tables u.Decrement) x.built.told.faults)
       (stepped_node at o.Subtract answered.Stored tables x.built)
       → w ≡ plain z → IsFoundOf n w (forms.unary at u.Decrement p) s
   on_decrement at tables s x p z w t h m is =
@@ -290,7 +296,7 @@ module _ (n : Numbering) where
   pub on_plus : (at : ℕ) (tables : Tables) (s : Scope) (x : Found) (p : Part) (y : Used) (z : Built) (w : Found)
       → tables ≡ s.tables → IsFoundOf n x p s → HasWorth true tables x.built (used_told tables x.built.told) y
       → (let told = says.node_over at y.told.shown (says.unary_judged tables u.Plus) y.told.faults in
-      Makes z told false (turned_node at turn.Plus (kind_in (type_in y.told.shown)) (nodes.is_constant told) y.value))
+      z ≡ a_value told (turned_node at turn.Plus (kind_in (type_in y.told.shown)) (nodes.is_constant told) y.value))
       → w ≡ plain z → IsFoundOf n w (forms.unary at u.Plus p) s
   on_plus at tables s x p y z w t h k m is =
       simply w z (forms.unary at u.Plus p) s is
@@ -300,7 +306,7 @@ module _ (n : Numbering) where
   pub on_minus : (at : ℕ) (tables : Tables) (s : Scope) (x : Found) (p : Part) (y : Used) (z : Built) (w : Found)
       → tables ≡ s.tables → IsFoundOf n x p s → HasWorth true tables x.built (used_told tables x.built.told) y
       → (let told = says.node_over at y.told.shown (says.unary_judged tables u.Minus) y.told.faults in
-      Makes z told false (turned_node at turn.Minus (kind_in (type_in y.told.shown)) (nodes.is_constant told) y.value))
+      z ≡ a_value told (turned_node at turn.Minus (kind_in (type_in y.told.shown)) (nodes.is_constant told) y.value))
       → w ≡ plain z → IsFoundOf n w (forms.unary at u.Minus p) s
   on_minus at tables s x p y z w t h k m is =
       simply w z (forms.unary at u.Minus p) s is
@@ -310,7 +316,7 @@ module _ (n : Numbering) where
   pub on_complement : (at : ℕ) (tables : Tables) (s : Scope) (x : Found) (p : Part) (y : Used) (z : Built) (w : Found)
       → tables ≡ s.tables → IsFoundOf n x p s → HasWorth true tables x.built (used_told tables x.built.told) y
       → (let told = says.node_over at y.told.shown (says.unary_judged tables u.Complement) y.told.faults in
-      Makes z told false
+      z ≡ a_value told
       (turned_node at turn.Complement (kind_in (type_in y.told.shown)) (nodes.is_constant told) y.value))
       → w ≡ plain z → IsFoundOf n w (forms.unary at u.Complement p) s
   on_complement at tables s x p y z w t h k m is =
@@ -323,7 +329,7 @@ module _ (n : Numbering) where
   pub on_subscript : (at : ℕ) (tables : Tables) (s : Scope) (x : Used) (y : Found) (p q : Part) (k : Used) (z : Built)
       (w : Found) → tables ≡ s.tables → IsUsed n x p → IsFoundOf n y q s
       → HasWorth true tables y.built (used_told tables y.built.told) k
-      → Makes z (says.node_over_two at x.told.shown k.told.shown (says.element tables) (x.told.faults ++ k.told.faults))
+      → z ≡ a_place (says.node_over_two at x.told.shown k.told.shown (says.element tables) (x.told.faults ++ k.told.faults))
       false (target_of_sum at (operator_of o.Add (operand_by tables x.told) (operand_by tables k.told)) x.value k.value)
       → w ≡ plain z → IsFoundOf n w (forms.subscript at p q) s
   on_subscript at tables s x y p q k z w t h i j m is =
@@ -336,7 +342,7 @@ module _ (n : Numbering) where
       → HasWorth true tables y.built (used_told tables y.built.told) k
       → (let told = says.node_over_two at x.told.shown k.told.shown (says.operated tables op)
       (x.told.faults ++ k.told.faults) in
-      Makes z told false (binary_node at op tables (nodes.is_constant told) x k))
+      z ≡ a_value told (binary_node at op tables (nodes.is_constant told) x k))
       → w ≡ plain z → IsFoundOf n w (forms.binary at op p q) s
   on_binary at op tables s x y p q k z w t h i j m is =
       quietly w z (forms.binary at op p q) s q.typed.after is
@@ -348,8 +354,8 @@ module _ (n : Numbering) where
   pub on_simple : (at : ℕ) (tables : Tables) (s : Scope) (x : Built) (y : Found) (p q : Part) (k : Used) (z : Built)
       (w : Found) → tables ≡ s.tables → IsBuilt n x p → IsFoundOf n y q s
       → HasWorth true tables y.built (used_told tables y.built.told) k
-      → Makes z (says.node_over_two at x.told.shown k.told.shown (says.assignment_judged tables None)
-      (x.told.faults ++ k.told.faults)) false (stored_node at x.told x.rooted (stored_by tables x.told) x.node k.value)
+      → z ≡ a_value (says.node_over_two at x.told.shown k.told.shown (says.assignment_judged tables None)
+      (x.told.faults ++ k.told.faults)) (stored_node at tables x.told x.rooted x.node k.value)
       → w ≡ plain z → IsFoundOf n w (forms.assignment at None p q) s
   on_simple at tables s x y p q k z w t h i j m is =
       simply w z (forms.assignment at None p q) s is
@@ -359,10 +365,10 @@ module _ (n : Numbering) where
   pub on_compound : (op : BinaryOperator) (at : ℕ) (tables : Tables) (s : Scope) (x : Built) (y : Found) (p q : Part)
       (k : Used) (z : Built) (w : Found) → tables ≡ s.tables → IsBuilt n x p → IsFoundOf n y q s
       → HasWorth true tables y.built (used_told tables y.built.told) k
-      → Makes z (says.node_over_two at x.told.shown k.told.shown (says.assignment_judged tables (Some op))
-      (x.told.faults ++ k.told.faults)) false
-      (updated_node at x.told x.rooted (scalar_by x.told)
-      (operator_of op (operand_by tables x.told) (operand_by tables k.told)) x.node k.value)
+      → z ≡ a_value (says.node_over_two at x.told.shown k.told.shown (says.assignment_judged tables (Some op))
+      (x.told.faults ++ k.told.faults))
+      (updated_by at (scalar_access_by x.told x.rooted)
+      (operator_of op (operand_by tables x.told) (operand_by tables k.told)) (address_in x.node) k.value)
       → w ≡ plain z → IsFoundOf n w (forms.assignment at (Some op) p q) s
   on_compound op at tables s x y p q k z w t h i j m is =
       simply w z (forms.assignment at (Some op) p q) s is

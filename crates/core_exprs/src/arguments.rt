@@ -13,7 +13,7 @@ use crate::found::Found;
 use c_language::{Base, CType, Derivation, Fault, Tables, Told};
 use c_type_scope::Scope;
 use c_typing::{Arguments, and_argument, no_arguments};
-use core_forms::{NoCore, Used, converted, operand};
+use core_forms::{Used, converted, operand};
 use core_tree::Expr;
 use plain_data::{Bytes, Items, Shared};
 use std::alloc::{AllocError, Global};
@@ -83,7 +83,7 @@ pub(crate) fn and_passed(
     scope: &Scope,
     before: Passing,
     x: Found,
-) -> Result<Passing, NoCore>
+) -> Result<Passing, AllocError>
     ensures { (n : Numbering) (faults : List fault.Fault) (ps : List Part) (p : Part) → ArePassed n faults ps before → IsFoundOf n x p scope.now →
         IfOk result (λ y. ArePassed n faults (ps ++ p ∷ []) y) }
 {

@@ -7,9 +7,9 @@ ghost use Rattle.core_exprs.specs.Sites.{site_of};
 use crate::site::Site;
 use c_language::Name;
 use c_type_scope::Scope;
-use core_forms::{NoCore, Places};
+use core_forms::Places;
 use core_tree::Callee;
-use std::alloc::Global;
+use std::alloc::{AllocError, Global};
 
 /// What the calls of a function are in the core.
 pub trait Callees: Places {
@@ -17,7 +17,8 @@ pub trait Callees: Places {
     fn identity(&self, name: &Name) -> Option<u32>
         ensures { result ≡ (Self.numbering self.now).identity name.now };
 
-    /// What a call calls, with the names in force behind its arguments: it answers as the call's type has it.
-    fn callee(&self, alloc: Global, site: &Site, scope: &Scope) -> Result<Callee, NoCore>
+    /// What a call calls, with the names in force behind its arguments: it answers as the call's type has it. It fails
+    /// for want of memory alone.
+    fn callee(&self, alloc: Global, site: &Site, scope: &Scope) -> Result<Callee, AllocError>
         ensures { IfOk result (λ c. IsCallOf (Self.numbering self.now) c site.now.at (type_as scope.now.tables site.now.ctype) (λ l. site_of site.now scope.now)) };
 }

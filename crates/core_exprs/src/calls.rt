@@ -1,5 +1,6 @@
 //! Calls (C99 6.5.2.2).
-ghost use Rattle.std.specs.Prelude.{◌≡◌, List, Some, IfOk};
+ghost use Rattle.std.specs.Prelude.{◌≡◌, List, Some, None, IfOk};
+ghost use Rattle.elaborate.specs.Means.{Numbering};
 ghost use Rattle.c_means.specs.Expressions as form;
 ghost use Rattle.c_means.specs.Parts.{Part};
 ghost use Rattle.core_exprs.specs.Found.{IsCallAt, IsFoundOf};
@@ -7,23 +8,24 @@ ghost use Rattle.core_exprs.specs.Passing.{ArePassed, all_converted, types_passe
 
 use crate::arguments::{Passing, parameters_of, put_converted, put_types, type_again};
 use crate::callees::Callees;
-use crate::found::Found;
+use crate::found::{Found, plain};
 use crate::site::Site;
 use c_language::{CType, Entry, Shown, Told};
 use c_type_scope::Scope;
 use c_typing::{Arguments, call as call_told};
-use core_forms::{Built, Call, NoCore, Node, type_as};
+use core_forms::{Built, Call, Node, left, type_as};
 use core_tree::Expr;
 use plain_data::{Bytes, Items, Shared};
 use std::alloc::{AllocError, Global};
 
-/// The declaration of the name that is called: a call of what is no name breaks a rule (C99 6.5.2.2p1).
-fn designated(shown: &Shown) -> Result<Shared<Entry>, NoCore>
-    ensures { IfOk result (λ e. shown.now.designates ≡ Some e) }
+/// The declaration of the name that is called: a call of what is no name breaks a rule (C99 6.5.2.2p1). It fails for
+/// want of memory alone.
+fn designated(shown: &Shown) -> Result<Option<Shared<Entry>>, AllocError>
+    ensures { IfOk result (λ e. e ≡ shown.now.designates) }
 {
     match &shown.designates {
-        Some(entry) => Ok(entry.clone()?),
-        None => Err(NoCore::Outside),
+        Some(entry) => Ok(Some(entry.clone()?)),
+        None => Ok(None),
     }
 }
 
@@ -83,7 +85,7 @@ fn call_at<C: Callees>(
     told: Told,
     site: Site,
     arguments: Items<Shared<Expr>>,
-) -> Result<Found, NoCore>
+) -> Result<Found, AllocError>
     ensures { IfOk result (λ x. IsCallAt (C.numbering callees.now) scope.now told site arguments x) }
 {
     let callee = callees.callee(alloc, &site, scope)?;
@@ -103,29 +105,44 @@ fn call_at<C: Callees>(
     Ok(Found { built, text })
 }
 
-/// A call of what stands at `name`, behind its arguments, in the names in force behind them.
-pub(crate) fn call<C: Callees>(
+/// A call of what is no name, behind its arguments: it breaks a rule, and isn't run. It fails for want of memory alone.
+fn uncalled(
     alloc: Global,
-    callees: &C,
     scope: &Scope,
     at: u32,
     name: u32,
     shown: Option<Shown>,
     xs: Passing,
-) -> Result<Found, NoCore>
-    ensures { (f : Part) (ps : List Part) → f.typed.at ≡ name → f.typed.shown ≡ shown → ArePassed (C.numbering callees.now) f.typed.faults ps xs →
+) -> Result<Found, AllocError>
+    ensures { (n : Numbering) (f : Part) (ps : List Part) → f.typed.at ≡ name → f.typed.shown ≡ shown → form.designated shown ≡ None → ArePassed n f.typed.faults ps xs →
+        IfOk result (λ x. IsFoundOf n x (form.call at f ps scope.now) scope.now) }
+{
+    let Passing { arguments, .. } = xs;
+    let told = call_told(alloc, scope, at, name, shown, arguments)?;
+    let built = left(alloc, told)?;
+    Ok(plain(built))
+}
+
+/// A call of the function of this declaration, by its name. It fails for want of memory alone.
+fn called<C: Callees>(
+    alloc: Global,
+    callees: &C,
+    scope: &Scope,
+    at: u32,
+    name: u32,
+    function: Shown,
+    callee: Shared<Entry>,
+    xs: Passing,
+) -> Result<Found, AllocError>
+    ensures { (f : Part) (ps : List Part) → f.typed.at ≡ name → f.typed.shown ≡ Some function → function.designates ≡ Some callee → ArePassed (C.numbering callees.now) f.typed.faults ps xs →
         IfOk result (λ x. IsFoundOf (C.numbering callees.now) x (form.call at f ps scope.now) scope.now) }
 {
-    let Some(function) = shown else {
-        return Err(NoCore::Outside);
-    };
     let Passing {
         arguments,
         types,
         texts,
         values,
     } = xs;
-    let callee = designated(&function)?;
     let types = passed_types(alloc, scope, &function.ctype, &types)?;
     let values = passed_values(alloc, scope, &types, &values)?;
     let told = call_told(alloc, scope, at, name, Some(function), arguments)?;
@@ -138,4 +155,43 @@ pub(crate) fn call<C: Callees>(
         texts,
     };
     call_at(alloc, callees, scope, told, site, values)
+}
+
+/// A call of what shows this, behind its arguments. It fails for want of memory alone.
+fn call_of<C: Callees>(
+    alloc: Global,
+    callees: &C,
+    scope: &Scope,
+    at: u32,
+    name: u32,
+    function: Shown,
+    xs: Passing,
+) -> Result<Found, AllocError>
+    ensures { (f : Part) (ps : List Part) → f.typed.at ≡ name → f.typed.shown ≡ Some function → ArePassed (C.numbering callees.now) f.typed.faults ps xs →
+        IfOk result (λ x. IsFoundOf (C.numbering callees.now) x (form.call at f ps scope.now) scope.now) }
+{
+    match designated(&function)? {
+        Some(callee) => called(alloc, callees, scope, at, name, function, callee, xs),
+        None => uncalled(alloc, scope, at, name, Some(function), xs),
+    }
+}
+
+/// A call of what stands at `name`, behind its arguments, in the names in force behind them. It fails for want of
+/// memory alone.
+pub(crate) fn call<C: Callees>(
+    alloc: Global,
+    callees: &C,
+    scope: &Scope,
+    at: u32,
+    name: u32,
+    shown: Option<Shown>,
+    xs: Passing,
+) -> Result<Found, AllocError>
+    ensures { (f : Part) (ps : List Part) → f.typed.at ≡ name → f.typed.shown ≡ shown → ArePassed (C.numbering callees.now) f.typed.faults ps xs →
+        IfOk result (λ x. IsFoundOf (C.numbering callees.now) x (form.call at f ps scope.now) scope.now) }
+{
+    match shown {
+        Some(function) => call_of(alloc, callees, scope, at, name, function, xs),
+        None => uncalled(alloc, scope, at, name, None, xs),
+    }
 }

@@ -11,10 +11,10 @@ use crate::found::Found;
 use crate::trees::core_of;
 use c_language::{CType, Expr};
 use c_type_scope::Scope;
-use core_forms::{NoCore, Used, converted, operand};
+use core_forms::{Used, converted, operand};
 use core_tree::Expr as CoreExpr;
 use plain_data::{Bytes, Shared};
-use std::alloc::Global;
+use std::alloc::{AllocError, Global};
 
 /// An expression whose value is used, as a condition's is: its core, and what the types say of its value.
 pub fn value<C: Callees>(
@@ -22,7 +22,7 @@ pub fn value<C: Callees>(
     callees: &C,
     expr: &Expr,
     scope: &mut Scope,
-) -> Result<Used, NoCore>
+) -> Result<Used, AllocError>
     ensures value { IfOk result (λ x. IsUsed (C.numbering callees.now) x (part expr.now scope.old)) }
     ensures after { IfOk result (λ x. scope.new ≡ (part expr.now scope.old).typed.after) }
 {
@@ -37,7 +37,7 @@ pub fn effect<C: Callees>(
     callees: &C,
     expr: &Expr,
     scope: &mut Scope,
-) -> Result<Used, NoCore>
+) -> Result<Used, AllocError>
     ensures effect { IfOk result (λ x. IsDiscarded (C.numbering callees.now) x (part expr.now scope.old)) }
     ensures after { IfOk result (λ x. scope.new ≡ (part expr.now scope.old).typed.after) }
 {
@@ -53,7 +53,7 @@ pub fn value_as<C: Callees>(
     expr: &Expr,
     ctype: &Option<CType>,
     scope: &mut Scope,
-) -> Result<Shared<CoreExpr>, NoCore>
+) -> Result<Shared<CoreExpr>, AllocError>
     ensures value { IfOk result (λ x. IsConvertedAs (C.numbering callees.now) x (part expr.now scope.old) ctype.now) }
     ensures after { IfOk result (λ x. scope.new ≡ (part expr.now scope.old).typed.after) }
 {
@@ -76,7 +76,7 @@ pub fn initializer<C: Callees>(
     callees: &C,
     expr: &Expr,
     scope: &mut Scope,
-) -> Result<Initial, NoCore>
+) -> Result<Initial, AllocError>
     ensures value { IfOk result (λ x. IsUsed (C.numbering callees.now) x.used (part expr.now scope.old)) }
     ensures text { IfOk result (λ x. (l : Level) → l.identity ≡ (C.numbering callees.now).identity → x.text ≡ (part expr.now scope.old).text l) }
     ensures after { IfOk result (λ x. scope.new ≡ (part expr.now scope.old).typed.after) }

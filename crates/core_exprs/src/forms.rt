@@ -18,7 +18,7 @@ use crate::found::{Found, plain};
 use c_declares::TypeSaid;
 use c_language::{BinaryOperator, Entry, IntegerConstant, Name, PostfixOperator, Told};
 use c_type_scope::Scope;
-use core_forms::{Built, NoCore, Used};
+use core_forms::{Built, Used};
 use plain_data::{Bytes, Shared};
 use std::alloc::{AllocError, Global};
 
@@ -27,10 +27,18 @@ pub(crate) fn integer_constant(
     alloc: Global,
     at: u32,
     constant: &IntegerConstant,
-) -> Result<Found, NoCore>
+) -> Result<Found, AllocError>
     ensures { (n : Numbering) (s : scopes.Scope) → IfOk result (λ x. IsFoundOf n x (form.integer_constant at constant.now s) s) }
 {
     let x = core_forms::integer_constant(alloc, at, constant)?;
+    Ok(plain(x))
+}
+
+/// A constant of floating type (C99 6.4.4.2) breaks a rule, and isn't run. It fails for want of memory alone.
+pub(crate) fn floating_constant(alloc: Global, at: u32) -> Result<Found, AllocError>
+    ensures { (n : Numbering) (s : scopes.Scope) → IfOk result (λ x. IsFoundOf n x (form.floating_constant at s) s) }
+{
+    let x = core_forms::floating_constant(alloc, at)?;
     Ok(plain(x))
 }
 
@@ -42,7 +50,7 @@ fn character(alloc: Global, at: u32, value: &i32) -> Result<Built, AllocError>
 }
 
 /// A character constant (C99 6.4.4.4). It fails for want of memory alone.
-pub(crate) fn character_constant(alloc: Global, at: u32, value: &i32) -> Result<Found, NoCore>
+pub(crate) fn character_constant(alloc: Global, at: u32, value: &i32) -> Result<Found, AllocError>
     ensures { (n : Numbering) (s : scopes.Scope) → IfOk result (λ x. IsFoundOf n x (form.character_constant at value.now s) s) }
 {
     let x = character(alloc, at, value)?;
@@ -78,7 +86,7 @@ pub(crate) fn string_literal<C: Callees>(
     scope: &Scope,
     at: u32,
     pieces: &[Shared<Bytes>],
-) -> Result<Found, NoCore>
+) -> Result<Found, AllocError>
     ensures { IfOk result (λ x. IsFoundOf (C.numbering callees.now) x (form.string_literal at pieces.now scope.now) scope.now) }
 {
     let text = joined(alloc, pieces)?;
@@ -95,7 +103,7 @@ pub(crate) fn function_name<C: Callees>(
     callees: &C,
     scope: &Scope,
     at: u32,
-) -> Result<Found, NoCore>
+) -> Result<Found, AllocError>
     ensures { IfOk result (λ x. IsFoundOf (C.numbering callees.now) x (form.function_name at scope.now.function scope.now) scope.now) }
 {
     let x = core_forms::function_name(alloc, callees, scope.tables(), at, scope.function())?;
@@ -116,7 +124,7 @@ pub(crate) fn identifier<C: Callees>(
     scope: &Scope,
     at: u32,
     name: &Name,
-) -> Result<Found, NoCore>
+) -> Result<Found, AllocError>
     ensures { IfOk result (λ x. IsFoundOf (C.numbering callees.now) x (form.identifier at scope.now (scopes.look_up scope.now name.now)) scope.now) }
 {
     let x = core_forms::identifier(alloc, callees, at, declared(scope, name))?;
@@ -124,7 +132,7 @@ pub(crate) fn identifier<C: Callees>(
 }
 
 /// A part whose value is used.
-pub(crate) fn used(alloc: Global, scope: &Scope, x: Found) -> Result<Used, NoCore>
+pub(crate) fn used(alloc: Global, scope: &Scope, x: Found) -> Result<Used, AllocError>
     ensures { (n : Numbering) (p : Part) → IsFoundOf n x p scope.now → IfOk result (λ u. IsUsed n u p) }
 {
     let Found { built, .. } = x;
@@ -132,7 +140,7 @@ pub(crate) fn used(alloc: Global, scope: &Scope, x: Found) -> Result<Used, NoCor
 }
 
 /// A part whose value isn't used.
-pub(crate) fn unused(alloc: Global, scope: &Scope, x: Found) -> Result<Used, NoCore>
+pub(crate) fn unused(alloc: Global, scope: &Scope, x: Found) -> Result<Used, AllocError>
     ensures { (n : Numbering) (p : Part) → IsFoundOf n x p scope.now → IfOk result (λ u. IsDiscarded n u p) }
 {
     let Found { built, .. } = x;
@@ -146,7 +154,7 @@ pub(crate) fn subscript(
     at: u32,
     x: Used,
     y: Found,
-) -> Result<Found, NoCore>
+) -> Result<Found, AllocError>
     ensures { (n : Numbering) (p q : Part) → IsUsed n x p → IsFoundOf n y q scope.now → IfOk result (λ z. IsFoundOf n z (form.subscript at p q) scope.now) }
 {
     let tables = scope.tables();
@@ -163,7 +171,7 @@ pub(crate) fn member(
     at: u32,
     name: &Name,
     x: Found,
-) -> Result<Found, NoCore>
+) -> Result<Found, AllocError>
     ensures { (n : Numbering) (p : Part) → IsFoundOf n x p scope.now → IfOk result (λ z. IsFoundOf n z (form.member at name.now p) scope.now) }
 {
     let Found { built, .. } = x;
@@ -178,7 +186,7 @@ pub(crate) fn arrow(
     at: u32,
     name: &Name,
     x: Found,
-) -> Result<Found, NoCore>
+) -> Result<Found, AllocError>
     ensures { (n : Numbering) (p : Part) → IsFoundOf n x p scope.now → IfOk result (λ z. IsFoundOf n z (form.arrow at name.now p) scope.now) }
 {
     let tables = scope.tables();
@@ -195,7 +203,7 @@ pub(crate) fn postfix(
     at: u32,
     operator: PostfixOperator,
     x: Found,
-) -> Result<Found, NoCore>
+) -> Result<Found, AllocError>
     ensures { (n : Numbering) (p : Part) → IsFoundOf n x p scope.now → IfOk result (λ z. IsFoundOf n z (form.postfix at operator p) scope.now) }
 {
     let Found { built, .. } = x;
@@ -209,7 +217,7 @@ pub(crate) fn size_of_expression(
     scope: &Scope,
     at: u32,
     x: Told,
-) -> Result<Found, NoCore>
+) -> Result<Found, AllocError>
     ensures { (n : Numbering) (p : Part) → typed_in x scope.now ≡ p.typed → IfOk result (λ z. IsFoundOf n z (form.size_of_expression at p) scope.now) }
 {
     let z = core_forms::size_of_expression(alloc, scope.tables(), at, x)?;
@@ -222,7 +230,7 @@ pub(crate) fn size_of_type(
     scope: &Scope,
     at: u32,
     named: TypeSaid,
-) -> Result<Found, NoCore>
+) -> Result<Found, AllocError>
     ensures { (n : Numbering) → IfOk result (λ z. IsFoundOf n z (form.size_of_type at named.ctype named.faults scope.now) scope.now) }
 {
     let TypeSaid { ctype, faults } = named;
@@ -237,7 +245,7 @@ pub(crate) fn cast(
     at: u32,
     to: TypeSaid,
     x: Found,
-) -> Result<Found, NoCore>
+) -> Result<Found, AllocError>
     ensures { (n : Numbering) (p : Part) → IsFoundOf n x p scope.now → IfOk result (λ z. IsFoundOf n z (form.cast at to.ctype to.faults p) scope.now) }
 {
     let TypeSaid { ctype, faults } = to;
@@ -255,7 +263,7 @@ pub(crate) fn binary(
     operator: BinaryOperator,
     x: Used,
     y: Found,
-) -> Result<Found, NoCore>
+) -> Result<Found, AllocError>
     ensures { (n : Numbering) (p q : Part) → IsUsed n x p → IsFoundOf n y q scope.now → IfOk result (λ z. IsFoundOf n z (form.binary at operator p q) scope.now) }
 {
     let tables = scope.tables();
@@ -273,7 +281,7 @@ pub(crate) fn choice(
     condition: Used,
     x: Used,
     y: Found,
-) -> Result<Found, NoCore>
+) -> Result<Found, AllocError>
     ensures { (n : Numbering) (r p q : Part) → IsUsed n condition r → IsUsed n x p → IsFoundOf n y q scope.now →
         IfOk result (λ z. IsFoundOf n z (form.choice at r p q) scope.now) }
 {
@@ -285,7 +293,7 @@ pub(crate) fn choice(
 }
 
 /// `target = value` (C99 6.5.16.1).
-fn simple(alloc: Global, scope: &Scope, at: u32, x: Built, y: Found) -> Result<Found, NoCore>
+fn simple(alloc: Global, scope: &Scope, at: u32, x: Built, y: Found) -> Result<Found, AllocError>
     ensures { (n : Numbering) (p q : Part) → IsBuilt n x p → IsFoundOf n y q scope.now → IfOk result (λ z. IsFoundOf n z (form.assignment at None p q) scope.now) }
 {
     let Found { built, .. } = y;
@@ -303,7 +311,7 @@ fn compound(
     operator: BinaryOperator,
     x: Built,
     y: Found,
-) -> Result<Found, NoCore>
+) -> Result<Found, AllocError>
     ensures { (n : Numbering) (p q : Part) → IsBuilt n x p → IsFoundOf n y q scope.now → IfOk result (λ z. IsFoundOf n z (form.assignment at (Some operator) p q) scope.now) }
 {
     let Found { built, .. } = y;
@@ -321,7 +329,7 @@ pub(crate) fn assignment(
     operator: Option<BinaryOperator>,
     x: Found,
     y: Found,
-) -> Result<Found, NoCore>
+) -> Result<Found, AllocError>
     ensures { (n : Numbering) (p q : Part) → IsBuilt n x.built p → IsFoundOf n y q scope.now → IfOk result (λ z. IsFoundOf n z (form.assignment at operator p q) scope.now) }
 {
     let Found { built, .. } = x;
@@ -338,7 +346,7 @@ pub(crate) fn comma(
     at: u32,
     x: Used,
     y: Found,
-) -> Result<Found, NoCore>
+) -> Result<Found, AllocError>
     ensures { (n : Numbering) (p q : Part) → IsDiscarded n x p → IsFoundOf n y q scope.now → IfOk result (λ z. IsFoundOf n z (form.comma at p q) scope.now) }
 {
     let Found { built, .. } = y;

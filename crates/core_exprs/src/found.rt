@@ -5,8 +5,8 @@ ghost use Rattle.core_exprs.specs.Found as spec;
 use core_forms::Built;
 use plain_data::Bytes;
 
-/// An expression in the core: what it is as a part, and its bytes where it is a string literal, parentheses and identity
-/// functions apart.
+/// An expression in the core: what it is as a part, and its bytes where it is a string literal, parentheses and
+/// identity functions apart.
 #[derive(Drop)]
 pub struct Found {
     pub built: Built,

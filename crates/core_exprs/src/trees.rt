@@ -11,25 +11,24 @@ use crate::said::{named_type, typed_part};
 use crate::unary::unary;
 use c_language::{Expr, Fault, Told};
 use c_type_scope::Scope;
-use core_forms::NoCore;
 use plain_data::{Items, Shared};
-use std::alloc::Global;
+use std::alloc::{AllocError, Global};
 
-/// The core of an expression (C99 6.5): operands and type names from left to right, each in the scope that those before it
-/// leave. What `sizeof` is applied to isn't evaluated, and what is called is a name. It fails for want of memory, and
-/// where a part has no core: floating types, calls through pointers, names and types that break a rule.
+/// The core of an expression (C99 6.5): operands and type names from left to right, each in the scope that those
+/// before it leave. What `sizeof` is applied to isn't evaluated, and what is called is a name. What breaks a rule
+/// isn't run. It fails for want of memory alone.
 #[cycle(building)]
 pub fn core_of<C: Callees>(
     alloc: Global,
     callees: &C,
     expr: &Expr,
     scope: &mut Scope,
-) -> Result<Found, NoCore>
+) -> Result<Found, AllocError>
     ensures { IfOk result (λ x. IsFound (C.numbering callees.now) expr.now scope.old x scope.new) }
 {
     match expr {
         Expr::Integer { at, constant } => forms::integer_constant(alloc, *at, constant),
-        Expr::Floating { .. } => Err(NoCore::Outside),
+        Expr::Floating { at } => forms::floating_constant(alloc, *at),
         Expr::Character { at, value } => forms::character_constant(alloc, *at, value),
         Expr::StringLiteral { at, pieces } => {
             forms::string_literal(alloc, callees, scope, *at, pieces.as_slice())
@@ -160,7 +159,7 @@ fn all_arguments<C: Callees>(
     items: &[Shared<Expr>],
     faults: Items<Fault>,
     scope: &mut Scope,
-) -> Result<Passing, NoCore>
+) -> Result<Passing, AllocError>
     ensures { IfOk result (λ xs. AreFound (C.numbering callees.now) faults items.now scope.old xs scope.new) }
 {
     let mut all = nothing_passed(alloc, faults);

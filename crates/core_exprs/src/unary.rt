@@ -9,11 +9,10 @@ ghost use Rattle.core_exprs.specs.Found.{IsFoundOf};
 use crate::found::{Found, plain};
 use c_language::UnaryOperator;
 use c_type_scope::Scope;
-use core_forms::NoCore;
-use std::alloc::Global;
+use std::alloc::{AllocError, Global};
 
 /// `&operand` (C99 6.5.3.2p3).
-fn address_of(alloc: Global, scope: &Scope, at: u32, x: Found) -> Result<Found, NoCore>
+fn address_of(alloc: Global, scope: &Scope, at: u32, x: Found) -> Result<Found, AllocError>
     ensures { (n : Numbering) (p : Part) → IsFoundOf n x p scope.now → IfOk result (λ z. IsFoundOf n z (form.unary at u.Address p) scope.now) }
 {
     let Found { built, .. } = x;
@@ -22,7 +21,7 @@ fn address_of(alloc: Global, scope: &Scope, at: u32, x: Found) -> Result<Found, 
 }
 
 /// `*operand` (C99 6.5.3.2p4).
-fn indirection(alloc: Global, scope: &Scope, at: u32, x: Found) -> Result<Found, NoCore>
+fn indirection(alloc: Global, scope: &Scope, at: u32, x: Found) -> Result<Found, AllocError>
     ensures { (n : Numbering) (p : Part) → IsFoundOf n x p scope.now → IfOk result (λ z. IsFoundOf n z (form.unary at u.Indirection p) scope.now) }
 {
     let tables = scope.tables();
@@ -33,7 +32,7 @@ fn indirection(alloc: Global, scope: &Scope, at: u32, x: Found) -> Result<Found,
 }
 
 /// `+operand` (C99 6.5.3.3p2).
-fn plus(alloc: Global, scope: &Scope, at: u32, x: Found) -> Result<Found, NoCore>
+fn plus(alloc: Global, scope: &Scope, at: u32, x: Found) -> Result<Found, AllocError>
     ensures { (n : Numbering) (p : Part) → IsFoundOf n x p scope.now → IfOk result (λ z. IsFoundOf n z (form.unary at u.Plus p) scope.now) }
 {
     let tables = scope.tables();
@@ -44,7 +43,7 @@ fn plus(alloc: Global, scope: &Scope, at: u32, x: Found) -> Result<Found, NoCore
 }
 
 /// `-operand` (C99 6.5.3.3p3).
-fn minus(alloc: Global, scope: &Scope, at: u32, x: Found) -> Result<Found, NoCore>
+fn minus(alloc: Global, scope: &Scope, at: u32, x: Found) -> Result<Found, AllocError>
     ensures { (n : Numbering) (p : Part) → IsFoundOf n x p scope.now → IfOk result (λ z. IsFoundOf n z (form.unary at u.Minus p) scope.now) }
 {
     let tables = scope.tables();
@@ -55,7 +54,7 @@ fn minus(alloc: Global, scope: &Scope, at: u32, x: Found) -> Result<Found, NoCor
 }
 
 /// `~operand` (C99 6.5.3.3p4).
-fn complement(alloc: Global, scope: &Scope, at: u32, x: Found) -> Result<Found, NoCore>
+fn complement(alloc: Global, scope: &Scope, at: u32, x: Found) -> Result<Found, AllocError>
     ensures { (n : Numbering) (p : Part) → IsFoundOf n x p scope.now → IfOk result (λ z. IsFoundOf n z (form.unary at u.Complement p) scope.now) }
 {
     let tables = scope.tables();
@@ -66,7 +65,7 @@ fn complement(alloc: Global, scope: &Scope, at: u32, x: Found) -> Result<Found, 
 }
 
 /// `!operand` (C99 6.5.3.3p5).
-fn not(alloc: Global, scope: &Scope, at: u32, x: Found) -> Result<Found, NoCore>
+fn not(alloc: Global, scope: &Scope, at: u32, x: Found) -> Result<Found, AllocError>
     ensures { (n : Numbering) (p : Part) → IsFoundOf n x p scope.now → IfOk result (λ z. IsFoundOf n z (form.unary at u.Not p) scope.now) }
 {
     let tables = scope.tables();
@@ -77,7 +76,7 @@ fn not(alloc: Global, scope: &Scope, at: u32, x: Found) -> Result<Found, NoCore>
 }
 
 /// `++operand` (C99 6.5.3.1p2).
-fn increment(alloc: Global, scope: &Scope, at: u32, x: Found) -> Result<Found, NoCore>
+fn increment(alloc: Global, scope: &Scope, at: u32, x: Found) -> Result<Found, AllocError>
     ensures { (n : Numbering) (p : Part) → IsFoundOf n x p scope.now → IfOk result (λ z. IsFoundOf n z (form.unary at u.Increment p) scope.now) }
 {
     let Found { built, .. } = x;
@@ -86,7 +85,7 @@ fn increment(alloc: Global, scope: &Scope, at: u32, x: Found) -> Result<Found, N
 }
 
 /// `--operand` (C99 6.5.3.1p3).
-fn decrement(alloc: Global, scope: &Scope, at: u32, x: Found) -> Result<Found, NoCore>
+fn decrement(alloc: Global, scope: &Scope, at: u32, x: Found) -> Result<Found, AllocError>
     ensures { (n : Numbering) (p : Part) → IsFoundOf n x p scope.now → IfOk result (λ z. IsFoundOf n z (form.unary at u.Decrement p) scope.now) }
 {
     let Found { built, .. } = x;
@@ -101,7 +100,7 @@ pub(crate) fn unary(
     at: u32,
     operator: UnaryOperator,
     x: Found,
-) -> Result<Found, NoCore>
+) -> Result<Found, AllocError>
     ensures { (n : Numbering) (p : Part) → IsFoundOf n x p scope.now → IfOk result (λ z. IsFoundOf n z (form.unary at operator p) scope.now) }
 {
     match operator {

@@ -18,7 +18,7 @@ use Rattle.c_language.specs.Typing as says
 use Rattle.c_means.specs.Parts.{State, Part}
 use Rattle.c_means.specs.Parts as c
 use Rattle.c_means.specs.Expressions as forms
-use Rattle.c_means.specs.Operators.{kind_in, target_in, value_type}
+use Rattle.c_means.specs.Operators.{kind_in, target_in, value_type, operand_of, operated, operated_on}
 use Rattle.c_means.specs.Values.{class_in, bytes_of}
 use Rattle.core_tree.specs.declared.expr.Expr.{Expr}
 use Rattle.core_tree.specs.declared.expr.Expr.TheVariants as expr
@@ -31,31 +31,26 @@ use Rattle.core_tree.specs.declared.types.ValueType.TheVariants as v
 use Rattle.core_tree.specs.Values.{value}
 use Rattle.core_tree.proofs.Equations as eq
 use Rattle.elaborate.specs.Means.{Numbering, IsValueOf, IsAddressOf, as_found}
-use Rattle.elaborate.specs.Operators.{Operates}
+use Rattle.elaborate.specs.Operators.{operator_of}
 use Rattle.elaborate.specs.Types as types
 use Rattle.elaborate.specs.Types.{word_type}
 use Rattle.elaborate.proofs.Values as values
 use Rattle.elaborate.proofs.Pointers as pointers
+use Rattle.elaborate.proofs.Operates.{operates, refuses}
+use Rattle.elaborate.proofs.Refused.{nowhere_address, unturned_value, refused_value, refused_target}
 use Rattle.core_forms.specs.declared.built.Built.{Built}
 use Rattle.core_forms.specs.declared.built.Node.{Node}
 use Rattle.core_forms.specs.declared.built.Node.TheVariants as node
-use Rattle.core_forms.specs.Nodes.{Makes, a_value, a_place, operand_by, cast_type, stored_by, stored_in, type_as}
+use Rattle.core_forms.specs.Nodes.{a_part, a_value, a_place, address_in, call_node, operand_by, cast_type, type_as, type_by}
+use Rattle.core_forms.specs.Nodes.{member_node, member_rooted, operated_node, target_of_sum, turned_node, unmeant}
 use Rattle.c_language.specs.declared.scope.Duration.TheVariants as duration
 use Rattle.c_means.specs.Values as worths
 use Rattle.core_forms.specs.declared.built.Used.{Used}
-use Rattle.core_forms.specs.Built.{IsPlaceOf, IsWorthOf, IsBuilt, IsUsed, IsDiscarded, IsCastOperand, IsConverted}
+use Rattle.core_forms.specs.Built.{IsPlaceOf, IsWorthOf, IsNodeOf, IsBuilt, IsUsed, IsDiscarded, IsCastOperand}
+use Rattle.core_forms.specs.Built.{IsConverted}
 use Rattle.core_forms.proofs.Saying.{value_told, said_unary, said_size, said_binary, said_subscript, said_comma}
 use Rattle.core_forms.proofs.Saying.{said_choice, said_cast, said_member, said_arrow}
-use Rattle.core_forms.proofs.KindLaws.{converts_same, extracts_same, operates_on, some_same, none_some}
-
-abbrev the_built : Told → Bool → Node → Built
-the_built a b c = record { told = a; rooted = b; node = c }
-
--- what is made
-pub made_is : (y : Built) (told : Told) (rooted : Bool) (n : Node) → Makes y told rooted (Some n)
-    → y ≡ record { told = told; rooted = rooted; node = n }
-made_is y told rooted n m =
-    ap₂ (λ a b. the_built a b y.node) m.told m.rooted ∙ ap (the_built told rooted) (some_same y.node n m.node)
+use Rattle.core_forms.proofs.KindLaws.{converts_same, extracts_same, operates_on}
 
 module _ (numbering : Numbering) where
   -- ---- constants
@@ -65,7 +60,7 @@ module _ (numbering : Numbering) where
   constant_built y told e z x is made said =
       let h = subst (λ e. IsValueOf numbering e (forms.constant x z)) (sym made) (values.constant_value numbering z x) in
       subst (λ y. IsBuilt numbering y (forms.constant x z)) (sym is)
-      (record { told = said; rooted = refl; node = record { is_value = refl; value = h; effect = h } })
+      (record { told = said; rooted = refl; node = record { is_value = refl; nowhere = record { reaches = λ l env base d. refl }; value = h; effect = h } })
 
   pub size_built : (at : ℕ) (tables : Tables) (x : Told) (p : Part) (told : Told) (y : Built) (z : ℤ)
       → tables ≡ p.typed.after.tables → x ≡ told_of p.typed
@@ -169,69 +164,95 @@ module _ (numbering : Numbering) where
       subst (λ y. IsBuilt numbering y (forms.unary at u.Not p)) (sym is) (record {
         told = said_unary u.Not at tables x.told told p.typed t h.told s;
         rooted = refl;
-        node = record { is_value = refl; value = v; effect = v };
+        node = record { is_value = refl; nowhere = record { reaches = λ l env base d. refl }; value = v; effect = v };
       })
 
+  -- what breaks a rule
+  pub unmeant_built : (y : Built) (told : Told) (x : Typed) → y ≡ a_part told false unmeant → told ≡ told_of x
+      → IsBuilt numbering y (forms.unmeant x)
+  unmeant_built y told x is said = constant_built y told (expr.Constant (pos 0)) (pos 0) x is refl said
+
   -- the kind of an operand
-  kind_used : (x : Used) (p : Part) (kind : IntegerKind) → IsUsed numbering x p
-      → kind_in (type_in x.told.shown) ≡ Some kind → kind_in (value_type p.typed) ≡ Some kind
+  kind_used : (x : Used) (p : Part) (kind : Option IntegerKind) → IsUsed numbering x p
+      → kind_in (type_in x.told.shown) ≡ kind → kind_in (value_type p.typed) ≡ kind
   kind_used x p kind h e = sym (ap (λ (a : Told). kind_in (type_in a.shown)) h.told) ∙ e
 
-  pub minus_built : (at : ℕ) (tables : Tables) (x : Used) (p : Part) (told : Told) (is_constant : Bool)
-      (kind : IntegerKind) (y : Built)
-      → tables ≡ p.typed.after.tables → IsUsed numbering x p → kind_in (type_in x.told.shown) ≡ Some kind
+  minus_by : (x : Used) (at : ℕ) (is_constant : Bool) (p : Part) (kind : Option IntegerKind) → IsUsed numbering x p
+      → kind_in (value_type p.typed) ≡ kind
+      → IsValueOf numbering (turned_node at turn.Minus kind is_constant x.value) (forms.unary at u.Minus p)
+  minus_by x at is_constant p None h k = unturned_value numbering x.value at u.Minus p h.value k
+  minus_by x at is_constant p (Some kind) h k = values.minus_value numbering x.value at is_constant kind p h.value k
+
+  pub minus_built : (at : ℕ) (tables : Tables) (x : Used) (p : Part) (told : Told) (is_constant : Bool) (y : Built)
+      → tables ≡ p.typed.after.tables → IsUsed numbering x p
       → told ≡ says.node_over at x.told.shown (says.unary_judged tables u.Minus) x.told.faults
-      → y ≡ a_value told (expr.Turn at turn.Minus (word_type (promoted kind)) is_constant x.value)
+      → y ≡ a_value told (turned_node at turn.Minus (kind_in (type_in x.told.shown)) is_constant x.value)
       → IsBuilt numbering y (forms.unary at u.Minus p)
-  minus_built at tables x p told is_constant kind y t h k s is =
-      let v = values.minus_value numbering x.value at is_constant kind p h.value (kind_used x p kind h k) in
+  minus_built at tables x p told is_constant y t h s is =
+      let v = minus_by x at is_constant p _ h (kind_used x p _ h refl) in
       subst (λ y. IsBuilt numbering y (forms.unary at u.Minus p)) (sym is) (record {
         told = said_unary u.Minus at tables x.told told p.typed t h.told s;
         rooted = refl;
-        node = record { is_value = refl; value = v; effect = v };
+        node = record { is_value = refl; nowhere = record { reaches = λ l env base d. refl }; value = v; effect = v };
       })
 
-  pub plus_built : (at : ℕ) (tables : Tables) (x : Used) (p : Part) (told : Told) (is_constant : Bool)
-      (kind : IntegerKind) (y : Built)
-      → tables ≡ p.typed.after.tables → IsUsed numbering x p → kind_in (type_in x.told.shown) ≡ Some kind
+  plus_by : (x : Used) (at : ℕ) (is_constant : Bool) (p : Part) (kind : Option IntegerKind) → IsUsed numbering x p
+      → kind_in (value_type p.typed) ≡ kind
+      → IsValueOf numbering (turned_node at turn.Plus kind is_constant x.value) (forms.unary at u.Plus p)
+  plus_by x at is_constant p None h k = unturned_value numbering x.value at u.Plus p h.value k
+  plus_by x at is_constant p (Some kind) h k = values.plus_value numbering x.value at is_constant kind p h.value k
+
+  pub plus_built : (at : ℕ) (tables : Tables) (x : Used) (p : Part) (told : Told) (is_constant : Bool) (y : Built)
+      → tables ≡ p.typed.after.tables → IsUsed numbering x p
       → told ≡ says.node_over at x.told.shown (says.unary_judged tables u.Plus) x.told.faults
-      → y ≡ a_value told (expr.Turn at turn.Plus (word_type (promoted kind)) is_constant x.value)
+      → y ≡ a_value told (turned_node at turn.Plus (kind_in (type_in x.told.shown)) is_constant x.value)
       → IsBuilt numbering y (forms.unary at u.Plus p)
-  plus_built at tables x p told is_constant kind y t h k s is =
-      let v = values.plus_value numbering x.value at is_constant kind p h.value (kind_used x p kind h k) in
+  plus_built at tables x p told is_constant y t h s is =
+      let v = plus_by x at is_constant p _ h (kind_used x p _ h refl) in
       subst (λ y. IsBuilt numbering y (forms.unary at u.Plus p)) (sym is) (record {
         told = said_unary u.Plus at tables x.told told p.typed t h.told s;
         rooted = refl;
-        node = record { is_value = refl; value = v; effect = v };
+        node = record { is_value = refl; nowhere = record { reaches = λ l env base d. refl }; value = v; effect = v };
       })
 
-  pub complement_built : (at : ℕ) (tables : Tables) (x : Used) (p : Part) (told : Told) (is_constant : Bool)
-      (kind : IntegerKind) (y : Built)
-      → tables ≡ p.typed.after.tables → IsUsed numbering x p → kind_in (type_in x.told.shown) ≡ Some kind
+  complement_by : (x : Used) (at : ℕ) (is_constant : Bool) (p : Part) (kind : Option IntegerKind) → IsUsed numbering x p
+      → kind_in (value_type p.typed) ≡ kind
+      → IsValueOf numbering (turned_node at turn.Complement kind is_constant x.value) (forms.unary at u.Complement p)
+  complement_by x at is_constant p None h k = unturned_value numbering x.value at u.Complement p h.value k
+  complement_by x at is_constant p (Some kind) h k =
+      values.complement_value numbering x.value at is_constant kind p h.value k
+
+  pub complement_built : (at : ℕ) (tables : Tables) (x : Used) (p : Part) (told : Told) (is_constant : Bool) (y : Built)
+      → tables ≡ p.typed.after.tables → IsUsed numbering x p
       → told ≡ says.node_over at x.told.shown (says.unary_judged tables u.Complement) x.told.faults
-      → y ≡ a_value told (expr.Turn at turn.Complement (word_type (promoted kind)) is_constant x.value)
+      → y ≡ a_value told (turned_node at turn.Complement (kind_in (type_in x.told.shown)) is_constant x.value)
       → IsBuilt numbering y (forms.unary at u.Complement p)
-  complement_built at tables x p told is_constant kind y t h k s is =
-      let v = values.complement_value numbering x.value at is_constant kind p h.value (kind_used x p kind h k) in
+  complement_built at tables x p told is_constant y t h s is =
+      let v = complement_by x at is_constant p _ h (kind_used x p _ h refl) in
       subst (λ y. IsBuilt numbering y (forms.unary at u.Complement p)) (sym is) (record {
         told = said_unary u.Complement at tables x.told told p.typed t h.told s;
         rooted = refl;
-        node = record { is_value = refl; value = v; effect = v };
+        node = record { is_value = refl; nowhere = record { reaches = λ l env base d. refl }; value = v; effect = v };
       })
 
   -- ---- addresses
 
-  pub address_built : (at : ℕ) (tables : Tables) (x : Told) (rooted : Bool) (e : Expr) (p : Part) (told : Told)
-      (y : Built)
-      → tables ≡ p.typed.after.tables → IsBuilt numbering (a_place x rooted e) p
-      → told ≡ says.node_over at x.shown (says.unary_judged tables u.Address) x.faults
-      → y ≡ a_value told (expr.Pointer e) → IsBuilt numbering y (forms.unary at u.Address p)
-  address_built at tables x rooted e p told y t h s is =
-      let v = values.pointer_value numbering e at p h.node.address in
+  -- of what has none 0, behind its value
+  pub address_of : (n : Node) (p : Part) → IsNodeOf numbering n p → IsAddressOf numbering (address_in n) p
+  address_of (node.Place e) p h = h.address
+  address_of (node.Value e) p h = nowhere_address numbering e p h.value h.nowhere
+  address_of (node.Call c) p h = nowhere_address numbering (call_node c true) p h.value h.nowhere
+
+  pub address_built : (at : ℕ) (tables : Tables) (x : Built) (p : Part) (told : Told) (y : Built)
+      → tables ≡ p.typed.after.tables → IsBuilt numbering x p
+      → told ≡ says.node_over at x.told.shown (says.unary_judged tables u.Address) x.told.faults
+      → y ≡ a_value told (expr.Pointer (address_in x.node)) → IsBuilt numbering y (forms.unary at u.Address p)
+  address_built at tables x p told y t h s is =
+      let v = values.pointer_value numbering (address_in x.node) at p (address_of x.node p h.node) in
       subst (λ y. IsBuilt numbering y (forms.unary at u.Address p)) (sym is) (record {
-        told = said_unary u.Address at tables x told p.typed t h.told s;
+        told = said_unary u.Address at tables x.told told p.typed t h.told s;
         rooted = refl;
-        node = record { is_value = refl; value = v; effect = v };
+        node = record { is_value = refl; nowhere = record { reaches = λ l env base d. refl }; value = v; effect = v };
       })
 
   pub indirection_built : (at : ℕ) (tables : Tables) (x : Used) (p : Part) (told : Told) (y : Built)
@@ -250,21 +271,41 @@ module _ (numbering : Numbering) where
         };
       })
 
-  pub subscript_built : (at : ℕ) (tables : Tables) (x y : Used) (p q : Part) (chosen : Operator) (told : Told)
-      (z : Built)
+  -- where there is no sum, its operands are refused
+  refuses_on : (op : BinaryOperator) (tables : Tables) (x y : Used) (p q : Part) → tables ≡ q.typed.after.tables
+      → IsUsed numbering x p → IsUsed numbering y q
+      → operator_of op (operand_by tables x.told) (operand_by tables y.told) ≡ None → (at : ℕ) (v w : ℤ) (d : State)
+      → operated_on at op p.typed q.typed v w d ≡ c.refused d
+  refuses_on op tables x y p q t h i none at v w d =
+      sym (ap (λ a. operated at op (operand_of a (type_in x.told.shown) v) (operand_of a (type_in y.told.shown) w) d) t
+      ∙ ap₂ (λ (a b : Told). operated at op (operand_of q.typed.after.tables (type_in a.shown) v)
+      (operand_of q.typed.after.tables (type_in b.shown) w) d) h.told i.told)
+      ∙ refuses op (operand_by tables x.told) (operand_by tables y.told) none at v w d
+
+  subscript_by : (at : ℕ) (tables : Tables) (x y : Used) (p q : Part) (chosen : Option Operator)
       → tables ≡ q.typed.after.tables → IsUsed numbering x p → IsUsed numbering y q
-      → Operates o.Add (operand_by tables x.told) (operand_by tables y.told) chosen
+      → operator_of o.Add (operand_by tables x.told) (operand_by tables y.told) ≡ chosen
+      → IsAddressOf numbering (target_of_sum at chosen x.value y.value) (forms.subscript at p q)
+  subscript_by at tables x y p q None t h i none = refused_target numbering at x.value y.value p q h.value i.value
+      (refuses_on o.Add tables x y p q t h i none at)
+  subscript_by at tables x y p q (Some chosen) t h i some =
+      pointers.subscript_address numbering at chosen x.value y.value p q h.value i.value
+      (operates_on o.Add tables x.told y.told p.typed q.typed chosen t h.told i.told
+      (operates o.Add (operand_by tables x.told) (operand_by tables y.told) chosen some) at)
+
+  pub subscript_built : (at : ℕ) (tables : Tables) (x y : Used) (p q : Part) (told : Told) (z : Built)
+      → tables ≡ q.typed.after.tables → IsUsed numbering x p → IsUsed numbering y q
       → told ≡ says.node_over_two at x.told.shown y.told.shown (says.element tables) (x.told.faults ++ y.told.faults)
-      → z ≡ a_place told false (expr.Convert v.Pointer (expr.Operate at chosen false x.value y.value))
+      → z ≡ a_place told false
+      (target_of_sum at (operator_of o.Add (operand_by tables x.told) (operand_by tables y.told)) x.value y.value)
       → IsBuilt numbering z (forms.subscript at p q)
-  subscript_built at tables x y p q chosen told z t h i does s is =
+  subscript_built at tables x y p q told z t h i s is =
       subst (λ z. IsBuilt numbering z (forms.subscript at p q)) (sym is) (record {
         told = said_subscript at tables x.told y.told told p.typed q.typed t h.told i.told s;
         rooted = refl;
         node = record {
           is_place = refl;
-          address = pointers.subscript_address numbering at chosen x.value y.value p q h.value i.value
-              (operates_on o.Add tables x.told y.told p.typed q.typed chosen t h.told i.told does at);
+          address = subscript_by at tables x y p q _ t h i refl;
           value = λ l env base d. refl;
           effect = λ l env base d. refl;
         };
@@ -281,63 +322,72 @@ module _ (numbering : Numbering) where
   }
   member_place false offset at name e p is h = absurd (false≢true is)
 
-  member_rooted : (b : Bool) (offset : ℕ) (x : Typed) (p : Part) → b ≡ true
+  rooted_same : (b : Bool) (offset : ℕ) (x : Typed) (p : Part) → b ≡ true
       → p.rooted ≡ (forms.member_by b offset x p).rooted
-  member_rooted true offset x p is = refl
-  member_rooted false offset x p is = absurd (false≢true is)
+  rooted_same true offset x p is = refl
+  rooted_same false offset x p is = absurd (false≢true is)
 
   member_typed : (b : Bool) (offset : ℕ) (x : Typed) (p : Part) → told_of x ≡ told_of (forms.member_by b offset x p).typed
   member_typed true offset x p = refl
   member_typed false offset x p = refl
 
-  pub member_built : (at : ℕ) (name : Name) (tables : Tables) (x : Told) (rooted : Bool) (e : Expr) (p : Part)
+  lvalue_built : (at : ℕ) (name : Name) (tables : Tables) (x : Told) (rooted : Bool) (e : Expr) (p : Part)
       (offset : ℕ) (told : Told) (y : Built)
       → tables ≡ p.typed.after.tables → IsBuilt numbering (a_place x rooted e) p
       → offset ≡ forms.offset_of tables (type_in x.shown) name
       → told ≡ says.node_over at x.shown (says.member_shown_of tables name) x.faults
       → y ≡ a_place told rooted (expr.Offset offset e) → IsBuilt numbering y (forms.member at name p)
-  member_built at name tables x rooted e p offset told y t h there s is =
+  lvalue_built at name tables x rooted e p offset told y t h there s is =
       let n = there ∙ ap₂ (λ a (b : Told). forms.offset_of a (type_in b.shown) name) t h.told in
       subst (λ y. IsBuilt numbering y (forms.member at name p))
       (sym (is ∙ ap (λ m. a_place told rooted (expr.Offset m e)) n)) (record {
         told = said_member at name tables x told p.typed t h.told s
             ∙ member_typed p.is_place _ (says.member at name p.typed) p;
-        rooted = h.rooted ∙ member_rooted p.is_place _ (says.member at name p.typed) p h.node.is_place;
+        rooted = h.rooted ∙ rooted_same p.is_place _ (says.member at name p.typed) p h.node.is_place;
         node = member_place p.is_place _ at name e p h.node.is_place h.node.address;
       })
 
   -- a member of a value
-  member_worth : (b : Bool) (offset : ℕ) (x : Typed) (p : Part) (t : ValueType) (e : Expr) → b ≡ false
-      → IsValueOf numbering e p
-      → stored_in (class_in (type_of x)) (bytes_of x.after.tables (type_of x)) ≡ Some t
-      → IsWorthOf numbering (expr.Extract offset t e) (forms.member_by b offset x p)
-  member_worth true offset x p t e is h of = absurd (false≢true (sym is))
-  member_worth false offset x p t e is h of =
-      let v = pointers.member_value numbering offset t x e p h (extracts_same x offset t of) in
-      record { is_value = refl; value = v; effect = v }
+  member_worth : (b : Bool) (offset : ℕ) (x : Typed) (p : Part) (e : Expr) → b ≡ false → IsValueOf numbering e p
+      → IsWorthOf numbering (expr.Extract offset (type_as x.after.tables (type_of x)) e) (forms.member_by b offset x p)
+  member_worth true offset x p e is h = absurd (false≢true (sym is))
+  member_worth false offset x p e is h =
+      let v = pointers.member_value numbering offset (type_as x.after.tables (type_of x)) x e p h (extracts_same x offset) in
+      record { is_value = refl; nowhere = record { reaches = λ l env base d. refl }; value = v; effect = v }
 
   unrooted : (b : Bool) (offset : ℕ) (x : Typed) (p : Part) → b ≡ false → false ≡ (forms.member_by b offset x p).rooted
   unrooted true offset x p is = absurd (false≢true (sym is))
   unrooted false offset x p is = refl
 
-  pub extract_built : (at : ℕ) (name : Name) (tables : Tables) (x : Told) (e : Expr) (p : Part) (t : ValueType)
-      (told : Told) (y : Built)
+  extract_built : (at : ℕ) (name : Name) (tables : Tables) (x : Told) (e : Expr) (p : Part) (told : Told) (y : Built)
       → tables ≡ p.typed.after.tables → x ≡ told_of p.typed → p.is_place ≡ false → IsValueOf numbering e p
-      → stored_by tables told ≡ Some t
       → told ≡ says.node_over at x.shown (says.member_shown_of tables name) x.faults
-      → y ≡ a_value told (expr.Extract (forms.offset_of tables (type_in x.shown) name) t e)
+      → y ≡ a_value told (expr.Extract (forms.offset_of tables (type_in x.shown) name) (type_by tables told) e)
       → IsBuilt numbering y (forms.member at name p)
-  extract_built at name tables x e p t told y h i not_place v of s is =
+  extract_built at name tables x e p told y h i not_place v s is =
       let offset = forms.offset_of p.typed.after.tables (type_of p.typed) name in
       let n = ap₂ (λ a (b : Told). forms.offset_of a (type_in b.shown) name) h i in
       let said = said_member at name tables x told p.typed h i s in
-      let stored = ap₂ (λ a (b : Told). stored_by a b) (sym h) (sym said) ∙ of in
+      let t = ap₂ (λ a (b : Told). type_by a b) h said in
       subst (λ y. IsBuilt numbering y (forms.member at name p))
-      (sym (is ∙ ap (λ m. a_value told (expr.Extract m t e)) n)) (record {
+      (sym (is ∙ ap₂ (λ m t. a_value told (expr.Extract m t e)) n t)) (record {
         told = said ∙ member_typed p.is_place offset (says.member at name p.typed) p;
         rooted = unrooted p.is_place offset (says.member at name p.typed) p not_place;
-        node = member_worth p.is_place offset (says.member at name p.typed) p t e not_place v stored;
+        node = member_worth p.is_place offset (says.member at name p.typed) p e not_place v;
       })
+
+  pub member_built : (at : ℕ) (name : Name) (tables : Tables) (x : Told) (rooted : Bool) (n : Node) (p : Part)
+      (told : Told) (y : Built) → tables ≡ p.typed.after.tables → IsBuilt numbering (a_part x rooted n) p
+      → told ≡ says.node_over at x.shown (says.member_shown_of tables name) x.faults
+      → y ≡ a_part told (member_rooted rooted n)
+      (member_node (forms.offset_of tables (type_in x.shown) name) (type_by tables told) n)
+      → IsBuilt numbering y (forms.member at name p)
+  member_built at name tables x rooted (node.Place e) p told y t h s is =
+      lvalue_built at name tables x rooted e p (forms.offset_of tables (type_in x.shown) name) told y t h refl s is
+  member_built at name tables x rooted (node.Value e) p told y t h s is =
+      extract_built at name tables x e p told y t h.told h.node.is_value h.node.value s is
+  member_built at name tables x rooted (node.Call c) p told y t h s is =
+      extract_built at name tables x (call_node c true) p told y t h.told h.node.is_value h.node.value s is
 
   pub arrow_built : (at : ℕ) (name : Name) (tables : Tables) (x : Used) (p : Part) (offset : ℕ) (told : Told)
       (y : Built)
@@ -372,7 +422,7 @@ module _ (numbering : Numbering) where
       subst (λ z. IsBuilt numbering z (forms.binary at o.LogicalAnd p q)) (sym is) (record {
         told = said_binary o.LogicalAnd at tables x.told y.told told p.typed q.typed t h.told i.told s;
         rooted = refl;
-        node = record { is_value = refl; value = v; effect = v };
+        node = record { is_value = refl; nowhere = record { reaches = λ l env base d. refl }; value = v; effect = v };
       })
 
   pub or_built : (at : ℕ) (tables : Tables) (x y : Used) (p q : Part) (told : Told) (z : Built)
@@ -385,29 +435,40 @@ module _ (numbering : Numbering) where
       subst (λ z. IsBuilt numbering z (forms.binary at o.LogicalOr p q)) (sym is) (record {
         told = said_binary o.LogicalOr at tables x.told y.told told p.typed q.typed t h.told i.told s;
         rooted = refl;
-        node = record { is_value = refl; value = v; effect = v };
+        node = record { is_value = refl; nowhere = record { reaches = λ l env base d. refl }; value = v; effect = v };
       })
 
-  pub both_built : (op : BinaryOperator) (a : Arithmetic) → types.arithmetic op ≡ Some a → (at : ℕ) (tables : Tables)
-      (x y : Used) (p q : Part)
-      (chosen : Operator) (is_constant : Bool) (told : Told) (z : Built)
+  both_by : (op : BinaryOperator) (a : Arithmetic) → types.arithmetic op ≡ Some a → (at : ℕ) (tables : Tables)
+      (x y : Used) (p q : Part) (chosen : Option Operator) (is_constant : Bool)
       → tables ≡ q.typed.after.tables → IsUsed numbering x p → IsUsed numbering y q
-      → Operates op (operand_by tables x.told) (operand_by tables y.told) chosen
+      → operator_of op (operand_by tables x.told) (operand_by tables y.told) ≡ chosen
+      → IsValueOf numbering (operated_node at chosen is_constant x.value y.value) (forms.both_evaluated at op p q)
+  both_by op a is_one at tables x y p q None is_constant t h i none =
+      refused_value numbering at op x.value y.value p q h.value i.value (refuses_on op tables x y p q t h i none at)
+  both_by op a is_one at tables x y p q (Some chosen) is_constant t h i some =
+      subst (λ r. IsValueOf numbering (expr.Operate at chosen is_constant x.value y.value) r)
+      (values.evaluates_both numbering op a is_one at p q)
+      (pointers.operate_value numbering op a is_one at chosen is_constant x.value y.value p q h.value i.value
+      (operates_on op tables x.told y.told p.typed q.typed chosen t h.told i.told
+      (operates op (operand_by tables x.told) (operand_by tables y.told) chosen some) at))
+
+  pub both_built : (op : BinaryOperator) (a : Arithmetic) → types.arithmetic op ≡ Some a → (at : ℕ) (tables : Tables)
+      (x y : Used) (p q : Part) (is_constant : Bool) (told : Told) (z : Built)
+      → tables ≡ q.typed.after.tables → IsUsed numbering x p → IsUsed numbering y q
       → told ≡ says.node_over_two at x.told.shown y.told.shown (says.operated tables op)
       (x.told.faults ++ y.told.faults)
-      → z ≡ a_value told (expr.Operate at chosen is_constant x.value y.value)
+      → z ≡ a_value told (operated_node at (operator_of op (operand_by tables x.told) (operand_by tables y.told))
+      is_constant x.value y.value)
       → IsBuilt numbering z (forms.binary at op p q)
-  both_built op a is_one at tables x y p q chosen is_constant told z t h i does s is =
-      let e = values.evaluates_both numbering op a is_one at p q in
-      let v = subst (λ r. IsValueOf numbering (expr.Operate at chosen is_constant x.value y.value) r) e
-      (pointers.operate_value numbering op a is_one at chosen is_constant x.value y.value p q h.value
-      i.value (operates_on op tables x.told y.told p.typed q.typed chosen t h.told i.told does at)) in
+  both_built op a is_one at tables x y p q is_constant told z t h i s is =
+      let v = both_by op a is_one at tables x y p q _ is_constant t h i refl in
       subst (λ z. IsBuilt numbering z (forms.binary at op p q)) (sym is)
-      (subst (λ r. IsBuilt numbering (a_value told (expr.Operate at chosen is_constant x.value y.value)) r) (sym e)
-      (record {
+      (subst (λ r. IsBuilt numbering (a_value told (operated_node at
+      (operator_of op (operand_by tables x.told) (operand_by tables y.told)) is_constant x.value y.value)) r)
+      (sym (values.evaluates_both numbering op a is_one at p q)) (record {
         told = said_binary op at tables x.told y.told told p.typed q.typed t h.told i.told s;
         rooted = refl;
-        node = record { is_value = refl; value = v; effect = v };
+        node = record { is_value = refl; nowhere = record { reaches = λ l env base d. refl }; value = v; effect = v };
       }))
 
   pub comma_built : (at : ℕ) (x y : Used) (p q : Part) (told : Told) (z : Built)
@@ -420,7 +481,7 @@ module _ (numbering : Numbering) where
       subst (λ z. IsBuilt numbering z (forms.comma at p q)) (sym is) (record {
         told = said_comma at x.told y.told told p.typed q.typed h.told i.told s;
         rooted = refl;
-        node = record { is_value = refl; value = v; effect = v };
+        node = record { is_value = refl; nowhere = record { reaches = λ l env base d. refl }; value = v; effect = v };
       })
 
   -- ---- choices and casts
@@ -443,7 +504,7 @@ module _ (numbering : Numbering) where
       subst (λ z. IsBuilt numbering z (forms.choice at r p q)) (sym is) (record {
         told = said;
         rooted = refl;
-        node = record { is_value = refl; value = v; effect = v };
+        node = record { is_value = refl; nowhere = record { reaches = λ l env base d. refl }; value = v; effect = v };
       })
 
   pub cast_built : (at : ℕ) (named : NamedType) (faults : List Fault) (x : Used) (p : Part) (told : Told)
@@ -458,7 +519,7 @@ module _ (numbering : Numbering) where
       subst (λ y. IsBuilt numbering y (forms.cast at named faults p)) (sym is) (record {
         told = said_cast at named faults x.told told p.typed h.told s;
         rooted = refl;
-        node = record { is_value = refl; value = v; effect = v };
+        node = record { is_value = refl; nowhere = record { reaches = λ l env base d. refl }; value = v; effect = v };
       })
 
   -- ---- conversions as by assignment

@@ -1,6 +1,7 @@
 -- Types of the core for those that parts have.
 use Rattle.std.proofs.Common.{◌≡◌, ℕ, ℤ, Bool, List, [], ◌∷◌, Option, Some, None, refl, sym, ap, ap₂, ◌∙◌, subst}
-use Rattle.std.specs.Prelude.{unsigned_abs}
+use Rattle.std.specs.Prelude.{unsigned_abs, is_some, ◌&&◌, true, false}
+use Rattle.std.proofs.lemmas.Bool.{false≢true}
 use Rattle.c_language.specs.declared.expr.BinaryOperator.{BinaryOperator}
 use Rattle.c_language.specs.declared.class.Class.{Class}
 use Rattle.c_language.specs.declared.class.Class.TheVariants as class
@@ -19,11 +20,12 @@ use Rattle.c_language.specs.Types.{class_of}
 use Rattle.c_language.specs.declared.shown.Shown.{Shown}
 use Rattle.c_language.specs.declared.shown.Told.{Told}
 use Rattle.c_language.specs.Typing.{Typed, type_of, type_in, told_of, used_told}
-use Rattle.c_means.specs.Expressions.{part_of_value}
+use Rattle.c_means.specs.Expressions.{part_of_value, is_updated}
 use Rattle.c_means.specs.Parts.{State}
 use Rattle.c_means.specs.Values as values
+use Rattle.c_means.specs.Objects.{is_read}
 use Rattle.c_means.specs.Values.{class_in, bytes_of, bytes_as}
-use Rattle.c_means.specs.Operators.{kind_in, target_in, value_type, operand_of, operated}
+use Rattle.c_means.specs.Operators.{kind_in, target_in, value_type, operand_of, operated, is_scalar_class, works_on}
 use Rattle.c_means.specs.Operators as c_operators
 use Rattle.core_tree.specs.declared.types.Operator.{Operator}
 use Rattle.core_tree.specs.declared.types.ValueType.{ValueType}
@@ -32,12 +34,13 @@ use Rattle.core_tree.specs.Memory as memory
 use Rattle.core_tree.specs.Numbers as numbers
 use Rattle.elaborate.specs.declared.operators.OperandType.{OperandType}
 use Rattle.elaborate.specs.Means.{SameType, OfType, as_done, as_found}
-use Rattle.elaborate.specs.Operators.{Operates}
+use Rattle.elaborate.specs.Operators.{Operates, operator_of}
 use Rattle.elaborate.specs.Types as types
 use Rattle.elaborate.specs.Types.{integer_type}
 use Rattle.elaborate.proofs.Numbers.{converted_same}
-use Rattle.elaborate.proofs.Objects.{same_integer, same_pointer, same_block}
-use Rattle.core_forms.specs.Nodes.{stored_in, scalar_in, operand_by}
+use Rattle.elaborate.proofs.Objects.{same_integer, same_pointer, same_block, same_floating, same_opaque}
+use Rattle.elaborate.proofs.Operates.{works_same}
+use Rattle.core_forms.specs.Nodes.{scalar_in, scalar_by, operand_by, type_as}
 use Rattle.core_forms.proofs.Saying.{value_told}
 use Rattle.c_language.specs.declared.scope.Entry.{Entry}
 use Rattle.c_language.specs.declared.scope.Fault.{Fault}
@@ -48,21 +51,36 @@ some_same x y e = cc
 pub none_some : {A : Type 0} {x : A} → None ≡ Some x → ⊥
 none_some e = cc
 
--- ---- how objects are stored
+-- ---- how objects are read and written
 
-same_stored : (c : Class) (size : Option ℕ) (t : ValueType) → stored_in c (bytes_as c size) ≡ Some t
-    → SameType c (bytes_as c size) t
-same_stored (class.Integer kind) size t e = subst (λ t. SameType (class.Integer kind) (bytes_as (class.Integer kind)
-    size) t) (some_same (integer_type kind) t e) (same_integer kind)
-same_stored class.Pointer size t e = subst (λ t. SameType class.Pointer 8 t) (some_same v.Pointer t e) same_pointer
-same_stored (class.Aggregate number) size t e = subst (λ t. SameType (class.Aggregate number)
-    (bytes_as (class.Aggregate number) size) t) (some_same (v.Block (bytes_as (class.Aggregate number) size)) t e)
-    (same_block number (bytes_as (class.Aggregate number) size))
-same_stored class.Array size t e = absurd (none_some e)
-same_stored class.Function size t e = absurd (none_some e)
-same_stored class.Void size t e = absurd (none_some e)
-same_stored class.Floating size t e = absurd (none_some e)
-same_stored class.Opaque size t e = absurd (none_some e)
+read_same : (c : Class) (size : Option ℕ) → is_read c ≡ true
+    → SameType c (bytes_as c size) (types.value_type c (bytes_as c size))
+read_same (class.Integer kind) size e = same_integer kind
+read_same class.Pointer size e = same_pointer
+read_same (class.Aggregate number) size e = same_block number (bytes_as (class.Aggregate number) size)
+read_same class.Floating size e = same_floating (bytes_as class.Floating size)
+read_same class.Opaque size e = same_opaque (bytes_as class.Opaque size)
+read_same class.Array size e = absurd (false≢true e)
+read_same class.Function size e = absurd (false≢true e)
+read_same class.Void size e = absurd (false≢true e)
+
+read_type : (tables : Tables) (o : Option CType) (c : Class) → class_in o ≡ c → is_read c ≡ true
+    → SameType c (bytes_of tables o) (types.value_type c (bytes_of tables o))
+read_type tables None c is e = absurd (false≢true (ap is_read is ∙ e))
+read_type tables (Some t) c is e =
+    subst (λ c. SameType c (bytes_as (class_of t) (size_of tables t)) (types.value_type c (bytes_as (class_of t) (size_of tables t)))) is
+    (read_same (class_of t) (size_of tables t) (ap is_read is ∙ e))
+
+-- what is read is read as a value of its class and bytes
+pub of_read : (tables : Tables) (x : Typed) (c : Class) → class_in (type_of x) ≡ c → is_read c ≡ true
+    → OfType tables x (types.value_type c (bytes_of tables (type_of x)))
+of_read tables x c is e = record {
+  class = c;
+  bytes = bytes_of tables (type_of x);
+  is_class = is;
+  has_bytes = refl;
+  same = read_type tables (type_of x) c is e;
+}
 
 same_scalar : (c : Class) (size : Option ℕ) (t : ValueType) → scalar_in c ≡ Some t → SameType c (bytes_as c size) t
 same_scalar (class.Integer kind) size t e = subst (λ t. SameType (class.Integer kind) (bytes_as (class.Integer kind)
@@ -75,26 +93,10 @@ same_scalar class.Void size t e = absurd (none_some e)
 same_scalar class.Floating size t e = absurd (none_some e)
 same_scalar class.Opaque size t e = absurd (none_some e)
 
--- an lvalue's type
-pub stored_same : (tables : Tables) (o : Option CType) (t : ValueType) → stored_in (class_in o) (bytes_of tables o) ≡ Some t
-    → SameType (class_in o) (bytes_of tables o) t
-stored_same tables None t e = absurd (none_some e)
-stored_same tables (Some c) t e = same_stored (class_of c) (size_of tables c) t e
-
 scalar_same : (tables : Tables) (o : Option CType) (t : ValueType) → scalar_in (class_in o) ≡ Some t
     → SameType (class_in o) (bytes_of tables o) t
 scalar_same tables None t e = absurd (none_some e)
 scalar_same tables (Some c) t e = same_scalar (class_of c) (size_of tables c) t e
-
-pub of_stored : (tables : Tables) (x : Typed) (t : ValueType) → stored_in (class_in (type_of x))
-    (bytes_of tables (type_of x)) ≡ Some t → OfType tables x t
-of_stored tables x t e = record {
-  class = class_in (type_of x);
-  bytes = bytes_of tables (type_of x);
-  is_class = refl;
-  has_bytes = refl;
-  same = stored_same tables (type_of x) t e;
-}
 
 pub of_scalar : (tables : Tables) (x : Typed) (t : ValueType) → scalar_in (class_in (type_of x)) ≡ Some t
     → OfType tables x t
@@ -137,38 +139,29 @@ integer_bytes k.UnsignedLong offset n = refl
 integer_bytes k.LongLong offset n = refl
 integer_bytes k.UnsignedLongLong offset n = refl
 
-class_bytes : (c : Class) (size : Option ℕ) (t : ValueType) (offset n : ℕ) → stored_in c (bytes_as c size) ≡ Some t
-    → numbers.value_of_bytes t (values.bytes_within offset (numbers.size_of t) n)
+class_bytes : (c : Class) (size : Option ℕ) (offset n : ℕ) → let t = types.value_type c (bytes_as c size) in
+    numbers.value_of_bytes t (values.bytes_within offset (numbers.size_of t) n)
     ≡ values.value_of_bytes c (values.bytes_within offset (bytes_as c size) n)
-class_bytes (class.Integer kind) size t offset n e =
-    subst (λ t. numbers.value_of_bytes t (values.bytes_within offset (numbers.size_of t) n)
-    ≡ values.value_of_bytes (class.Integer kind) (values.bytes_within offset (kind_bytes kind) n))
-    (some_same (integer_type kind) t e) (integer_bytes kind offset n)
-class_bytes class.Pointer size t offset n e =
-    subst (λ t. numbers.value_of_bytes t (values.bytes_within offset (numbers.size_of t) n)
-    ≡ values.value_of_bytes class.Pointer (values.bytes_within offset 8 n)) (some_same v.Pointer t e) refl
-class_bytes (class.Aggregate number) size t offset n e = let m = bytes_as (class.Aggregate number) size in
-    subst (λ t. numbers.value_of_bytes t (values.bytes_within offset (numbers.size_of t) n)
-    ≡ values.value_of_bytes (class.Aggregate number) (values.bytes_within offset m n))
-    (some_same (v.Block m) t e) refl
-class_bytes class.Array size t offset n e = absurd (none_some e)
-class_bytes class.Function size t offset n e = absurd (none_some e)
-class_bytes class.Void size t offset n e = absurd (none_some e)
-class_bytes class.Floating size t offset n e = absurd (none_some e)
-class_bytes class.Opaque size t offset n e = absurd (none_some e)
+class_bytes (class.Integer kind) size offset n = integer_bytes kind offset n
+class_bytes class.Pointer size offset n = refl
+class_bytes (class.Aggregate number) size offset n = refl
+class_bytes class.Array size offset n = refl
+class_bytes class.Function size offset n = refl
+class_bytes class.Void size offset n = refl
+class_bytes class.Floating size offset n = refl
+class_bytes class.Opaque size offset n = refl
 
-bytes_same : (tables : Tables) (o : Option CType) (t : ValueType) (offset n : ℕ)
-    → stored_in (class_in o) (bytes_of tables o) ≡ Some t
-    → numbers.value_of_bytes t (values.bytes_within offset (numbers.size_of t) n)
+bytes_same : (tables : Tables) (o : Option CType) (offset n : ℕ)
+    → numbers.value_of_bytes (type_as tables o) (values.bytes_within offset (numbers.size_of (type_as tables o)) n)
     ≡ values.value_of_bytes (class_in o) (values.bytes_within offset (bytes_of tables o) n)
-bytes_same tables None t offset n e = absurd (none_some e)
-bytes_same tables (Some c) t offset n e = class_bytes (class_of c) (size_of tables c) t offset n e
+bytes_same tables None offset n = refl
+bytes_same tables (Some c) offset n = class_bytes (class_of c) (size_of tables c) offset n
 
-pub extracts_same : (x : Typed) (offset : ℕ) (t : ValueType)
-    → stored_in (class_in (type_of x)) (bytes_of x.after.tables (type_of x)) ≡ Some t → (z : ℤ)
-    → numbers.value_of_bytes t (values.bytes_within offset (numbers.size_of t) (unsigned_abs z))
+pub extracts_same : (x : Typed) (offset : ℕ) (z : ℤ)
+    → (let t = type_as x.after.tables (type_of x) in
+    numbers.value_of_bytes t (values.bytes_within offset (numbers.size_of t) (unsigned_abs z)))
     ≡ part_of_value offset x z
-extracts_same x offset t e z = bytes_same x.after.tables (type_of x) t offset (unsigned_abs z) e
+extracts_same x offset z = bytes_same x.after.tables (type_of x) offset (unsigned_abs z)
 
 -- ---- operands
 
@@ -247,3 +240,40 @@ pub operates_at : (op : BinaryOperator) (tables : Tables) (x y : Told) (p q : Ty
 operates_at op tables x y p q chosen t e tables_are h i does =
     operates_on op tables (used_told p.after.tables x) y p q chosen tables_are (ap (used_told p.after.tables) h) i
     (subst (λ o. Operates op o (operand_by tables y) chosen) (operand_alike p.after.tables tables x t e) does)
+
+-- ---- what is updated
+
+scalars_same : (c : Class) → is_scalar_class c ≡ is_some (scalar_in c)
+scalars_same (class.Integer kind) = refl
+scalars_same class.Pointer = refl
+scalars_same (class.Aggregate number) = refl
+scalars_same class.Array = refl
+scalars_same class.Function = refl
+scalars_same class.Void = refl
+scalars_same class.Floating = refl
+scalars_same class.Opaque = refl
+
+-- an object is updated exactly where it is an integer or a pointer, and there is an operator
+updates_same : (op : BinaryOperator) (tables : Tables) (x : Told) (y : OperandType) (p : Typed) → x ≡ told_of p
+    → is_updated op p y.kind ≡ (is_some (scalar_by x) && is_some (operator_of op (operand_by tables x) y))
+updates_same op tables x y p h =
+    ap (λ (a : Told). is_scalar_class (class_in (type_in a.shown)) && works_on op (kind_in (type_in a.shown)) y.kind) (sym h)
+    ∙ ap₂ (λ a b. a && b) (scalars_same (class_in (type_in x.shown)))
+    (works_same op (kind_in (type_in x.shown)) y.kind (operand_by tables x).element y.element)
+
+pub is_updated_by : (op : BinaryOperator) (tables : Tables) (x : Told) (y : OperandType) (p : Typed) (t : ValueType)
+    (q : Operator) → x ≡ told_of p → scalar_by x ≡ Some t → operator_of op (operand_by tables x) y ≡ Some q
+    → is_updated op p y.kind ≡ true
+is_updated_by op tables x y p t q h s c =
+    updates_same op tables x y p h ∙ ap₂ (λ a b. is_some a && is_some b) s c
+
+pub no_scalar : (op : BinaryOperator) (tables : Tables) (x : Told) (y : OperandType) (p : Typed) → x ≡ told_of p
+    → scalar_by x ≡ None → is_updated op p y.kind ≡ false
+no_scalar op tables x y p h s =
+    updates_same op tables x y p h ∙ ap (λ a. is_some a && is_some (operator_of op (operand_by tables x) y)) s
+
+pub no_operator : (op : BinaryOperator) (tables : Tables) (x : Told) (y : OperandType) (p : Typed) (t : ValueType)
+    → x ≡ told_of p → scalar_by x ≡ Some t → operator_of op (operand_by tables x) y ≡ None
+    → is_updated op p y.kind ≡ false
+no_operator op tables x y p t h s c =
+    updates_same op tables x y p h ∙ ap₂ (λ a b. is_some a && is_some b) s c

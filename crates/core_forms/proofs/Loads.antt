@@ -9,12 +9,13 @@ use Rattle.c_language.specs.declared.tables.Tables.{Tables}
 use Rattle.c_means.specs.Parts.{Part}
 use Rattle.c_means.specs.Parts as c
 use Rattle.c_means.specs.Expressions as forms
+use Rattle.c_means.specs.Objects.{is_read}
 use Rattle.c_means.specs.Values.{class_in, bytes_of}
 use Rattle.core_tree.specs.declared.expr.Expr.{Expr}
 use Rattle.core_tree.specs.declared.expr.Expr.TheVariants as expr
 use Rattle.core_tree.specs.declared.types.ValueType.TheVariants as v
 use Rattle.core_tree.specs.Values.{value}
-use Rattle.elaborate.specs.Types.{integer_type}
+use Rattle.elaborate.specs.Types.{value_type}
 use Rattle.core_forms.specs.declared.built.Used.{Used}
 use Rattle.elaborate.specs.Means.{Numbering, Does, IsValueOf, IsAddressOf, OfType}
 use Rattle.elaborate.proofs.Values.{loaded_value, array_value, function_value, void_value, rerun}
@@ -22,43 +23,33 @@ use Rattle.core_forms.specs.declared.built.Built.{Built}
 use Rattle.core_forms.specs.declared.built.Call.{Call}
 use Rattle.core_forms.specs.declared.built.Node.{Node}
 use Rattle.core_forms.specs.declared.built.Node.TheVariants as node
-use Rattle.core_forms.specs.Nodes.{read_node, stored_in, loaded, call_node, is_cast_of_used, worth_node, HasWorth}
+use Rattle.core_forms.specs.Nodes.{read_node, loaded, call_node, is_cast_of_used, worth_node, HasWorth}
 use Rattle.core_forms.specs.Built.{IsPlaceOf, IsWorthOf, IsAnswerOf, IsBuilt, IsUsed, IsDiscarded, IsCastOperand}
-use Rattle.core_forms.proofs.KindLaws.{of_stored, some_same, none_some}
+use Rattle.core_forms.proofs.KindLaws.{of_read}
 
 -- an lvalue, as a form of its own
 abbrev place_of : Part → Part
 place_of p = forms.placed p.typed p.rooted (record { size = p.size; room = p.room }) p.reach
 
 module _ (numbering : Numbering) (p : Part) (e : Expr) (address : IsAddressOf numbering e (place_of p)) where
-  some_node : (x y : Expr) → Some x ≡ Some y → IsValueOf numbering y (place_of p) → IsValueOf numbering x (place_of p)
-  some_node x y same h = subst (λ n. IsValueOf numbering n (place_of p)) (sym (some_same x y same)) h
+  load_as : (cl : Class) → class_in (type_of p.typed) ≡ cl → is_read cl ≡ true
+      → IsValueOf numbering (loaded p.typed.at (value_type cl (bytes_of p.typed.after.tables (type_of p.typed))) p.rooted e) (place_of p)
+  load_as cl is reads = loaded_value numbering e p.typed p.rooted (record { size = p.size; room = p.room }) p.reach
+      (value_type cl (bytes_of p.typed.after.tables (type_of p.typed))) (of_read p.typed.after.tables p.typed cl is reads) address
 
-  read_by : (cl : Class) (f : Expr) → class_in (type_of p.typed) ≡ cl
-      → Some f ≡ read_node cl (bytes_of p.typed.after.tables (type_of p.typed)) p.typed.at p.rooted e
-      → IsValueOf numbering f (place_of p)
-  read_by (class.Integer kind) f is same = some_node f (loaded p.typed.at (integer_type kind) p.rooted e) same
-      (loaded_value numbering e p.typed p.rooted (record { size = p.size; room = p.room }) p.reach (integer_type kind)
-      (of_stored p.typed.after.tables p.typed (integer_type kind)
-      (ap (λ a. stored_in a (bytes_of p.typed.after.tables (type_of p.typed))) is)) address)
-  read_by class.Pointer f is same = some_node f (loaded p.typed.at v.Pointer p.rooted e) same
-      (loaded_value numbering e p.typed p.rooted (record { size = p.size; room = p.room }) p.reach v.Pointer
-      (of_stored p.typed.after.tables p.typed v.Pointer
-      (ap (λ a. stored_in a (bytes_of p.typed.after.tables (type_of p.typed))) is)) address)
-  read_by (class.Aggregate number) f is same = some_node f
-      (loaded p.typed.at (v.Block (bytes_of p.typed.after.tables (type_of p.typed))) p.rooted e) same
-      (loaded_value numbering e p.typed p.rooted (record { size = p.size; room = p.room }) p.reach
-      (v.Block (bytes_of p.typed.after.tables (type_of p.typed)))
-      (of_stored p.typed.after.tables p.typed (v.Block (bytes_of p.typed.after.tables (type_of p.typed)))
-      (ap (λ a. stored_in a (bytes_of p.typed.after.tables (type_of p.typed))) is)) address)
-  read_by class.Array f is same = some_node f e same (array_value numbering e p.typed p.rooted
-      (record { size = p.size; room = p.room }) p.reach is address)
-  read_by class.Function f is same = some_node f e same (function_value numbering e p.typed p.rooted
-      (record { size = p.size; room = p.room }) p.reach is address)
-  read_by class.Void f is same = some_node f (expr.Convert v.Void e) same (void_value numbering e p.typed p.rooted
-      (record { size = p.size; room = p.room }) p.reach is address)
-  read_by class.Floating f is same = absurd (none_some (sym same))
-  read_by class.Opaque f is same = absurd (none_some (sym same))
+  read_by : (cl : Class) → class_in (type_of p.typed) ≡ cl
+      → IsValueOf numbering (read_node cl (bytes_of p.typed.after.tables (type_of p.typed)) p.typed.at p.rooted e) (place_of p)
+  read_by (class.Integer kind) is = load_as (class.Integer kind) is refl
+  read_by class.Pointer is = load_as class.Pointer is refl
+  read_by (class.Aggregate number) is = load_as (class.Aggregate number) is refl
+  read_by class.Array is =
+      array_value numbering e p.typed p.rooted (record { size = p.size; room = p.room }) p.reach is address
+  read_by class.Function is =
+      function_value numbering e p.typed p.rooted (record { size = p.size; room = p.room }) p.reach is address
+  read_by class.Void is =
+      void_value numbering e p.typed p.rooted (record { size = p.size; room = p.room }) p.reach is address
+  read_by class.Floating is = load_as class.Floating is refl
+  read_by class.Opaque is = load_as class.Opaque is refl
 
 -- what a part does, whose value is used or not
 abbrev run_as : Bool → Part → c.Level → c.Run ℤ
@@ -84,17 +75,17 @@ module _ (numbering : Numbering) (p : Part) (tables : Tables) where
   -- the value of a part, by what is told of it
   by_node : (used : Bool) (told : Told) (rooted : Bool) (n : Node) (f : Expr) → tables ≡ p.typed.after.tables
       → IsBuilt numbering (record { told = told; rooted = rooted; node = n }) p
-      → Some f ≡ worth_node used tables told rooted n → IsWorth used f
-  by_node used told rooted (node.Value e) f t h same =
-      subst (λ n. IsWorth used n) (sym (some_same f e same)) (of_worth used e h.node)
+      → f ≡ worth_node used tables told rooted n → IsWorth used f
+  by_node used told rooted (node.Value e) f t h same = subst (λ n. IsWorth used n) (sym same) (of_worth used e h.node)
   by_node used told rooted (node.Call c) f t h same =
-      subst (λ n. IsWorth used n) (sym (some_same f (call_node c used) same)) (of_answer used c h.node)
+      subst (λ n. IsWorth used n) (sym same) (of_answer used c h.node)
   by_node used told rooted (node.Place e) f t h same =
       let is = same
       ∙ ap₂ (λ (a : Told) b. read_node (class_in (type_in a.shown)) (bytes_of tables (type_in a.shown)) a.at b e)
       h.told h.rooted
       ∙ ap (λ a. read_node (class_in (type_of p.typed)) (bytes_of a (type_of p.typed)) p.typed.at p.rooted e) t in
-      let w = read_by numbering p e h.node.address (class_in (type_of p.typed)) f refl is in
+      let w = subst (λ n. IsValueOf numbering n (place_of p)) (sym is)
+      (read_by numbering p e h.node.address (class_in (type_of p.typed)) refl) in
       of_place used f e h.node w
 
   pub is_used : (x : Built) (y : Used) → tables ≡ p.typed.after.tables → IsBuilt numbering x p

@@ -13,7 +13,7 @@ use Rattle.core_tree.specs.declared.types.Answered.{Answered}
 use Rattle.core_tree.specs.declared.types.Answered.TheVariants as answered
 use Rattle.core_tree.specs.declared.expr.Expr.{Expr}
 use Rattle.core_tree.specs.Values.{value}
-use Rattle.elaborate.specs.Means.{Numbering, Does, IsValueOf, IsAddressOf, IsEffectOf}
+use Rattle.elaborate.specs.Means.{Numbering, Does, IsValueOf, IsAddressOf, IsEffectOf, HasNoAddress}
 use Rattle.core_forms.specs.declared.built.Built.{Built}
 use Rattle.core_forms.specs.declared.built.Call.{Call}
 use Rattle.core_forms.specs.declared.built.Node.{Node}
@@ -33,12 +33,14 @@ pub record IsPlaceOf (numbering : Numbering) (e : Expr) (p : Part) : Type 0 wher
 -- the core of a value, which does the same where the value isn't used
 pub record IsWorthOf (numbering : Numbering) (e : Expr) (p : Part) : Type 0 where
   pub is_value : p.is_place ≡ false
+  pub nowhere : HasNoAddress p
   pub value : IsValueOf numbering e p
   pub effect : IsEffectOf numbering e p
 
 -- the core of a call, which need not answer where its value isn't used (C99 6.9.1p12)
 pub record IsAnswerOf (numbering : Numbering) (c : Call) (p : Part) : Type 0 where
   pub is_value : p.is_place ≡ false
+  pub nowhere : HasNoAddress p
   pub value : IsValueOf numbering (call_node c true) p
   pub effect : IsEffectOf numbering (call_node c false) p
 

@@ -1,5 +1,5 @@
 -- The nodes of the core for forms of C, over the nodes of their parts and what the types say of these.
-use Rattle.std.specs.Prelude.{◌≡◌, ℕ, ℤ, pos, Bool, true, false, not, is_some, Option, Some, None, option_map}
+use Rattle.std.specs.Prelude.{◌≡◌, ℕ, ℤ, pos, Bool, true, false, not, is_some, Option, Some, None}
 use Rattle.c_language.specs.declared.expr.BinaryOperator.{BinaryOperator}
 use Rattle.c_language.specs.declared.expr.BinaryOperator.TheVariants as o
 use Rattle.c_language.specs.declared.expr.PostfixOperator.{PostfixOperator}
@@ -46,11 +46,17 @@ a_value told e = record { told = told; rooted = false; node = node.Value e }
 abbrev pub a_place : Told → Bool → Expr → Built
 a_place told rooted e = record { told = told; rooted = rooted; node = node.Place e }
 
--- a part of which this is told, with this node, where there is one
-pub record Makes (y : Built) (said : Told) (root : Bool) (n : Option Node) : Type 0 where
-  pub told : y.told ≡ said
-  pub rooted : y.rooted ≡ root
-  pub node : Some y.node ≡ n
+-- a part of which this is told, with this node
+abbrev pub a_part : Told → Bool → Node → Built
+a_part told rooted n = record { told = told; rooted = rooted; node = n }
+
+-- what breaks a rule, and isn't run
+abbrev pub unmeant : Node
+unmeant = node.Value (expr.Constant (pos 0))
+
+-- two operands, one behind the other, of which no value is made
+abbrev pub refused : Expr → Expr → Expr
+refused e f = expr.Convert v.Void (expr.Comma e f)
 
 -- ---- types
 
@@ -81,20 +87,6 @@ operand_by tables x = record {
 abbrev pub one_more : OperandType
 one_more = record { kind = Some k.Int; element = 0 }
 
--- the type in which an object of a class and so many bytes is stored
-abbrev pub stored_in : Class → ℕ → Option ValueType
-stored_in (class.Integer kind) n = Some (integer_type kind)
-stored_in class.Pointer n = Some v.Pointer
-stored_in (class.Aggregate number) n = Some (v.Block n)
-stored_in class.Array n = None
-stored_in class.Function n = None
-stored_in class.Void n = None
-stored_in class.Floating n = None
-stored_in class.Opaque n = None
-
-abbrev pub stored_by : Tables → Told → Option ValueType
-stored_by tables x = stored_in (class_in (type_in x.shown)) (bytes_of tables (type_in x.shown))
-
 -- of an integer or a pointer
 abbrev pub scalar_in : Class → Option ValueType
 scalar_in (class.Integer kind) = Some (integer_type kind)
@@ -118,31 +110,37 @@ access_by x rooted stored = record { at = x.at; stored = stored; is_tested = not
 abbrev pub loaded : ℕ → ValueType → Bool → Expr → Expr
 loaded at stored rooted e = expr.Load (record { at = at; stored = stored; is_tested = not rooted }) e
 
-abbrev pub read_node : Class → ℕ → ℕ → Bool → Expr → Option Expr
-read_node (class.Integer kind) n at rooted e = Some (loaded at (integer_type kind) rooted e)
-read_node class.Pointer n at rooted e = Some (loaded at v.Pointer rooted e)
-read_node (class.Aggregate number) n at rooted e = Some (loaded at (v.Block n) rooted e)
-read_node class.Array n at rooted e = Some e
-read_node class.Function n at rooted e = Some e
-read_node class.Void n at rooted e = Some (expr.Convert v.Void e)
-read_node class.Floating n at rooted e = None
-read_node class.Opaque n at rooted e = None
+abbrev pub read_node : Class → ℕ → ℕ → Bool → Expr → Expr
+read_node (class.Integer kind) n at rooted e = loaded at (integer_type kind) rooted e
+read_node class.Pointer n at rooted e = loaded at v.Pointer rooted e
+read_node (class.Aggregate number) n at rooted e = loaded at (v.Block n) rooted e
+read_node class.Array n at rooted e = e
+read_node class.Function n at rooted e = e
+read_node class.Void n at rooted e = expr.Convert v.Void e
+read_node class.Floating n at rooted e = loaded at (v.Block n) rooted e
+read_node class.Opaque n at rooted e = loaded at (v.Block n) rooted e
 
 -- a call, whose answer is used or not
 abbrev pub call_node : Call → Bool → Expr
 call_node c used = expr.Call c.at c.arguments c.callee c.answer used
 
 -- the value of a part, which is used or not
-abbrev pub worth_node : Bool → Tables → Told → Bool → Node → Option Expr
-worth_node used tables x rooted (node.Value e) = Some e
+abbrev pub worth_node : Bool → Tables → Told → Bool → Node → Expr
+worth_node used tables x rooted (node.Value e) = e
 worth_node used tables x rooted (node.Place e) =
     read_node (class_in (type_in x.shown)) (bytes_of tables (type_in x.shown)) x.at rooted e
-worth_node used tables x rooted (node.Call c) = Some (call_node c used)
+worth_node used tables x rooted (node.Call c) = call_node c used
+
+-- the address of a part: of what has none 0, behind its value
+abbrev pub address_in : Node → Expr
+address_in (node.Place e) = e
+address_in (node.Value e) = expr.Convert v.Void e
+address_in (node.Call c) = expr.Convert v.Void (call_node c true)
 
 -- a part with the core of its value
 pub record HasWorth (used : Bool) (tables : Tables) (x : Built) (said : Told) (y : Used) : Type 0 where
   pub told : y.told ≡ said
-  pub value : Some y.value ≡ worth_node used tables x.told x.rooted x.node
+  pub value : y.value ≡ worth_node used tables x.told x.rooted x.node
 
 -- what is cast to void isn't used (C99 6.3.2.2)
 abbrev pub is_cast_of_used : Class → Bool
@@ -155,15 +153,15 @@ abbrev pub held_at : Duration → ℕ → (ℕ → ℕ) → Expr
 held_at duration.Automatic at place = expr.Local at
 held_at duration.Static at place = expr.Fixed (place at)
 
-abbrev pub meant_node : Means → ℕ → (ℕ → ℕ) → Option Node
-meant_node (means.Object t duration linkage) at place = Some (node.Place (held_at duration at place))
-meant_node (means.Function t linkage) at place = Some (node.Place (expr.Fixed (place at)))
-meant_node (means.Constant z) at place = Some (node.Value (expr.Constant z))
-meant_node (means.Typedef t) at place = None
-meant_node means.Faulty at place = None
+abbrev pub meant_node : Means → ℕ → (ℕ → ℕ) → Node
+meant_node (means.Object t duration linkage) at place = node.Place (held_at duration at place)
+meant_node (means.Function t linkage) at place = node.Place (expr.Fixed (place at))
+meant_node (means.Constant z) at place = node.Value (expr.Constant z)
+meant_node (means.Typedef t) at place = unmeant
+meant_node means.Faulty at place = unmeant
 
-abbrev pub named_node : Option Entry → (ℕ → ℕ) → Option Node
-named_node None place = None
+abbrev pub named_node : Option Entry → (ℕ → ℕ) → Node
+named_node None place = unmeant
 named_node (Some e) place = meant_node e.means e.at place
 
 abbrev pub is_object_by : Means → Bool
@@ -180,45 +178,33 @@ is_object (Some e) = is_object_by e.means
 
 -- ---- operators
 
--- `+`, `-` or `~`, in the promoted type
-abbrev pub turned_node : ℕ → Turning → Option IntegerKind → Bool → Expr → Option Node
-turned_node at turning None constant e = None
-turned_node at turning (Some kind) constant e =
-    Some (node.Value (expr.Turn at turning (word_type (promoted kind)) constant e))
+-- `+`, `-` or `~`, in the promoted type; what is no integer is left
+abbrev pub turned_node : ℕ → Turning → Option IntegerKind → Bool → Expr → Expr
+turned_node at turning None constant e = expr.Cast v.Void e
+turned_node at turning (Some kind) constant e = expr.Turn at turning (word_type (promoted kind)) constant e
 
-abbrev pub operated_node : ℕ → Option Operator → Bool → Expr → Expr → Option Node
-operated_node at None constant e f = None
-operated_node at (Some operator) constant e f = Some (node.Value (expr.Operate at operator constant e f))
+abbrev pub operated_node : ℕ → Option Operator → Bool → Expr → Expr → Expr
+operated_node at None constant e f = refused e f
+operated_node at (Some operator) constant e f = expr.Operate at operator constant e f
 
 -- by the operands as they are used; `constant` tells of the whole
-abbrev pub binary_node : ℕ → BinaryOperator → Tables → Bool → Used → Used → Option Node
-binary_node at o.LogicalAnd tables constant x y = Some (node.Value (expr.And at x.value y.value))
-binary_node at o.LogicalOr tables constant x y = Some (node.Value (expr.Or at x.value y.value))
+abbrev pub binary_node : ℕ → BinaryOperator → Tables → Bool → Used → Used → Expr
+binary_node at o.LogicalAnd tables constant x y = expr.And at x.value y.value
+binary_node at o.LogicalOr tables constant x y = expr.Or at x.value y.value
 binary_node at op tables constant x y =
     operated_node at (operator_of op (operand_by tables x.told) (operand_by tables y.told)) constant x.value y.value
 
 -- ---- addresses
 
-abbrev pub pointer_node : Node → Option Node
-pointer_node (node.Place e) = Some (node.Value (expr.Pointer e))
-pointer_node (node.Value e) = None
-pointer_node (node.Call c) = None
+abbrev pub target_of_sum : ℕ → Option Operator → Expr → Expr → Expr
+target_of_sum at None e f = refused e f
+target_of_sum at (Some operator) e f = expr.Convert v.Pointer (expr.Operate at operator false e f)
 
-abbrev pub target_of_sum : ℕ → Option Operator → Expr → Expr → Option Node
-target_of_sum at None e f = None
-target_of_sum at (Some operator) e f =
-    Some (node.Place (expr.Convert v.Pointer (expr.Operate at operator false e f)))
-
--- some bytes of a value, of a type in which an object is stored
-abbrev pub extracted_node : ℕ → Option ValueType → Expr → Option Node
-extracted_node bytes None e = None
-extracted_node bytes (Some t) e = Some (node.Value (expr.Extract bytes t e))
-
--- of an lvalue, else of a value
-abbrev pub member_node : ℕ → Option ValueType → Node → Option Node
-member_node bytes t (node.Place e) = Some (node.Place (expr.Offset bytes e))
-member_node bytes t (node.Value e) = extracted_node bytes t e
-member_node bytes t (node.Call c) = extracted_node bytes t (call_node c true)
+-- of an lvalue, else some bytes of a value
+abbrev pub member_node : ℕ → ValueType → Node → Node
+member_node bytes t (node.Place e) = node.Place (expr.Offset bytes e)
+member_node bytes t (node.Value e) = node.Value (expr.Extract bytes t e)
+member_node bytes t (node.Call c) = node.Value (expr.Extract bytes t (call_node c true))
 
 -- a member of an lvalue has its root
 abbrev pub member_rooted : Bool → Node → Bool
@@ -228,27 +214,27 @@ member_rooted rooted (node.Call c) = false
 
 -- ---- assignment
 
-abbrev pub stored_node : ℕ → Told → Bool → Option ValueType → Node → Expr → Option Node
-stored_node at x rooted (Some t) (node.Place e) f = Some (node.Value (expr.Store at (access_by x rooted t) e f))
-stored_node at x rooted (Some t) (node.Value e) f = None
-stored_node at x rooted (Some t) (node.Call c) f = None
-stored_node at x rooted None n f = None
+abbrev pub stored_node : ℕ → Tables → Told → Bool → Node → Expr → Expr
+stored_node at tables x rooted n f = expr.Store at (access_by x rooted (type_by tables x)) (address_in n) f
 
-abbrev pub updated_node : ℕ → Told → Bool → Option ValueType → Option Operator → Node → Expr → Option Node
-updated_node at x rooted (Some t) (Some operator) (node.Place e) f =
-    Some (node.Value (expr.Update at operator (access_by x rooted t) e f))
-updated_node at x rooted (Some t) (Some operator) (node.Value e) f = None
-updated_node at x rooted (Some t) (Some operator) (node.Call c) f = None
-updated_node at x rooted (Some t) None n f = None
-updated_node at x rooted None q n f = None
+-- how an integer or a pointer is accessed
+abbrev pub access_if : Told → Bool → Option ValueType → Option Access
+access_if x rooted None = None
+access_if x rooted (Some t) = Some (access_by x rooted t)
 
-abbrev pub step_node : ℕ → Answered → Told → Bool → Option ValueType → Option Operator → Node → Option Expr
-step_node at answer x rooted (Some t) (Some operator) (node.Place e) =
-    Some (expr.Step at operator (access_by x rooted t) answer e)
-step_node at answer x rooted (Some t) (Some operator) (node.Value e) = None
-step_node at answer x rooted (Some t) (Some operator) (node.Call c) = None
-step_node at answer x rooted (Some t) None n = None
-step_node at answer x rooted None q n = None
+abbrev pub scalar_access_by : Told → Bool → Option Access
+scalar_access_by x rooted = access_if x rooted (scalar_by x)
+
+-- what is no integer or pointer, or has no such operator, is left
+abbrev pub updated_by : ℕ → Option Access → Option Operator → Expr → Expr → Expr
+updated_by at (Some access) (Some operator) e f = expr.Update at operator access e f
+updated_by at (Some access) None e f = refused e f
+updated_by at None q e f = refused e f
+
+abbrev pub stepped_by : ℕ → Answered → Option Access → Option Operator → Expr → Expr
+stepped_by at answer (Some access) (Some operator) e = expr.Step at operator access answer e
+stepped_by at answer (Some access) None e = expr.Cast v.Void e
+stepped_by at answer None q e = expr.Cast v.Void e
 
 -- the operator that `++` or `--` is
 abbrev pub step_behind : PostfixOperator → BinaryOperator
@@ -256,7 +242,7 @@ step_behind after.Increment = o.Add
 step_behind after.Decrement = o.Subtract
 
 -- of an object that is read, and stored with 1 more or less
-abbrev pub stepped_node : ℕ → BinaryOperator → Answered → Tables → Built → Option Node
+abbrev pub stepped_node : ℕ → BinaryOperator → Answered → Tables → Built → Expr
 stepped_node at op answer tables x =
-    option_map node.Value (step_node at answer x.told x.rooted (scalar_by x.told)
-    (operator_of op (operand_by tables x.told) one_more) x.node)
+    stepped_by at answer (scalar_access_by x.told x.rooted) (operator_of op (operand_by tables x.told) one_more)
+    (address_in x.node)

@@ -9,31 +9,25 @@ ghost use Rattle.c_means.specs.Operators.{target_in};
 ghost use Rattle.core_tree.specs.declared.expr.Expr.TheVariants as expr;
 ghost use Rattle.core_tree.specs.declared.types.ValueType.TheVariants as v;
 ghost use Rattle.elaborate.specs.Operators as operators;
-ghost use Rattle.core_forms.specs.Nodes.{Makes, a_place, extracted_node, member_node, member_rooted, operand_by, pointer_node, stored_by, target_of_sum};
+ghost use Rattle.core_forms.specs.Nodes.{a_part, a_place, a_value, address_in, member_node, member_rooted, operand_by, target_of_sum, type_by};
 
-use crate::built::{Built, Node, Used, called, placed, valued};
-use crate::failure::NoCore;
-use crate::types::{operand_type, stored_type};
+use crate::built::{Built, Node, Used, address_of_node, called, left_out, placed, valued};
+use crate::types::{operand_type, type_of};
 use c_language::{BinaryOperator, CType, Name, Tables, Told, UnaryOperator};
 use c_type_forms as forms;
-use core_tree::{Expr, ValueType};
+use core_tree::{Expr, Operator, ValueType};
 use elaborate::operator_of;
 use plain_data::Shared;
 use std::alloc::{AllocError, Global};
 
-/// `&operand` (C99 6.5.3.2p3): nothing is read.
-pub fn address_of(alloc: Global, tables: &Tables, at: u32, x: Built) -> Result<Built, NoCore>
-    ensures { IfOk result (λ y. Makes y (says.node_over at x.told.shown (says.unary_judged tables.now u.Address) x.told.faults) false (pointer_node x.node)) }
+/// `&operand` (C99 6.5.3.2p3): nothing is read. It fails for want of memory alone.
+pub fn address_of(alloc: Global, tables: &Tables, at: u32, x: Built) -> Result<Built, AllocError>
+    ensures { IfOk result (λ y. y ≡ a_value (says.node_over at x.told.shown (says.unary_judged tables.now u.Address) x.told.faults) (expr.Pointer (address_in x.node))) }
 {
     let Built { told, node, .. } = x;
-    match node {
-        Node::Place(operand) => {
-            let told = forms::unary(alloc, tables, at, UnaryOperator::Address, told)?;
-            Ok(valued(alloc, told, Expr::Pointer { operand })?)
-        }
-        Node::Value(_) => Err(NoCore::Outside),
-        Node::Call(_) => Err(NoCore::Outside),
-    }
+    let operand = address_of_node(alloc, node)?;
+    let told = forms::unary(alloc, tables, at, UnaryOperator::Address, told)?;
+    valued(alloc, told, Expr::Pointer { operand })
 }
 
 /// `*operand` (C99 6.5.3.2p4). It fails for want of memory alone.
@@ -45,22 +39,19 @@ pub fn indirection(alloc: Global, tables: &Tables, at: u32, x: Used) -> Result<B
     placed(alloc, told, false, Expr::Target { operand: value })
 }
 
-/// `left[right]`: the target of the sum (C99 6.5.2.1p2), in the names in force behind the second.
-pub fn subscript(alloc: Global, tables: &Tables, at: u32, x: Used, y: Used) -> Result<Built, NoCore>
-    ensures { let told = says.node_over_two at x.told.shown y.told.shown (says.element tables.now) (x.told.faults ++ y.told.faults) in
-        IfOk result (λ z. Makes z told false (target_of_sum at (operators.operator_of o.Add (operand_by tables.now x.told) (operand_by tables.now y.told)) x.value y.value)) }
+/// The target of a sum, whose operands are left where there is no sum. It fails for want of memory alone.
+fn sum_target(
+    alloc: Global,
+    at: u32,
+    operator: Option<Operator>,
+    left: Shared<Expr>,
+    right: Shared<Expr>,
+) -> Result<Expr, AllocError>
+    ensures { IfOk result (λ e. e ≡ target_of_sum at operator left right) }
 {
-    let first = operand_type(alloc, tables, &x.told)?;
-    let second = operand_type(alloc, tables, &y.told)?;
-    let Some(operator) = operator_of(BinaryOperator::Add, first, second) else {
-        return Err(NoCore::Outside);
+    let Some(operator) = operator else {
+        return left_out(alloc, left, right);
     };
-    let Used { told, value: left } = x;
-    let Used {
-        told: more,
-        value: right,
-    } = y;
-    let told = forms::subscript(alloc, tables, at, told, more)?;
     let sum = Expr::Operate {
         at,
         operator,
@@ -69,11 +60,35 @@ pub fn subscript(alloc: Global, tables: &Tables, at: u32, x: Used, y: Used) -> R
         right,
     };
     let operand = Shared::new(alloc, sum)?;
-    let node = Expr::Convert {
+    Ok(Expr::Convert {
         to: ValueType::Pointer,
         operand,
-    };
-    Ok(placed(alloc, told, false, node)?)
+    })
+}
+
+/// `left[right]`: the target of the sum (C99 6.5.2.1p2), in the names in force behind the second. It fails for want of
+/// memory alone.
+pub fn subscript(
+    alloc: Global,
+    tables: &Tables,
+    at: u32,
+    x: Used,
+    y: Used,
+) -> Result<Built, AllocError>
+    ensures { let told = says.node_over_two at x.told.shown y.told.shown (says.element tables.now) (x.told.faults ++ y.told.faults) in
+        IfOk result (λ z. z ≡ a_place told false (target_of_sum at (operators.operator_of o.Add (operand_by tables.now x.told) (operand_by tables.now y.told)) x.value y.value)) }
+{
+    let first = operand_type(alloc, tables, &x.told)?;
+    let second = operand_type(alloc, tables, &y.told)?;
+    let operator = operator_of(BinaryOperator::Add, first, second);
+    let Used { told, value: left } = x;
+    let Used {
+        told: more,
+        value: right,
+    } = y;
+    let told = forms::subscript(alloc, tables, at, told, more)?;
+    let node = sum_target(alloc, at, operator, left, right)?;
+    placed(alloc, told, false, node)
 }
 
 /// Where a member lies in a structure or union (C99 6.7.2.1): 0 where there is none of this name.
@@ -96,45 +111,41 @@ fn member_offset(tables: &Tables, told: &Told, name: &Name) -> u64
     }
 }
 
-/// Some bytes of a value, of the type that is told.
+/// Some bytes of a value, of the type that is told. It fails for want of memory alone.
 fn extracted(
     alloc: Global,
     tables: &Tables,
     told: Told,
     bytes: u64,
     operand: Shared<Expr>,
-) -> Result<Built, NoCore>
-    ensures { IfOk result (λ y. Makes y told false (extracted_node bytes (stored_by tables.now told) operand)) }
+) -> Result<Built, AllocError>
+    ensures { IfOk result (λ y. y ≡ a_value told (expr.Extract bytes (type_by tables.now told) operand)) }
 {
-    match stored_type(tables, &told) {
-        Some(member) => {
-            let node = Expr::Extract {
-                bytes,
-                member,
-                operand,
-            };
-            Ok(valued(alloc, told, node)?)
-        }
-        None => Err(NoCore::Outside),
-    }
+    let node = Expr::Extract {
+        bytes,
+        member: type_of(tables, &told),
+        operand,
+    };
+    valued(alloc, told, node)
 }
 
-/// `object.member`: of what has an address the address, else some bytes of the value (C99 6.5.2.3p3).
+/// `object.member`: of what has an address the address, else some bytes of the value (C99 6.5.2.3p3). It fails for want
+/// of memory alone.
 pub fn member(
     alloc: Global,
     tables: &Tables,
     at: u32,
     name: &Name,
     x: Built,
-) -> Result<Built, NoCore>
+) -> Result<Built, AllocError>
     ensures { let told = says.node_over at x.told.shown (says.member_shown_of tables.now name.now) x.told.faults in
-        IfOk result (λ y. Makes y told (member_rooted x.rooted x.node) (member_node (form.offset_of tables.now (type_in x.told.shown) name.now) (stored_by tables.now told) x.node)) }
+        IfOk result (λ y. y ≡ a_part told (member_rooted x.rooted x.node) (member_node (form.offset_of tables.now (type_in x.told.shown) name.now) (type_by tables.now told) x.node)) }
 {
     let Built { told, rooted, node } = x;
     let bytes = member_offset(tables, &told, name);
     let told = forms::member(alloc, tables, at, name, told)?;
     match node {
-        Node::Place(operand) => Ok(placed(alloc, told, rooted, Expr::Offset { bytes, operand })?),
+        Node::Place(operand) => placed(alloc, told, rooted, Expr::Offset { bytes, operand }),
         Node::Value(value) => extracted(alloc, tables, told, bytes, value),
         Node::Call(call) => {
             let value = called(alloc, call, true)?;

@@ -1,9 +1,10 @@
 //! What parts of expressions are in the core, and their values (C99 6.3.2.1).
-ghost use Rattle.std.specs.Prelude.{◌≡◌, true, false, Some, IfOk};
+ghost use Rattle.std.specs.Prelude.{◌≡◌, true, false, IfOk};
 ghost use Rattle.c_language.specs.Typing.{used_told};
-ghost use Rattle.core_forms.specs.Nodes.{a_value, a_place, call_node, loaded, read_node, worth_node, HasWorth};
+ghost use Rattle.core_tree.specs.declared.expr.Expr.TheVariants as expr;
+ghost use Rattle.core_tree.specs.declared.types.ValueType.TheVariants as v;
+ghost use Rattle.core_forms.specs.Nodes.{a_value, a_place, address_in, call_node, loaded, read_node, refused, worth_node, HasWorth};
 
-use crate::failure::NoCore;
 use crate::types::{bytes_in, class_of};
 use c_language::{Class, Tables, Told};
 use c_type_forms as forms;
@@ -29,7 +30,8 @@ pub enum Node {
     Call(Call),
 }
 
-/// A part of an expression: what the types say of it, whether the root of the lvalue that it is is a name, and its core.
+/// A part of an expression: what the types say of it, whether the root of the lvalue that it is is a name, and its
+/// core.
 #[derive(Drop)]
 pub struct Built {
     pub told: Told,
@@ -80,7 +82,7 @@ fn load(
     stored: ValueType,
     rooted: bool,
     address: Shared<Expr>,
-) -> Result<Shared<Expr>, NoCore>
+) -> Result<Shared<Expr>, AllocError>
     ensures { IfOk result (λ e. e ≡ loaded at stored rooted address) }
 {
     let access = Access {
@@ -88,10 +90,39 @@ fn load(
         stored,
         is_tested: !rooted,
     };
-    Ok(Shared::new(alloc, Expr::Load { access, address })?)
+    Shared::new(alloc, Expr::Load { access, address })
+}
+
+/// What is evaluated, and worth nothing. It fails for want of memory alone.
+pub(crate) fn voided(alloc: Global, operand: Shared<Expr>) -> Result<Shared<Expr>, AllocError>
+    ensures { IfOk result (λ e. e ≡ expr.Convert v.Void operand) }
+{
+    Shared::new(
+        alloc,
+        Expr::Convert {
+            to: ValueType::Void,
+            operand,
+        },
+    )
+}
+
+/// Two operands, one behind the other, of which no value is made. It fails for want of memory alone.
+pub(crate) fn left_out(
+    alloc: Global,
+    first: Shared<Expr>,
+    second: Shared<Expr>,
+) -> Result<Expr, AllocError>
+    ensures { IfOk result (λ e. e ≡ refused first second) }
+{
+    let operand = Shared::new(alloc, Expr::Comma { first, second })?;
+    Ok(Expr::Convert {
+        to: ValueType::Void,
+        operand,
+    })
 }
 
 /// The value of what stands at an address: an array or a function is its address, and a void expression has no value.
+/// It fails for want of memory alone.
 fn read(
     alloc: Global,
     class: Class,
@@ -99,8 +130,8 @@ fn read(
     at: u32,
     rooted: bool,
     address: Shared<Expr>,
-) -> Result<Shared<Expr>, NoCore>
-    ensures { IfOk result (λ e. Some e ≡ read_node class bytes at rooted address) }
+) -> Result<Shared<Expr>, AllocError>
+    ensures { IfOk result (λ e. e ≡ read_node class bytes at rooted address) }
 {
     match class {
         Class::Integer(_) => load(alloc, at, value_type(class, bytes), rooted, address),
@@ -108,17 +139,9 @@ fn read(
         Class::Aggregate(_) => load(alloc, at, ValueType::Block { bytes }, rooted, address),
         Class::Array => Ok(address),
         Class::Function => Ok(address),
-        Class::Void => {
-            Ok(Shared::new(
-                alloc,
-                Expr::Convert {
-                    to: ValueType::Void,
-                    operand: address,
-                },
-            )?)
-        }
-        Class::Floating => Err(NoCore::Outside),
-        Class::Opaque => Err(NoCore::Outside),
+        Class::Void => voided(alloc, address),
+        Class::Floating => load(alloc, at, ValueType::Block { bytes }, rooted, address),
+        Class::Opaque => load(alloc, at, ValueType::Block { bytes }, rooted, address),
     }
 }
 
@@ -142,7 +165,7 @@ pub(crate) fn called(alloc: Global, call: Call, is_used: bool) -> Result<Shared<
     Shared::new(alloc, node)
 }
 
-/// The core of a part's value, which is used or not.
+/// The core of a part's value, which is used or not. It fails for want of memory alone.
 pub(crate) fn value_of(
     alloc: Global,
     tables: &Tables,
@@ -150,12 +173,12 @@ pub(crate) fn value_of(
     rooted: bool,
     node: Node,
     is_used: bool,
-) -> Result<Shared<Expr>, NoCore>
-    ensures { IfOk result (λ e. Some e ≡ worth_node is_used tables.now told.now rooted node) }
+) -> Result<Shared<Expr>, AllocError>
+    ensures { IfOk result (λ e. e ≡ worth_node is_used tables.now told.now rooted node) }
 {
     match node {
         Node::Value(value) => Ok(value),
-        Node::Call(call) => Ok(called(alloc, call, is_used)?),
+        Node::Call(call) => called(alloc, call, is_used),
         Node::Place(address) => read(
             alloc,
             class_of(told),
@@ -167,8 +190,22 @@ pub(crate) fn value_of(
     }
 }
 
-/// A part as an operand, in the names in force behind it (C99 6.3.2.1p2 to p4).
-pub fn operand(alloc: Global, tables: &Tables, x: Built) -> Result<Used, NoCore>
+/// The core of a part's address: of what has none 0, behind its value. It fails for want of memory alone.
+pub(crate) fn address_of_node(alloc: Global, node: Node) -> Result<Shared<Expr>, AllocError>
+    ensures { IfOk result (λ e. e ≡ address_in node) }
+{
+    match node {
+        Node::Place(address) => Ok(address),
+        Node::Value(value) => voided(alloc, value),
+        Node::Call(call) => {
+            let value = called(alloc, call, true)?;
+            voided(alloc, value)
+        }
+    }
+}
+
+/// A part as an operand, in the names in force behind it (C99 6.3.2.1p2 to p4). It fails for want of memory alone.
+pub fn operand(alloc: Global, tables: &Tables, x: Built) -> Result<Used, AllocError>
     ensures { IfOk result (λ y. HasWorth true tables.now x (used_told tables.now x.told) y) }
 {
     let Built { told, rooted, node } = x;
@@ -177,8 +214,9 @@ pub fn operand(alloc: Global, tables: &Tables, x: Built) -> Result<Used, NoCore>
     Ok(Used { told, value })
 }
 
-/// A part whose value isn't used, in the names in force behind it: what the types say of it as it stands.
-pub fn discarded(alloc: Global, tables: &Tables, x: Built) -> Result<Used, NoCore>
+/// A part whose value isn't used, in the names in force behind it: what the types say of it as it stands. It fails for
+/// want of memory alone.
+pub fn discarded(alloc: Global, tables: &Tables, x: Built) -> Result<Used, AllocError>
     ensures { IfOk result (λ y. HasWorth false tables.now x x.told y) }
 {
     let Built { told, rooted, node } = x;

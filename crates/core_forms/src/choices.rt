@@ -7,7 +7,6 @@ ghost use Rattle.core_forms.specs.Nodes as nodes;
 ghost use Rattle.core_forms.specs.Nodes.{a_value, cast_type, type_by, HasWorth};
 
 use crate::built::{Built, Used, value_of, valued};
-use crate::failure::NoCore;
 use crate::types::{type_as, type_of};
 use c_language::{CType, Class, Fault, Rule, Tables};
 use c_type_forms as forms;
@@ -74,13 +73,14 @@ fn named_class(named: &Option<Result<CType, Rule>>) -> Class
     }
 }
 
-/// A part as the operand of a cast to a named type: of one to void, the value isn't used (C99 6.3.2.2).
+/// A part as the operand of a cast to a named type: of one to void, the value isn't used (C99 6.3.2.2). It fails for
+/// want of memory alone.
 pub fn cast_operand(
     alloc: Global,
     tables: &Tables,
     named: &Option<Result<CType, Rule>>,
     x: Built,
-) -> Result<Used, NoCore>
+) -> Result<Used, AllocError>
     ensures { IfOk result (λ y. HasWorth (nodes.is_cast_of_used (form.named_class named.now)) tables.now x (says.used_told tables.now x.told) y) }
 {
     let Built { told, rooted, node } = x;

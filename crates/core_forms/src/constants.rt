@@ -1,10 +1,11 @@
 //! Constants, and what is worth one (C99 6.4.4, 6.5.3.4).
-ghost use Rattle.std.specs.Prelude.{◌≡◌, pos, unwrap_or, IfOk};
+ghost use Rattle.std.specs.Prelude.{◌≡◌, pos, false, unwrap_or, IfOk};
 ghost use Rattle.c_language.specs.Typing as says;
 ghost use Rattle.core_tree.specs.declared.expr.Expr.TheVariants as expr;
-ghost use Rattle.core_forms.specs.Nodes.{a_value};
+ghost use Rattle.core_forms.specs.Nodes.{a_part, a_value, unmeant};
 
 use crate::built::{Built, valued};
+use crate::names::left;
 use c_language::{CType, Fault, IntegerConstant, Rule, Tables, Told};
 use c_type_forms as forms;
 use core_tree::Expr;
@@ -41,6 +42,14 @@ pub fn character_constant(alloc: Global, at: u32, value: i32) -> Result<Built, A
             value: i128::from(value),
         },
     )
+}
+
+/// A constant of floating type (C99 6.4.4.2) breaks a rule, and isn't run. It fails for want of memory alone.
+pub fn floating_constant(alloc: Global, at: u32) -> Result<Built, AllocError>
+    ensures { IfOk result (λ y. y ≡ a_part (says.floating_told at) false unmeant) }
+{
+    let told = forms::floating_constant(alloc, at)?;
+    left(alloc, told)
 }
 
 /// The value of an expression that is constant.

@@ -6,7 +6,6 @@ mod assigning;
 mod built;
 mod choices;
 mod constants;
-mod failure;
 mod names;
 mod operators;
 mod single;
@@ -16,9 +15,10 @@ pub use addresses::{address_of, arrow, indirection, member, subscript};
 pub use assigning::{compound, decrement, increment, postfix, simple};
 pub use built::{Built, Call, Node, Used, discarded, operand};
 pub use choices::{cast, cast_operand, choice, converted};
-pub use constants::{character_constant, integer_constant, size_of_expression, size_of_type};
-pub use failure::NoCore;
-pub use names::{Places, function_name, identifier, string_literal};
+pub use constants::{
+    character_constant, floating_constant, integer_constant, size_of_expression, size_of_type,
+};
+pub use names::{Places, function_name, identifier, left, string_literal};
 pub use operators::{binary, comma};
 pub use single::{complement, minus, not, plus};
-pub use types::{stored_as, type_as};
+pub use types::type_as;

@@ -1,19 +1,19 @@
 //! Binary operators (C99 6.5.5 to 6.5.14), and the comma (C99 6.5.17).
-ghost use Rattle.std.specs.Prelude.{◌≡◌, ◌++◌, false, IfOk};
+ghost use Rattle.std.specs.Prelude.{◌≡◌, ◌++◌, IfOk};
 ghost use Rattle.c_language.specs.declared.expr.BinaryOperator.TheVariants as o;
 ghost use Rattle.c_language.specs.Typing as says;
 ghost use Rattle.core_tree.specs.declared.expr.Expr.TheVariants as expr;
 ghost use Rattle.elaborate.specs.Operators as operators;
 ghost use Rattle.core_forms.specs.Nodes as nodes;
-ghost use Rattle.core_forms.specs.Nodes.{Makes, a_value, binary_node, operand_by, operated_node};
+ghost use Rattle.core_forms.specs.Nodes.{a_value, binary_node, operand_by, operated_node};
 
-use crate::built::{Built, Used, valued};
-use crate::failure::NoCore;
+use crate::built::{Built, Used, left_out, valued};
 use crate::types::{is_constant, operand_type};
 use c_language::{BinaryOperator, Tables};
 use c_type_forms as forms;
-use core_tree::Expr;
+use core_tree::{Expr, Operator};
 use elaborate::operator_of;
+use plain_data::Shared;
 use std::alloc::{AllocError, Global};
 
 /// `left && right` (C99 6.5.13). It fails for want of memory alone.
@@ -42,7 +42,33 @@ fn or(alloc: Global, tables: &Tables, at: u32, x: Used, y: Used) -> Result<Built
     valued(alloc, told, Expr::Or { at, left, right })
 }
 
-/// An operator whose operands are both evaluated, the left one first (C99 6.5.5 to 6.5.12).
+/// An operator on two operands, which are left where there is none. It fails for want of memory alone.
+fn operated(
+    alloc: Global,
+    at: u32,
+    operator: Option<Operator>,
+    is_constant: bool,
+    left: Shared<Expr>,
+    right: Shared<Expr>,
+) -> Result<Expr, AllocError>
+    ensures { IfOk result (λ e. e ≡ operated_node at operator is_constant left right) }
+{
+    match operator {
+        Some(operator) => {
+            Ok(Expr::Operate {
+                at,
+                operator,
+                is_constant,
+                left,
+                right,
+            })
+        }
+        None => left_out(alloc, left, right),
+    }
+}
+
+/// An operator whose operands are both evaluated, the left one first (C99 6.5.5 to 6.5.12). It fails for want of memory
+/// alone.
 fn both(
     alloc: Global,
     tables: &Tables,
@@ -50,31 +76,23 @@ fn both(
     operator: BinaryOperator,
     x: Used,
     y: Used,
-) -> Result<Built, NoCore>
-    ensures { let told = says.node_over_two at x.told.shown y.told.shown (says.operated tables.now operator) (x.told.faults ++ y.told.faults) in IfOk result (λ z. Makes z told false (operated_node at (operators.operator_of operator (operand_by tables.now x.told) (operand_by tables.now y.told)) (nodes.is_constant told) x.value y.value)) }
+) -> Result<Built, AllocError>
+    ensures { let told = says.node_over_two at x.told.shown y.told.shown (says.operated tables.now operator) (x.told.faults ++ y.told.faults) in IfOk result (λ z. z ≡ a_value told (operated_node at (operators.operator_of operator (operand_by tables.now x.told) (operand_by tables.now y.told)) (nodes.is_constant told) x.value y.value)) }
 {
     let first = operand_type(alloc, tables, &x.told)?;
     let second = operand_type(alloc, tables, &y.told)?;
-    let Some(chosen) = operator_of(operator, first, second) else {
-        return Err(NoCore::Outside);
-    };
+    let chosen = operator_of(operator, first, second);
     let Used { told, value: left } = x;
     let Used {
         told: more,
         value: right,
     } = y;
     let told = forms::binary(alloc, tables, at, operator, told, more)?;
-    let node = Expr::Operate {
-        at,
-        operator: chosen,
-        is_constant: is_constant(&told),
-        left,
-        right,
-    };
-    Ok(valued(alloc, told, node)?)
+    let node = operated(alloc, at, chosen, is_constant(&told), left, right)?;
+    valued(alloc, told, node)
 }
 
-/// A binary operator over two values, in the names in force behind the second.
+/// A binary operator over two values, in the names in force behind the second. It fails for want of memory alone.
 pub fn binary(
     alloc: Global,
     tables: &Tables,
@@ -82,12 +100,12 @@ pub fn binary(
     operator: BinaryOperator,
     x: Used,
     y: Used,
-) -> Result<Built, NoCore>
-    ensures { let told = says.node_over_two at x.told.shown y.told.shown (says.operated tables.now operator) (x.told.faults ++ y.told.faults) in IfOk result (λ z. Makes z told false (binary_node at operator tables.now (nodes.is_constant told) x y)) }
+) -> Result<Built, AllocError>
+    ensures { let told = says.node_over_two at x.told.shown y.told.shown (says.operated tables.now operator) (x.told.faults ++ y.told.faults) in IfOk result (λ z. z ≡ a_value told (binary_node at operator tables.now (nodes.is_constant told) x y)) }
 {
     match operator {
-        BinaryOperator::LogicalAnd => Ok(and(alloc, tables, at, x, y)?),
-        BinaryOperator::LogicalOr => Ok(or(alloc, tables, at, x, y)?),
+        BinaryOperator::LogicalAnd => and(alloc, tables, at, x, y),
+        BinaryOperator::LogicalOr => or(alloc, tables, at, x, y),
         _ => both(alloc, tables, at, operator, x, y),
     }
 }

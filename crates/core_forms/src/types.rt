@@ -38,7 +38,7 @@ fn bytes_as(class: Class, size: Option<u64>) -> u64
     match class {
         Class::Integer(kind) => kind.bytes(),
         Class::Pointer => 8,
-        Class::Void => size.unwrap_or(0),
+        Class::Void => 0,
         Class::Array => size.unwrap_or(0),
         Class::Function => size.unwrap_or(0),
         Class::Floating => size.unwrap_or(0),
@@ -85,37 +85,6 @@ pub(crate) fn type_of(tables: &Tables, told: &Told) -> ValueType
     ensures { result ≡ nodes.type_by tables.now told.now }
 {
     value_type(class_of(told), bytes_in(tables, told))
-}
-
-/// The type in which an object of a class and so many bytes is stored.
-fn stored_in(class: Class, bytes: u64) -> Option<ValueType>
-    ensures { result ≡ nodes.stored_in class bytes }
-{
-    match class {
-        Class::Integer(_) => Some(value_type(class, bytes)),
-        Class::Pointer => Some(ValueType::Pointer),
-        Class::Aggregate(_) => Some(ValueType::Block { bytes }),
-        Class::Array => None,
-        Class::Function => None,
-        Class::Void => None,
-        Class::Floating => None,
-        Class::Opaque => None,
-    }
-}
-
-/// The type in which an object of a type is stored, where it is an integer, a pointer, a structure or a union.
-pub fn stored_as(tables: &Tables, ctype: &CType) -> Option<ValueType>
-    ensures { result ≡ nodes.stored_in (class_in (Some ctype.now)) (bytes_of tables.now (Some ctype.now)) }
-{
-    let class = ctype.class();
-    stored_in(class, bytes_as(class, tables.size_of(ctype)))
-}
-
-/// The same of what an expression is.
-pub(crate) fn stored_type(tables: &Tables, told: &Told) -> Option<ValueType>
-    ensures { result ≡ nodes.stored_by tables.now told.now }
-{
-    stored_in(class_of(told), bytes_in(tables, told))
 }
 
 /// The type in which an integer or a pointer is stored.

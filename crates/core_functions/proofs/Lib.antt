@@ -1,4 +1,3 @@
 pub mod InOrder
 pub mod Objects
 pub mod Making
-pub mod Uncalled

@@ -1,18 +1,15 @@
 -- Parameters are objects in which arguments are stored (C99 6.9.1p9).
-use Rattle.std.proofs.Common.{◌≡◌, ℕ, ◌+◌, ◌<◌, ◌≤◌, ℤ, List, [], ◌∷◌, ◌++◌, length, drop, get_or, Some, refl, sym}
+use Rattle.std.proofs.Common.{◌≡◌, ℕ, ◌+◌, ◌<◌, ◌≤◌, ℤ, List, [], ◌∷◌, ◌++◌, length, drop, get_or, Option, refl, sym}
 use Rattle.std.proofs.Common.{ap, ◌∙◌, subst}
 use Rattle.std.proofs.lemmas.List.{drop_all}
 use Rattle.c_store.specs.Store.{write}
 use Rattle.c_language.specs.declared.ctype.CType.{CType}
 use Rattle.c_language.specs.declared.tables.Tables.{Tables}
-use Rattle.c_language.specs.declared.scope.Duration.{Duration}
 use Rattle.c_language.specs.declared.scope.Entry.{Entry}
-use Rattle.c_language.specs.declared.scope.Linkage.{Linkage}
-use Rattle.c_language.specs.declared.scope.Means.{Means}
-use Rattle.c_language.specs.declared.scope.Means.TheVariants as means
 use Rattle.c_language.specs.Declarations.{object_type}
 use Rattle.c_language.specs.Scopes.{Scope}
 use Rattle.c_means.specs.Parts.{State}
+use Rattle.c_means.specs.Initials.{stores_as}
 use Rattle.c_means.specs.Values.{class_in, bytes_of}
 use Rattle.c_means.specs.Values as values
 use Rattle.c_means.specs.Runs.{passes_as}
@@ -21,45 +18,32 @@ use Rattle.core_tree.specs.declared.types.ValueType.{ValueType}
 use Rattle.core_tree.specs.Memory.{stored}
 use Rattle.core_tree.specs.Numbers as numbers
 use Rattle.core_tree.specs.States.{with_store}
-use Rattle.elaborate.specs.Means.{as_done, IsParameter, AreParameters, SameType}
-use Rattle.core_forms.specs.Nodes.{stored_in}
-use Rattle.core_forms.proofs.KindLaws.{stored_same}
+use Rattle.elaborate.specs.Means.{as_done, IsParameter, AreParameters, StoresAs}
+use Rattle.elaborate.proofs.Objects.{stored_in}
+use Rattle.core_forms.specs.Nodes.{type_as}
 use Rattle.core_functions.proofs.InOrder.{grouped, ended, cut}
 
 -- ---- one parameter
 
-stores_same : (tables : Tables) (t : CType) (x : ValueType) → SameType (class_in (Some t)) (bytes_of tables (Some t)) x
-    → (a : ℕ) (z : ℤ) (d : State)
-    → stored x a z (as_done d)
-    ≡ as_done (record d {
-      store = write (bytes_of tables (Some t)) a
-          (values.bytes_of_value (class_in (Some t)) (values.converted_to (class_in (Some t)) z)) d.store;
-    })
+stores_same : (tables : Tables) (t : Option CType) (x : ValueType) → StoresAs (class_in t) (bytes_of tables t) x
+    → (a : ℕ) (z : ℤ) (d : State) → stored x a z (as_done d) ≡ as_done (stores_as tables t a z d)
 stores_same tables t x h a z d =
     ap (λ n. with_store (write n a (numbers.bytes_of_value x (numbers.converted_to x z)) d.store) (as_done d)) h.size
-    ∙ ap (λ b. with_store (write (bytes_of tables (Some t)) a b d.store) (as_done d))
-    (h.bytes (numbers.converted_to x z) ∙ ap (values.bytes_of_value (class_in (Some t))) (h.converted z))
+    ∙ ap (λ b. with_store (write (bytes_of tables t) a b d.store) (as_done d))
+    (h.bytes (numbers.converted_to x z) ∙ ap (values.bytes_of_value (class_in t)) (h.converted z))
 
-meant : (s : Scope) (e : Entry) (m : Means) (t : CType) (x : ValueType) → e.means ≡ m
-    → numbers.size_of x ≡ bytes_of s.tables (object_type m)
-    → ((a : ℕ) (z : ℤ) (d : State) → stored x a z (as_done d) ≡ as_done (passes_as s.tables m a z d))
-    → IsParameter s (record { at = e.at; stored = x }) e
-meant s e m t x is sized passed = record {
-  at = refl;
-  size = sized ∙ ap (λ m. bytes_of s.tables (object_type m)) (sym is);
-  stores = λ a z d. passed a z d ∙ ap (λ m. as_done (passes_as s.tables m a z d)) (sym is);
-}
-
-pub object : (s : Scope) (e : Entry) (t t' : CType) (d : Duration) (l : Linkage) (tables : Tables) (x : ValueType)
-    (p : Parameter) → tables ≡ s.tables → e.means ≡ means.Object t d l → t' ≡ t
-    → Some x ≡ stored_in (class_in (Some t')) (bytes_of tables (Some t')) → p ≡ record { at = e.at; stored = x }
-    → IsParameter s p e
-object s e t t' d l tables x p tabled is c found made =
-    let same = stored_same s.tables (Some t) x
-    (sym (found ∙ ap (λ t. stored_in (class_in (Some t)) (bytes_of tables (Some t))) c
-    ∙ ap (λ ts. stored_in (class_in (Some t)) (bytes_of ts (Some t))) tabled)) in
-    subst (λ p. IsParameter s p e) (sym made)
-    (meant s e (means.Object t d l) t x is same.size (stores_same s.tables t x same))
+-- whatever it means
+pub object : (s : Scope) (e : Entry) (tables : Tables) (x : ValueType) (p : Parameter) → tables ≡ s.tables
+    → x ≡ type_as tables (object_type e.means) → p ≡ record { at = e.at; stored = x } → IsParameter s p e
+object s e tables x p tabled is made =
+    let t = object_type e.means in
+    let same = subst (λ x. StoresAs (class_in t) (bytes_of s.tables t) x)
+    (sym (is ∙ ap (λ ts. type_as ts t) tabled)) (stored_in s.tables t) in
+    subst (λ p. IsParameter s p e) (sym made) (record {
+      at = refl;
+      size = same.size;
+      stores = stores_same s.tables t x same;
+    })
 
 -- ---- parameters in order
 

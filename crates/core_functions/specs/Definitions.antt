@@ -1,32 +1,51 @@
--- What it is to be the core of a function definition (C99 6.9.1), and of the functions of the library that have a body.
-use Rattle.std.specs.Prelude.{◌≡◌, ◌↔◌, IsTrue, true, Bool, List, [], ◌∷◌, ◌++◌, Option, Some, not}
+-- What it is to be the core of a function definition (C99 6.9.1).
+use Rattle.std.specs.Prelude.{◌≡◌, ◌↔◌, IsTrue, Bool, List, [], ◌∷◌, ◌++◌, Option, Some, None, not}
 use Rattle.c_language.specs.declared.scope.Entry.{Entry}
 use Rattle.c_language.specs.Declarations.{FunctionSaid}
-use Rattle.c_means.specs.Items.{Item}
-use Rattle.c_means.specs.Programs.{Function, Outer}
+use Rattle.c_language.specs.Scopes.{Scope}
+use Rattle.c_means.specs.Items.{Item, node}
+use Rattle.c_means.specs.Items as runs
+use Rattle.c_means.specs.Programs.{Function, Outer, body_item}
 use Rattle.c_means.specs.Statements.{returns_void}
 use Rattle.core_tree.specs.declared.code.Code.{Code}
 use Rattle.core_tree.specs.declared.code.Code.TheVariants as code
 use Rattle.core_tree.specs.declared.expr.Expr.{Expr}
-use Rattle.core_tree.specs.declared.program.Function.{Function as CoreFunction}
 use Rattle.core_tree.specs.Programs.{body_of}
 use Rattle.core_tree.specs.States.{Output}
 use Rattle.elaborate.specs.Means.{Numbering, AreParameters, IsBodyOf}
 use Rattle.core_forms.specs.Nodes.{type_as}
+use Rattle.code_forms.specs.Contents.{AreCodesOf}
 use Rattle.core_codes.specs.declared.made.Body.{Body}
 use Rattle.core_codes.specs.Settings.{AreAllSet}
 use Rattle.core_functions.specs.declared.definitions.Definition.{Definition}
 use Rattle.core_functions.specs.declared.heads.Head.{Head}
+use Rattle.core_functions.specs.declared.heads.Named.{Named}
 
--- what is kept of the head of a definition: its name is declared, and each parameter has a value's type
+-- ---- heads
+
+-- the name that is declared
+abbrev pub name_of : Option Entry → Option Named
+name_of None = None
+name_of (Some e) = Some (record { at = e.at; name = e.name })
+
+-- what is kept of the head of a definition
 pub record IsHeadOf (x : Head) (f : FunctionSaid) : Type 0 where
-  pub entry : Entry
-  pub is : f.entry ≡ Some entry
-  pub at : x.at ≡ entry.at
-  pub name : x.name ≡ entry.name
+  pub named : x.named ≡ name_of f.entry
   pub has_value : x.has_value ≡ not (returns_void f.returned)
   pub returned : x.returned ≡ type_as f.inside.tables f.returned
   pub parameters : AreParameters f.inside x.parameters f.parameters
+
+-- ---- bodies
+
+-- what stands in the body of a function, which is a node itself, and the names in force at its end
+pub record IsInside (numbering : Numbering) (f : FunctionSaid) (b : Option runs.Code) (y : Body) (t : Scope) :
+    Type 0
+  where
+    pub item : Item
+    pub is : body_item f b ≡ node item
+    pub items : AreCodesOf numbering y.content.items item
+    pub lasting : AreAllSet numbering y.settings (body_item f b).lasting
+    pub after : t ≡ (body_item f b).after
 
 -- an item that is a `return`
 pub record IsReturn (c : Code) : Type 0 where
@@ -44,16 +63,21 @@ pub record EndsInReturn (xs : List Code) : Type 0 where
 abbrev pub MayMiss : Bool → List Code → Type 0
 MayMiss has_value xs = IsTrue has_value × (EndsInReturn xs → ⊥)
 
--- what is made of a head and of what stands in a body, which is a block
+-- ---- definitions
+
+-- what is made of a head and of what stands in a body
 pub record IsMadeOf (h : Head) (is_prelude : Bool) (y : Body) (x : Definition) : Type 0 where
-  pub is_compound : y.content.is_compound ≡ true
-  pub at : x.function.at ≡ h.at
-  pub name : x.function.name ≡ h.name
+  pub named : h.named ≡ Some (record { at = x.function.at; name = x.function.name })
   pub kind : x.function.is_prelude ≡ is_prelude
   pub misses : IsTrue x.function.may_miss ↔ MayMiss h.has_value y.content.items
   pub parameters : x.function.parameters ≡ h.parameters
   pub items : x.function.items ≡ y.content.items
   pub settings : x.settings ≡ y.settings
+
+-- none is made of a head without a name
+abbrev pub MaybeMadeOf : Head → Bool → Body → Option Definition → Type 0
+MaybeMadeOf h is_prelude y None = h.named ≡ None
+MaybeMadeOf h is_prelude y (Some x) = IsMadeOf h is_prelude y x
 
 -- the core of the function that an external declaration defines
 pub record IsDefinitionOf (numbering : Numbering) (x : Definition) (is_prelude : Bool) (o : Outer) : Type 0 where
@@ -67,16 +91,7 @@ pub record IsDefinitionOf (numbering : Numbering) (x : Definition) (is_prelude :
   pub is_body : IsBodyOf numbering (body_of {O = Output} x.function) function item
   pub lasting : AreAllSet numbering x.settings function.body.lasting
 
--- the core of a function of the library: whatever a program's calls are, since it calls nothing
-pub record IsPreludeOf (numbering : Numbering) (x : CoreFunction) (f : Function) : Type 0 where
-  pub name : x.name ≡ f.name
-  pub kind : x.is_prelude ≡ true
-  pub item : Item
-  pub is_body : (n : Numbering) → n.place ≡ numbering.place → n.identity ≡ numbering.identity
-      → IsBodyOf n (body_of {O = Output} x) f item
-
--- one behind the other
-abbrev pub ArePrelude : Numbering → List CoreFunction → List Function → Type 0
-ArePrelude numbering [] [] = Unit {0}
-ArePrelude numbering (x ∷ xs) (f ∷ fs) = IsPreludeOf numbering x f × ArePrelude numbering xs fs
-ArePrelude numbering _ _ = ⊥
+-- none where it defines no function
+abbrev pub MaybeDefinitionOf : Numbering → Option Definition → Bool → Outer → Type 0
+MaybeDefinitionOf numbering None is_prelude o = o.function ≡ None
+MaybeDefinitionOf numbering (Some x) is_prelude o = IsDefinitionOf numbering x is_prelude o

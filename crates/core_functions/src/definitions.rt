@@ -1,17 +1,17 @@
 //! Function definitions (C99 6.9.1).
-ghost use Rattle.std.specs.Prelude.{◌≡◌, ◌↔◌, IsTrue, IfOk};
-ghost use Rattle.c_language.specs.declared.unit.Body.TheVariants as body_;
+ghost use Rattle.std.specs.Prelude.{◌≡◌, ◌↔◌, true, [], IsTrue, IfOk};
 ghost use Rattle.c_language.specs.declared.unit.External.TheVariants as external;
-ghost use Rattle.c_means.specs.Programs.{outer};
+ghost use Rattle.c_language.specs.Declarations.{FunctionSaid};
+ghost use Rattle.c_means.specs.Programs.{code_in, outer};
 ghost use Rattle.core_functions.specs.Definitions as spec;
 
-use crate::heads::{Head, entered};
+use crate::heads::{Head, Named, entered};
 use c_declarations::function_says;
-use c_language::{Declarator, Name, Specifier, Stmt};
+use c_language as tree;
+use c_language::{Declarator, Name, Specifier};
 use c_type_scope::Scope;
 use code_forms::Content;
-use core_codes::{Body, Context, Parts, content};
-use core_forms::NoCore;
+use core_codes::{Body, Parts, content};
 use core_tree::{Code, Function, LastingSetting};
 use plain_data::{Items, Shared};
 use std::alloc::{AllocError, Global};
@@ -64,22 +64,51 @@ fn may_miss(has_value: bool, items: &[Shared<Code>]) -> bool
     }
 }
 
-/// The function of a head and of what stands in its body, which is a block.
-fn with_body(head: Head, is_prelude: bool, body: Body) -> Result<Definition, NoCore>
-    ensures { IfOk result (λ x. spec.IsMadeOf head is_prelude body x) }
+/// What stands in a body that couldn't be read. It takes no memory.
+fn nothing(alloc: Global) -> Body
+    ensures { result ≡ record { content = record { is_compound = true; items = []; cases = [] }; settings = [] } }
+{
+    let content = Content {
+        is_compound: true,
+        items: Items::new(alloc),
+        cases: Items::new(alloc),
+    };
+    Body {
+        content,
+        settings: Items::new(alloc),
+    }
+}
+
+/// What stands in the body of this head, in which its parameters are in force. It fails for want of memory alone.
+fn inside<P: Parts>(
+    alloc: Global,
+    parts: &P,
+    head: &Head,
+    body: &tree::Body,
+    scope: &mut Scope,
+) -> Result<Body, AllocError>
+    ensures { IfOk result (λ y. (f : FunctionSaid) → spec.IsHeadOf head.now f → f.inside ≡ scope.old →
+        spec.IsInside (P.numbering parts.now) f (code_in body.now) y scope.new) }
+{
+    match body {
+        tree::Body::Read { block } => content(alloc, parts, head.context(), block.get(), scope),
+        tree::Body::Unread { .. } => Ok(nothing(alloc)),
+    }
+}
+
+/// The function of a head and of what stands in its body, where it has a name.
+fn with_body(head: Head, is_prelude: bool, body: Body) -> Option<Definition>
+    ensures { spec.MaybeMadeOf head is_prelude body result }
 {
     let Body { content, settings } = body;
-    if !content.is_compound {
-        return Err(NoCore::Outside);
-    }
     let Content { items, .. } = content;
     let may_miss = may_miss(head.has_value, items.as_slice());
     let Head {
-        at,
-        name,
+        named,
         parameters,
         ..
     } = head;
+    let Named { at, name } = named?;
     let function = Function {
         at,
         name,
@@ -88,28 +117,31 @@ fn with_body(head: Head, is_prelude: bool, body: Body) -> Result<Definition, NoC
         parameters,
         items,
     };
-    Ok(Definition { function, settings })
+    Some(Definition { function, settings })
 }
 
 /// The core of a function definition (C99 6.9.1), in front of which these names are in force; behind it are those that
-/// it leaves. A body that is no block, a function without a name, and a parameter without a value's type have none.
+/// it leaves. There is none exactly where it names no function. A body that couldn't be read does nothing. It fails for
+/// want of memory alone.
 pub fn define<P: Parts>(
     alloc: Global,
     parts: &P,
     specifiers: &[Shared<Specifier>],
     declarator: &Declarator,
-    body: &Stmt,
+    body: &tree::Body,
     is_prelude: bool,
     scope: &mut Scope,
-) -> Result<Definition, NoCore>
-    ensures made { IfOk result (λ x. spec.IsDefinitionOf (P.numbering parts.now) x is_prelude (outer (external.Function specifiers.now declarator.now (body_.Read body.now)) scope.old)) }
-    ensures after { IfOk result (λ x. scope.new ≡ (outer (external.Function specifiers.now declarator.now (body_.Read body.now)) scope.old).after) }
+) -> Result<Option<Definition>, AllocError>
+    ensures made { IfOk result (λ x. spec.MaybeDefinitionOf (P.numbering parts.now) x is_prelude
+        (outer (external.Function specifiers.now declarator.now body.now) scope.old)) }
+    ensures after { IfOk result (λ x. scope.new ≡
+        (outer (external.Function specifiers.now declarator.now body.now) scope.old).after) }
 {
     let around = function_around(scope)?;
     let said = function_says(alloc, specifiers, declarator, scope)?;
     let head = entered(alloc, said, scope)?;
-    let inside = content(alloc, parts, head.context(), body, scope)?;
+    let inside = inside(alloc, parts, &head, body, scope)?;
     scope.leave();
     scope.set_function(around);
-    with_body(head, is_prelude, inside)
+    Ok(with_body(head, is_prelude, inside))
 }

@@ -1,26 +1,35 @@
 //! Heads of function definitions (C99 6.9.1): their names, what they return, and their parameters.
 ghost use Rattle.std.specs.Prelude.{◌≡◌, not, IfOk};
+ghost use Rattle.c_language.specs.Declarations.{object_type};
 ghost use Rattle.c_declarations.specs.Views.{function_in};
 ghost use Rattle.c_means.specs.Statements.{returns_void};
+ghost use Rattle.core_forms.specs.Nodes as nodes;
 ghost use Rattle.elaborate.specs.Means.{IsParameter, AreParameters};
-ghost use Rattle.core_functions.specs.Definitions.{IsHeadOf};
+ghost use Rattle.core_functions.specs.Definitions as spec;
 
 use c_declarations::FunctionSaid;
-use c_language::{CType, Entry, Means, Name};
+use c_language::{CType, Entry, Means, Name, Tables};
 use c_type_forms::is_void;
 use c_type_scope::Scope;
+use code_forms::stored_type;
 use core_codes::Context;
-use core_forms::{NoCore, stored_as, type_as};
+use core_forms::type_as;
 use core_tree::{Parameter, ValueType};
 use plain_data::{Items, Shared};
-use std::alloc::Global;
+use std::alloc::{AllocError, Global};
 
-/// What is kept of the head of a definition: the offset of its name, whether it returns a value and in which type, and
-/// its parameters, in order.
+/// The name of a function, with its offset.
 #[derive(Drop)]
-pub(crate) struct Head {
+pub(crate) struct Named {
     pub at: u32,
     pub name: Name,
+}
+
+/// What is kept of the head of a definition: the name that it declares, where it has one; whether it returns a value
+/// and in which type; and its parameters, in order.
+#[derive(Drop)]
+pub(crate) struct Head {
+    pub named: Option<Named>,
     pub has_value: bool,
     pub returned: ValueType,
     pub parameters: Items<Parameter>,
@@ -50,64 +59,82 @@ fn gives_value(returned: &Option<CType>) -> bool
     }
 }
 
-/// A parameter, as an object of its type (C99 6.9.1p9).
-fn parameter(scope: &Scope, entry: &Entry) -> Result<Parameter, NoCore>
-    ensures { IfOk result (λ p. IsParameter scope.now p entry.now) }
+/// The type in which the object of a name with this meaning is stored. What is no object takes no bytes.
+fn stored_as(tables: &Tables, means: &Means) -> ValueType
+    ensures { result ≡ nodes.type_as tables.now (object_type means.now) }
 {
-    match &entry.means {
-        Means::Object { ctype, .. } => match stored_as(scope.tables(), ctype.get()) {
-            Some(stored) => {
-                let at = entry.at;
-                Ok(Parameter { at, stored })
-            }
-            None => Err(NoCore::Outside),
-        },
-        _ => Err(NoCore::Outside),
+    match means {
+        Means::Object { ctype, .. } => stored_type(tables, ctype.get()),
+        Means::Function { .. } => ValueType::Void,
+        Means::Typedef { .. } => ValueType::Void,
+        Means::Constant { .. } => ValueType::Void,
+        Means::Faulty => ValueType::Void,
     }
 }
 
-/// The parameters of a definition, in order.
+/// A parameter, as an object of its type (C99 6.9.1p9).
+fn parameter(scope: &Scope, entry: &Entry) -> Parameter
+    ensures { IsParameter scope.now result entry.now }
+{
+    let at = entry.at;
+    let stored = stored_as(scope.tables(), &entry.means);
+    Parameter { at, stored }
+}
+
+/// The parameters of a definition, in order. It fails for want of memory alone.
 fn parameters_of(
     alloc: Global,
     scope: &Scope,
     entries: &[Shared<Entry>],
-) -> Result<Items<Parameter>, NoCore>
+) -> Result<Items<Parameter>, AllocError>
     ensures { IfOk result (λ ps. AreParameters scope.now ps entries.now) }
 {
     let mut all = Items::new(alloc);
     for entry in entries {
-        let found = parameter(scope, entry.get())?;
+        let found = parameter(scope, entry.get());
         all.push(found)?;
     }
     Ok(all)
 }
 
-/// What is kept of a head, in front of its body.
-fn head_of(alloc: Global, said: &FunctionSaid, scope: &Scope) -> Result<Head, NoCore>
-    ensures { IfOk result (λ h. IsHeadOf h (function_in said.now scope.now)) }
+/// The name that a head declares, where it has one. It fails for want of memory alone.
+fn name_of(entry: &Option<Shared<Entry>>) -> Result<Option<Named>, AllocError>
+    ensures { IfOk result (λ x. x ≡ spec.name_of entry.now) }
 {
-    match &said.entry {
+    match entry {
         Some(entry) => {
-            let parameters = parameters_of(alloc, scope, said.parameters.as_slice())?;
             let entry = entry.get();
             let name = entry.name.clone()?;
-            let has_value = gives_value(&said.returned);
-            let returned = type_as(scope.tables(), &said.returned);
-            Ok(Head {
-                at: entry.at,
-                name,
-                has_value,
-                returned,
-                parameters,
-            })
+            Ok(Some(Named { at: entry.at, name }))
         }
-        None => Err(NoCore::Outside),
+        None => Ok(None),
     }
 }
 
-/// Goes into the body of a definition: its parameters are in force there (C99 6.9.1p9).
-pub(crate) fn entered(alloc: Global, said: FunctionSaid, scope: &mut Scope) -> Result<Head, NoCore>
-    ensures head { IfOk result (λ h. IsHeadOf h (function_in said scope.old)) }
+/// What is kept of a head, in front of its body. It fails for want of memory alone.
+fn head_of(alloc: Global, said: &FunctionSaid, scope: &Scope) -> Result<Head, AllocError>
+    ensures { IfOk result (λ h. spec.IsHeadOf h (function_in said.now scope.now)) }
+{
+    let parameters = parameters_of(alloc, scope, said.parameters.as_slice())?;
+    let named = name_of(&said.entry)?;
+    let has_value = gives_value(&said.returned);
+    let returned = type_as(scope.tables(), &said.returned);
+    Ok(Head {
+        named,
+        has_value,
+        returned,
+        parameters,
+    })
+}
+
+/// Goes into the body of a definition: its parameters are in force there (C99 6.9.1p9). It fails for want of memory
+/// alone.
+pub(crate) fn entered(
+    alloc: Global,
+    said: FunctionSaid,
+    scope: &mut Scope,
+) -> Result<Head, AllocError>
+    ensures head { IfOk result (λ h. spec.IsHeadOf h (function_in said scope.old)) }
     ensures after { IfOk result (λ h. scope.new ≡ (function_in said scope.old).inside) }
 {
     let head = head_of(alloc, &said, scope)?;

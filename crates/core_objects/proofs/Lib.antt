@@ -1,5 +1,3 @@
-pub mod Printing
-pub mod Quietness
 pub mod Settling
 pub mod DeclaredObjects
 pub mod Joining

@@ -6,8 +6,8 @@ use core_tree::{Code, LastingSetting};
 use plain_data::{Items, Shared};
 use std::alloc::{AllocError, Global};
 
-/// A declaration in the core: the codes of its items in a block, in order, and what the initializers of the objects in it
-/// that live throughout the run set before `main` is called (C99 6.2.4p3), in order.
+/// A declaration in the core: the codes of its items in a block, in order, and what the initializers of the objects in
+/// it that live throughout the run set before `main` is called (C99 6.2.4p3), in order.
 #[derive(Drop)]
 pub struct Begun {
     pub codes: Items<Shared<Code>>,

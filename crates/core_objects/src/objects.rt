@@ -1,22 +1,21 @@
 //! Declared objects (C99 6.2.4, 6.7.8).
-ghost use Rattle.std.specs.Prelude.{◌≡◌, ℕ, Bool, true, IfOk, IfSome};
+ghost use Rattle.std.specs.Prelude.{◌≡◌, ℕ, map, IfOk};
 ghost use Rattle.core_tree.specs.declared.code.Code.TheVariants as code;
 ghost use Rattle.c_language.specs.declared.scope.Linkage.{Linkage as Linkages};
 ghost use Rattle.c_language.specs.Scopes as scopes;
 ghost use Rattle.c_means.specs.Initials as runs;
 ghost use Rattle.c_means.specs.Statements as statements;
 ghost use Rattle.elaborate.specs.Means.{Numbering};
-ghost use Rattle.core_objects.specs.Begun.{IsBegun, bare};
+ghost use Rattle.core_objects.specs.Begun.{IsBegun};
 ghost use Rattle.core_objects.specs.Given as gives;
 
 use crate::begun::{Begun, nothing_begun, one_begun};
-use crate::given::{Given, Initial};
-use crate::quiet::lasting_settings;
+use crate::given::Initial;
 use c_language::{Duration, Entry, Means};
 use c_type_scope::Scope;
 use code_forms::{automatic_object, bytes_of, lasting_object};
-use core_forms::{NoCore, Places};
-use core_tree::{Code, Expr};
+use core_forms::Places;
+use core_tree::{Code, Expr, LastingSetting, Setting};
 use plain_data::{Items, Shared};
 use std::alloc::{AllocError, Global};
 
@@ -27,14 +26,13 @@ fn automatic(
     bytes: u64,
     initial: Initial,
 ) -> Result<Begun, AllocError>
-    ensures { (numbering : Numbering) (x : runs.Initial) (s : scopes.Scope) → gives.IsInitial numbering initial x → IfOk result (λ y. IsBegun numbering y (statements.automatic entry.now bytes x s) s) }
+    ensures { (numbering : Numbering) (x : runs.Initial) (s : scopes.Scope) → initial.is_zeroed ≡ x.is_zeroed → gives.IsGiven numbering initial.settings x → IfOk result (λ y. IsBegun numbering y (statements.automatic entry.now bytes x s) s) }
 {
     let Initial {
         is_zeroed,
-        given,
+        settings,
         ..
     } = initial;
-    let Given { settings, .. } = given;
     let code = automatic_object(alloc, entry.at, bytes, is_zeroed, settings)?;
     one_begun(alloc, code, Items::new(alloc))
 }
@@ -43,40 +41,30 @@ fn automatic(
 fn lasting_code(
     alloc: Global,
     is_defined: bool,
-    values: Items<Shared<Expr>>,
+    counted: Items<Shared<Expr>>,
 ) -> Result<Shared<Code>, AllocError>
-    ensures { IfOk result (λ y. y ≡ code.Static is_defined (gives.values_if is_defined values)) }
+    ensures { IfOk result (λ y. y ≡ code.Static is_defined (gives.counted_if is_defined counted)) }
 {
     if is_defined {
-        lasting_object(alloc, true, values)
+        lasting_object(alloc, true, counted)
     } else {
         lasting_object(alloc, false, Items::new(alloc))
     }
 }
 
-/// What an initializer gives in which nothing is called.
-fn bare_given(initial: Initial) -> Option<Given>
-    ensures { IfSome result (λ g. (initial.is_bare ≡ true) × (g ≡ initial.given)) }
-{
-    let Initial { is_bare, given, .. } = initial;
-    if is_bare { Some(given) } else { None }
-}
-
-/// An object that lives throughout the run, with what its initializer gives where nothing is called.
-fn lasting_given<P: Places>(
+/// What is set of the object at a place before the program starts.
+fn lasting_settings(
     alloc: Global,
-    places: &P,
-    entry: &Entry,
-    is_defined: bool,
-    given: Given,
-) -> Result<Begun, NoCore>
-    ensures { (at bytes : ℕ) (k : Linkages) (z : Bool) (x : runs.Initial) (s : scopes.Scope) → gives.IsGiven (bare (P.numbering places.now)) z given x → IfOk result (λ y. IsBegun (P.numbering places.now) y (statements.lasting at entry.now bytes k is_defined x s) s) }
+    place: u64,
+    settings: Items<Setting>,
+) -> Result<Items<LastingSetting>, AllocError>
+    ensures { IfOk result (λ ys. ys ≡ map (gives.lasting_setting place) settings) }
 {
-    let Given { settings, values } = given;
-    let place = places.place(entry.at);
-    let settings = lasting_settings(alloc, place, settings)?;
-    let code = lasting_code(alloc, is_defined, values)?;
-    Ok(one_begun(alloc, code, settings)?)
+    let mut lasting = Items::new(alloc);
+    for setting in settings.into_vec() {
+        lasting.push(LastingSetting { place, setting })?;
+    }
+    Ok(lasting)
 }
 
 /// An object with static storage duration (C99 6.2.4p3).
@@ -86,17 +74,21 @@ fn lasting<P: Places>(
     entry: &Entry,
     is_defined: bool,
     initial: Initial,
-) -> Result<Begun, NoCore>
-    ensures { (at bytes : ℕ) (k : Linkages) (x : runs.Initial) (s : scopes.Scope) → gives.IsInitial (P.numbering places.now) initial x → IfOk result (λ y. IsBegun (P.numbering places.now) y (statements.lasting at entry.now bytes k is_defined x s) s) }
+) -> Result<Begun, AllocError>
+    ensures { (at bytes : ℕ) (k : Linkages) (x : runs.Initial) (s : scopes.Scope) → gives.IsLasting (P.numbering places.now) initial x → IfOk result (λ y. IsBegun (P.numbering places.now) y (statements.lasting at entry.now bytes k is_defined x s) s) }
 {
-    match bare_given(initial) {
-        None => Err(NoCore::Outside),
-        Some(given) => lasting_given(alloc, places, entry, is_defined, given),
-    }
+    let Initial {
+        settings,
+        counted,
+        ..
+    } = initial;
+    let place = places.place(entry.at);
+    let settings = lasting_settings(alloc, place, settings)?;
+    let code = lasting_code(alloc, is_defined, counted)?;
+    one_begun(alloc, code, settings)
 }
 
-/// What a name that is declared is in the core, by what it means: only objects act. It fails for want of memory, and where
-/// the initializer of an object that lives throughout the run was found as what calls functions.
+/// What a name that is declared is in the core, by what it means: only objects act. It fails for want of memory alone.
 pub fn declared_object<P: Places>(
     alloc: Global,
     places: &P,
@@ -104,8 +96,8 @@ pub fn declared_object<P: Places>(
     is_defined: bool,
     initial: Initial,
     scope: &Scope,
-) -> Result<Begun, NoCore>
-    ensures { (at : ℕ) (x : runs.Initial) → gives.IsInitial (P.numbering places.now) initial x → IfOk result (λ y. IsBegun (P.numbering places.now) y (statements.declared_means at entry.now entry.now.means is_defined x scope.now) scope.now) }
+) -> Result<Begun, AllocError>
+    ensures { (at : ℕ) (x : runs.Initial) → gives.IsInitial entry.now.means (P.numbering places.now) initial x → IfOk result (λ y. IsBegun (P.numbering places.now) y (statements.declared_means at entry.now entry.now.means is_defined x scope.now) scope.now) }
 {
     match &entry.means {
         Means::Object {
@@ -115,7 +107,7 @@ pub fn declared_object<P: Places>(
         } => match *duration {
             Duration::Automatic => {
                 let bytes = bytes_of(scope.tables(), ctype.get());
-                Ok(automatic(alloc, entry, bytes, initial)?)
+                automatic(alloc, entry, bytes, initial)
             }
             Duration::Static => lasting(alloc, places, entry, is_defined, initial),
         },

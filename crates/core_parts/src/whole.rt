@@ -9,10 +9,10 @@ use c_type_scope::Scope;
 use core_codes::{Begun, Parts, Valued};
 use core_declarations::{Heard, hear};
 use core_exprs::Callees;
-use core_forms::{NoCore, Used};
+use core_forms::Used;
 use core_tree::Expr;
 use plain_data::Shared;
-use std::alloc::Global;
+use std::alloc::{AllocError, Global};
 
 /// All parts of the statements of a function, by what its calls are.
 #[derive(Clone, Copy)]
@@ -25,7 +25,7 @@ fn used_value<C: Callees>(
     callees: &C,
     expr: &tree::Expr,
     scope: &mut Scope,
-) -> Result<Valued, NoCore>
+) -> Result<Valued, AllocError>
     ensures { IfOk result (λ y. spec.IsValued (C.numbering callees.now) y (notes.noted expr.now scope.old) scope.new) }
 {
     let x = hear(alloc, callees, expr, scope)?;
@@ -38,7 +38,7 @@ fn unused_value<C: Callees>(
     callees: &C,
     expr: &tree::Expr,
     scope: &mut Scope,
-) -> Result<Shared<Expr>, NoCore>
+) -> Result<Shared<Expr>, AllocError>
     ensures { IfOk result (λ y. spec.IsDone (C.numbering callees.now) y (notes.noted expr.now scope.old) scope.new) }
 {
     let x = core_exprs::effect(alloc, callees, expr, scope)?;
@@ -51,7 +51,7 @@ fn declared<C: Callees>(
     callees: &C,
     declaration: &tree::Declaration,
     scope: &mut Scope,
-) -> Result<Begun, NoCore>
+) -> Result<Begun, AllocError>
     ensures { IfOk result (λ y. spec.IsBegun (C.numbering callees.now) y (form.declaration declaration.now scope.old) scope.new) }
 {
     let begun = core_declarations::declaration(alloc, callees, declaration, scope)?;
@@ -62,7 +62,7 @@ fn declared<C: Callees>(
 impl<'a, C: Callees> Parts for Whole<'a, C> {
     ghost numbering = { λ w. C.numbering w.callees.now };
 
-    fn value(&self, alloc: Global, expr: &tree::Expr, scope: &mut Scope) -> Result<Valued, NoCore> {
+    fn value(&self, alloc: Global, expr: &tree::Expr, scope: &mut Scope) -> Result<Valued, AllocError> {
         used_value(alloc, self.callees, expr, scope)
     }
 
@@ -71,7 +71,7 @@ impl<'a, C: Callees> Parts for Whole<'a, C> {
         alloc: Global,
         expr: &tree::Expr,
         scope: &mut Scope,
-    ) -> Result<Shared<Expr>, NoCore> {
+    ) -> Result<Shared<Expr>, AllocError> {
         unused_value(alloc, self.callees, expr, scope)
     }
 
@@ -80,7 +80,7 @@ impl<'a, C: Callees> Parts for Whole<'a, C> {
         alloc: Global,
         declaration: &tree::Declaration,
         scope: &mut Scope,
-    ) -> Result<Begun, NoCore> {
+    ) -> Result<Begun, AllocError> {
         declared(alloc, self.callees, declaration, scope)
     }
 }

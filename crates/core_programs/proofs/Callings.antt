@@ -40,15 +40,17 @@ module _ (m : whole.Machine) (ns : Numbers) (f : Function) (g : c.Site) (t : Val
   told x l k like env vs base s o = ap (λ k. core.called k x g.at t env vs base s o) (is_told numbering l k like)
 
   -- a function of the source or of the prelude, by its number
-  pub source_call : (h : Function) (n : ℕ) → whole.rule_of m g ≡ BodyCall h → ns.source g.callee.name ≡ Some n
-      → IsCallOf numbering (callee.Body n) g.at t (λ l. g)
-  source_call h n is e =
-      body_call_of numbering g.at t (λ l. g) n (λ l. ap (number_by ns g.callee.name) is ∙ e) (λ l. refl)
+  pub source_call : (h : Function) → whole.rule_of m g ≡ BodyCall h
+      → IsCallOf numbering (callee.Body (ns.source g.callee.name)) g.at t (λ l. g)
+  source_call h is =
+      body_call_of numbering g.at t (λ l. g) (ns.source g.callee.name) (λ l. ap (number_by ns g.callee.name) is)
+      (λ l. refl)
 
-  pub prelude_call : (h : Function) (n : ℕ) → whole.rule_of m g ≡ PreludeCall h → ns.prelude g.callee.name ≡ Some n
-      → IsCallOf numbering (callee.Body n) g.at t (λ l. g)
-  prelude_call h n is e =
-      body_call_of numbering g.at t (λ l. g) n (λ l. ap (number_by ns g.callee.name) is ∙ e) (λ l. refl)
+  pub prelude_call : (h : Function) → whole.rule_of m g ≡ PreludeCall h
+      → IsCallOf numbering (callee.Body (ns.prelude g.callee.name)) g.at t (λ l. g)
+  prelude_call h is =
+      body_call_of numbering g.at t (λ l. g) (ns.prelude g.callee.name) (λ l. ap (number_by ns g.callee.name) is)
+      (λ l. refl)
 
   -- a log call, with the variables that it shows
   pub log_is : (text : LogText) (watched : List Watched) → whole.rule_of m g ≡ LogCall text

@@ -3,3 +3,6 @@ pub mod Programs
 pub mod Machines
 pub mod Callings
 pub mod OffsetLaws
+pub mod QuietSteps
+pub mod QuietParts
+pub mod Quiet

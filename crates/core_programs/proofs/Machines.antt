@@ -1,4 +1,4 @@
--- Where each function that has a number has its core there, the core's machine is that of the program.
+-- Where each function has its core at its number, the core's machine is that of the program.
 use Rattle.std.proofs.Common.{◌≡◌, ℕ, ◌+◌, ℤ, pos, negsuc, Bool, true, false, cond, List, [], ◌∷◌, ◌++◌, length, drop}
 use Rattle.std.proofs.Common.{Option, Some, None, refl, sym, ap, ap₂, ◌∙◌, subst}
 use Rattle.plain_data.specs.declared.run.Happening.TheVariants as happening
@@ -34,7 +34,8 @@ use Rattle.core_tree.specs.declared.program.Core.{Core}
 use Rattle.core_tree.specs.Programs.{maybe_body, body_of}
 use Rattle.elaborate.specs.Means.{Ruling, BodyRule, Numbered, IsMachineOf}
 use Rattle.core_programs.specs.Programs.{machine_for}
-use Rattle.core_programs.specs.Numberings.{Numbers, placed, ruling_by, number_by, numbering_of, AreFunctions}
+use Rattle.core_programs.specs.Numberings.{Numbers, placed, ruling_by, number_by, numbering_of, IsFunctionOf}
+use Rattle.core_programs.specs.Numberings.{AreFunctions}
 
 none_some : {A : Type 0} {x : A} → None ≡ Some x → ⊥
 none_some e = cc
@@ -219,7 +220,8 @@ module _ (m : whole.Machine) (ns : Numbers) (p : Core) (h : AreFunctions m ns p)
       let named = body_found (log_of m.profile g.callee.name) (identity_index m.profile g.callee.name)
       (function_named (functions_of m.program) g.callee.name) (library_of g)
       (whole.prelude_of m (callee_taking g) g.callee.name) f is in
-      let there = h.source g.callee.name f n named e in
+      let there = subst (λ n. IsFunctionOf m ns p f n false) (some_same (ns.source g.callee.name) n e)
+      (h.source g.callee.name f named) in
       record {
         function = f;
         turns = limits.turns;
@@ -236,7 +238,8 @@ module _ (m : whole.Machine) (ns : Numbers) (p : Core) (h : AreFunctions m ns p)
       (prelude_found (log_of m.profile g.callee.name) (identity_index m.profile g.callee.name)
       (function_named (functions_of m.program) g.callee.name) (library_of g)
       (whole.prelude_of m (callee_taking g) g.callee.name) f is) in
-      let there = h.prelude g.callee.name f n named e in
+      let there = subst (λ n. IsFunctionOf m ns p f n true) (some_same (ns.prelude g.callee.name) n e)
+      (h.prelude g.callee.name f named) in
       record {
         function = f;
         turns = limits.texts;

@@ -1,30 +1,34 @@
 -- What the core of a program makes and sets before `main` is called is what the program does.
-use Rattle.std.proofs.Common.{◌≡◌, ℕ, Bool, true, false, cond, not, List, [], ◌∷◌, ◌++◌, map, Option}
+use Rattle.std.proofs.Common.{◌≡◌, ℕ, ℤ, Bool, true, false, cond, not, List, [], ◌∷◌, ◌++◌, map, Option}
 use Rattle.std.proofs.Common.{Some, None, Result, Ok, Err, refl, sym, ap, ◌∙◌}
+use Rattle.plain_data.specs.declared.run.Finish.TheVariants as finish
 use Rattle.c_store.specs.declared.object.ObjectKind.TheVariants as object
-use Rattle.c_store.specs.Store.{start}
+use Rattle.c_store.specs.Store.{Store, start}
 use Rattle.c_language.specs.declared.scope.Linked.{Linked}
 use Rattle.c_language.specs.Scopes.{Name, entry_in, linked_as}
 use Rattle.c_means.specs.declared.kind.Kind.{Kind}
 use Rattle.c_means.specs.declared.kind.Kind.TheVariants as k
-use Rattle.c_means.specs.Parts.{State}
+use Rattle.c_means.specs.Parts.{State, Env}
 use Rattle.c_means.specs.Parts as c
 use Rattle.c_means.specs.Items.{Lasting}
 use Rattle.c_means.specs.Items as runs
 use Rattle.c_means.specs.Programs.{Text, Needs, needs_of}
+use Rattle.c_means.specs.Rules.{identity_index}
 use Rattle.c_means.specs.Runs as whole
 use Rattle.c_means.specs.Statements.{no_env}
 use Rattle.core_tree.specs.declared.program.Core.{Core}
 use Rattle.core_tree.specs.declared.program.LastingObject.{LastingObject}
 use Rattle.core_tree.specs.declared.program.LastingSetting.{LastingSetting}
-use Rattle.core_tree.specs.States.{Output, plain, Done, Arrow, Level, onward, running, where_running}
+use Rattle.core_tree.specs.Callees.{body_call}
+use Rattle.core_tree.specs.States.{Output, plain, Done, Arrow, Level, onward, running, where_running, entered, finished}
 use Rattle.core_tree.specs.Programs.{Machine, machine}
 use Rattle.core_tree.specs.Programs as core
 use Rattle.core_tree.specs.Codes as codes
 use Rattle.elaborate.specs.Means.{as_done, Like}
 use Rattle.core_programs.specs.Programs.{maybe_function, link_objects, text_object, contents_if, object_of}
 use Rattle.core_programs.specs.Programs.{only_if, declared_objects, defined_objects, objects_of}
-use Rattle.core_programs.specs.Programs.{AllSettings, bare_numbering, joined, IsStartOf, machine_for}
+use Rattle.core_programs.specs.Programs.{AllSettings, no_calls, bare_numbering, joined, IsStartOf, machine_for}
+use Rattle.core_programs.specs.Quiet.{IsLast}
 
 -- ---- where a run is running, or not
 
@@ -142,12 +146,13 @@ object_quiet m x d =
     let n = whole.final_size m.program x (entry_in m.program.scope.file x.entry.name) in
     zeroed_quiet x.is_defined place n (whole.object_at object.Static place n d)
 
-either_quiet : (b : Bool) (x y : State) (text : List ℕ) → x.printed ≡ text → y.printed ≡ text → (cond b x y).printed ≡ text
+either_quiet : (b : Bool) (x y : State) (text : List ℕ) → x.printed ≡ text → y.printed ≡ text
+    → (cond b x y).printed ≡ text
 either_quiet true x y text p q = p
 either_quiet false x y text p q = q
 
-objects_quiet : (m : whole.Machine) (b : Bool) (xs : List Lasting) (d : State) → (whole.makes_objects m b xs d).printed ≡
-    d.printed
+objects_quiet : (m : whole.Machine) (b : Bool) (xs : List Lasting) (d : State)
+    → (whole.makes_objects m b xs d).printed ≡ d.printed
 objects_quiet m true [] d = refl
 objects_quiet m false [] d = refl
 objects_quiet m true (x ∷ xs) d =
@@ -166,7 +171,8 @@ makes_same m x d =
     let linked = whole.makes_links m x.links d in
     let with_texts = whole.makes_texts m x.texts linked in
     made_append links (texts ++ (declared_objects m x.lasting ++ defined_objects m x.lasting)) (as_done d)
-    ∙ ap (core.makes_all (texts ++ (declared_objects m x.lasting ++ defined_objects m x.lasting))) (links_made m x.links d)
+    ∙ ap (core.makes_all (texts ++ (declared_objects m x.lasting ++ defined_objects m x.lasting)))
+    (links_made m x.links d)
     ∙ made_append texts (declared_objects m x.lasting ++ defined_objects m x.lasting) (as_done linked)
     ∙ ap (core.makes_all (declared_objects m x.lasting ++ defined_objects m x.lasting)) (texts_made m x.texts linked)
     ∙ made_append (declared_objects m x.lasting) (defined_objects m x.lasting) (as_done with_texts)
@@ -192,7 +198,8 @@ running_first : (a f g h : Arrow Output) (d : Done Output) → ((r : Done Output
     → running (λ d. onward (a d) f) d ≡ onward (running (λ d. onward (a d) g) d) (running h)
 running_first a f g h d same = by (running_or d.kind) where
   by : Result (d.kind ≡ k.Running) (Passes d.kind)
-      → where_running d.kind (onward (a d) f) (Some d) ≡ onward (where_running d.kind (onward (a d) g) (Some d)) (running h)
+      → where_running d.kind (onward (a d) f) (Some d)
+      ≡ onward (where_running d.kind (onward (a d) g) (Some d)) (running h)
   by (Ok e) =
       ap (λ kind. where_running kind (onward (a d) f) (Some d)) e ∙ onward_first (a d) f g (running h) same
       ∙ ap (λ kind. onward (where_running kind (onward (a d) g) (Some d)) (running h)) (sym e)
@@ -243,19 +250,50 @@ core_none d = by (running_or d.kind) where
 none_some : {A : Type 0} {x : A} → None ≡ Some x → ⊥
 none_some e = cc
 
+-- where no call is left, each call is that of function 0
+module _ (place : ℕ → ℕ) (identity : Name → Option ℕ) (l : c.Level) (k : Level Output) (last : IsLast l k)
+    (taken : k.taking ≡ plain)
+  where
+    left : (g : c.Site) (f : ℕ) (env : Env) (vs : List ℤ) (base : ℕ) (s : Store) (o : Output)
+        → body_call k.call k.taking g.at f vs base s o ≡ Some (as_done (l.call g env vs base s o.count))
+    left g f env vs base s o =
+        ap (λ calls. body_call calls k.taking g.at f vs base s o) last.none_left
+        ∙ ap (λ t. Some (finished (finish.Left g.at) (entered t s o))) taken
+        ∙ ap (λ d. Some (as_done d)) (sym (last.leaves g env vs base s o.count))
+
+    pub last_like : k.world ≡ l.world → k.limits ≡ l.limits → k.measures.turns ≡ l.turns → l.static ≡ place
+        → l.identity ≡ identity → Like (no_calls place identity) l k
+    last_like world limits turns placed identified = record {
+      taking = taken;
+      world = world;
+      limits = limits;
+      turns = turns;
+      static_places = placed;
+      identity = identified;
+      bodies = λ g f e. record {
+        size = last.function_size f ∙ sym (last.size g);
+        room = last.function_room f ∙ sym (last.room g);
+        runs = left g f;
+      };
+      rules = λ g r e. absurd (none_some e);
+    }
+
 -- what runs where no function does
+bare_last : (m : whole.Machine) (p : Core) → IsLast (whole.bare m m.limits.turns) (core.bare (machine_for m p))
+bare_last m p = record {
+  size = λ g. refl;
+  room = λ g. refl;
+  leaves = λ g env vs base s n. refl;
+  function_size = λ f. refl;
+  function_room = λ f. refl;
+  none_left = refl;
+}
+
 bare_like : (m : whole.Machine) (p : Core) → Like (bare_numbering m) (whole.bare m m.limits.turns)
     (core.bare (machine_for m p))
-bare_like m p = record {
-  taking = refl;
-  world = refl;
-  limits = refl;
-  turns = refl;
-  static_places = refl;
-  identity = refl;
-  bodies = λ g f e. absurd (none_some e);
-  rules = λ g r e. absurd (none_some e);
-}
+bare_like m p =
+    last_like (whole.places_of m.program) (identity_index m.profile) (whole.bare m m.limits.turns)
+    (core.bare (machine_for m p)) (bare_last m p) refl refl refl refl refl refl
 
 sets_same : (m : whole.Machine) (p : Core) (xss : List (List LastingSetting)) (ys : List Lasting)
     → AllSettings (bare_numbering m) xss ys → (d : State)
@@ -268,7 +306,7 @@ sets_same m p (xs ∷ xss) (y ∷ ys) h d =
     let l = whole.bare m m.limits.turns in
     let b = core.bare (machine_for m p) in
     sets_append xs (joined xss) b (as_done d)
-    ∙ ap (λ o. onward o (running (core.sets_all (joined xss) b))) (h.0.set l b (bare_like m p) d)
+    ∙ ap (λ o. onward o (running (core.sets_all (joined xss) b))) (h.0.set l b (bare_last m p) (bare_like m p) d)
     ∙ sets_same m p xss ys h.1 (runs.running (y.set l) d)
     ∙ ap (λ r. Some (as_done r)) (sym (source_first (y.set l) (whole.sets m ys) d))
 
@@ -282,7 +320,7 @@ sets_quiet m p (xs ∷ xss) (y ∷ ys) h d =
     let l = whole.bare m m.limits.turns in
     ap (λ (r : State). r.printed) (source_first (y.set l) (whole.sets m ys) d)
     ∙ sets_quiet m p xss ys h.1 (runs.running (y.set l) d)
-    ∙ h.0.prints l (core.bare (machine_for m p)) (bare_like m p) d
+    ∙ h.0.prints l (core.bare (machine_for m p)) (bare_last m p) d
 
 -- ---- before `main` is called
 

@@ -1,3 +1,4 @@
 pub mod Programs
 pub mod Numberings
 pub mod Offsets
+pub mod Quiet

@@ -15,10 +15,11 @@ use Rattle.core_tree.specs.States.{Output}
 use Rattle.core_tree.specs.Programs.{body_of}
 use Rattle.elaborate.specs.Means.{Numbering, Ruling, IsBodyOf}
 
--- the numbers of the functions of the source and of those of the prelude, by name
+-- the numbers of the functions of the source and of those of the prelude, by name; that of a name which is no
+-- function's is of no account
 pub record Numbers : Type 0 where
-  pub source : Name → Option ℕ
-  pub prelude : Name → Option ℕ
+  pub source : Name → ℕ
+  pub prelude : Name → ℕ
 
 -- a program in a world and bounds
 abbrev pub placed : whole.Machine → c.World → c.Limits → ℕ → whole.Machine
@@ -53,9 +54,9 @@ ruling_by m f g OutsideCall = Some (record {
 abbrev pub number_by : Numbers → Name → Rules Function → Option ℕ
 number_by ns name (LogCall text) = None
 number_by ns name (IdentityCall i) = None
-number_by ns name (BodyCall h) = ns.source name
+number_by ns name (BodyCall h) = Some (ns.source name)
 number_by ns name (LibraryCall x) = None
-number_by ns name (PreludeCall h) = ns.prelude name
+number_by ns name (PreludeCall h) = Some (ns.prelude name)
 number_by ns name OutsideCall = None
 
 -- what the calls in a function are
@@ -78,9 +79,9 @@ pub record IsFunctionOf (m : whole.Machine) (ns : Numbers) (p : Core) (f : Funct
     pub item : runs.Item
     pub is_body : IsBodyOf (numbering_of m ns f) (body_of {O = Output} function) f item
 
--- each function that has a number has its core there
+-- each function has its core at its number
 pub record AreFunctions (m : whole.Machine) (ns : Numbers) (p : Core) : Type 0 where
-  pub source : (name : Name) (f : Function) (n : ℕ) → function_named (functions_of m.program) name ≡ Some f
-      → ns.source name ≡ Some n → IsFunctionOf m ns p f n false
-  pub prelude : (name : Name) (f : Function) (n : ℕ) → function_named m.prelude name ≡ Some f
-      → ns.prelude name ≡ Some n → IsFunctionOf m ns p f n true
+  pub source : (name : Name) (f : Function) → function_named (functions_of m.program) name ≡ Some f
+      → IsFunctionOf m ns p f (ns.source name) false
+  pub prelude : (name : Name) (f : Function) → function_named m.prelude name ≡ Some f
+      → IsFunctionOf m ns p f (ns.prelude name) true

@@ -20,6 +20,7 @@ use Rattle.core_tree.specs.States.{Output, plain, Level, running}
 use Rattle.core_tree.specs.Programs.{Body, Machine, machine, turns_in}
 use Rattle.core_tree.specs.Programs as core
 use Rattle.elaborate.specs.Means.{as_done, Numbering, Like, IsBodyOf, IsMachineOf}
+use Rattle.core_programs.specs.Quiet.{IsLast}
 
 -- ---- what is made before `main` is called, in order
 
@@ -83,15 +84,19 @@ met_by m x =
 
 -- ---- initializers
 
--- where no function runs, nothing is called
+-- where no function runs, a call is one too many, whatever function it calls
 abbrev pub no_calls : (ℕ → ℕ) → (Name → Option ℕ) → Numbering
-no_calls place identity = record { place = place; identity = identity; body = λ g. None; rule = λ g. None }
+no_calls place identity = record { place = place; identity = identity; body = λ g. Some 0; rule = λ g. None }
 
--- what these set is what the initializer of an object does, which prints nothing
+-- in a function that calls none
+abbrev pub without_calls : (ℕ → ℕ) → (Name → Option ℕ) → Numbering
+without_calls place identity = record { place = place; identity = identity; body = λ g. None; rule = λ g. None }
+
+-- what these set where no function runs is what the initializer of an object does, which prints nothing
 pub record AreSettings (numbering : Numbering) (xs : List LastingSetting) (x : Lasting) : Type 0 where
-  pub set : (l : c.Level) (k : Level Output) → Like numbering l k → (d : State)
+  pub set : (l : c.Level) (k : Level Output) → IsLast l k → Like numbering l k → (d : State)
       → running (core.sets_all xs k) (as_done d) ≡ Some (as_done (runs.running (x.set l) d))
-  pub prints : (l : c.Level) (k : Level Output) → Like numbering l k → (d : State)
+  pub prints : (l : c.Level) (k : Level Output) → IsLast l k → (d : State)
       → (runs.running (x.set l) d).printed ≡ d.printed
 
 abbrev pub AllSettings : Numbering → List (List LastingSetting) → List Lasting → Type 0
@@ -123,7 +128,8 @@ HasArguments false (e ∷ f ∷ []) = ⊥
 HasArguments false _ = Unit {0}
 
 -- its number is that of the core of its body
-pub record IsMainOf (numbering : Function → Numbering) (m : whole.Machine) (p : Core) (k : Machine Output) : Type 0 where
+pub record IsMainOf (numbering : Function → Numbering) (m : whole.Machine) (p : Core) (k : Machine Output) :
+    Type 0 where
   pub function : Function
   pub is_main : whole.main_of m ≡ Some function
   pub body : Body Output

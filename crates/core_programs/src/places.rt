@@ -46,8 +46,8 @@ impl PlaceTable {
         Ok(PlaceTable { offsets })
     }
 
-    /// The place of an offset: how many offsets stand before it, and one. It takes no memory, and time in the logarithm of
-    /// their number.
+    /// The place of an offset: how many offsets stand before it, and one. It takes no memory, and time in the
+    /// logarithm of their number.
     pub fn place(&self, at: u32) -> u64
         ensures { result ≡ place_in self.now at }
     {

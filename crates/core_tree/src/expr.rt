@@ -59,7 +59,7 @@ pub enum Callee {
     /// all arguments (of another argument any), and the variables that are shown, in order.
     Log {
         pieces: Pieces,
-        before: u32,
+        before: u64,
         types: Items<WordType>,
         watched: Items<Watched>,
     },

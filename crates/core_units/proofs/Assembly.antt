@@ -1,5 +1,7 @@
 -- The parts together are the core of the source.
-use Rattle.std.proofs.Common.{◌≡◌, ℕ, Bool, true, false, List, [], ◌∷◌, ◌++◌, length, Option, Some, refl, sym, ap, ◌∙◌, subst}
+use Rattle.std.proofs.Common.{◌≡◌, ℕ, suc, ◌+◌, Bool, true, false, List, [], ◌∷◌, ◌++◌, length, Option, Some, refl, sym}
+use Rattle.std.proofs.Common.{ap, ap₂, ◌∙◌, subst}
+use Rattle.std.proofs.lemmas.List.{append_assoc, length-append}
 use Rattle.std.specs.Prelude.{slice_get, cond}
 use Rattle.c_language.specs.declared.unit.External.{External}
 use Rattle.c_language.specs.Scopes.{Name}
@@ -15,11 +17,11 @@ use Rattle.core_tree.specs.Programs.{maybe_body, body_of}
 use Rattle.core_programs.specs.Numberings.{IsFunctionOf, AreFunctions, numbering_of}
 use Rattle.core_programs.specs.Programs.{IsCoreOf, IsStartOf, IsMainOf, machine_for}
 use Rattle.core_programs.proofs.Machines.{is_machine}
-use Rattle.core_units.specs.Numbers.{reached_among, position_from}
+use Rattle.core_units.specs.Numbers.{reached_among, number_from, position_from, first_other}
 use Rattle.core_units.specs.Plans.{program_in, reached_in, numbers_in}
 use Rattle.core_units.specs.Units.{IsUnitCore, IsAssembled}
 use Rattle.core_units.specs.Walked.{IsCoreFunction}
-use Rattle.core_units.proofs.NumberLaws.{Stands, reached_stands, position_stands, same_length, with_more}
+use Rattle.core_units.proofs.NumberLaws.{Stands, source_stands, position_stands, same_length}
 
 module _ (xs : List External) (profile : Profile) (p : Core) (h : IsAssembled xs profile p) where
   abbrev m : whole.Machine
@@ -27,7 +29,7 @@ module _ (xs : List External) (profile : Profile) (p : Core) (h : IsAssembled xs
 
   -- where a function stands is its core
   function_at : (is_prelude : Bool) (f : Function) (n : ℕ)
-      → Stands (IsCoreFunction m (numbers_in xs profile) is_prelude) f (h.all.sources ++ h.all.library) n
+      → Stands (IsCoreFunction m (numbers_in xs profile) is_prelude) f (h.all.sources ++ (h.all.library ++ h.all.others)) n
       → IsFunctionOf m (numbers_in xs profile) p f n is_prelude
   function_at is_prelude f n x = record {
     function = x.core;
@@ -37,28 +39,46 @@ module _ (xs : List External) (profile : Profile) (p : Core) (h : IsAssembled xs
     is_body = x.is.is_body;
   }
 
-  of_source : (name : Name) (f : Function) (n : ℕ) → function_named (functions_of m.program) name ≡ Some f
-      → (numbers_in xs profile).source name ≡ Some n → IsFunctionOf m (numbers_in xs profile) p f n false
-  of_source name f n named numbered =
-      function_at false f n (with_more (IsCoreFunction m (numbers_in xs profile) false) f h.all.sources h.all.library n
-      (reached_stands (IsCoreFunction m (numbers_in xs profile) false) (reached_in xs profile) (functions_of m.program)
-      name [] h.all.sources f n h.all.walk.cores named numbered))
+  -- how many stand in front of the prelude, and in front of the others
+  in_front : length (reached_among (reached_in xs profile) (functions_of m.program)) ≡ length h.all.sources
+  in_front = same_length (IsCoreFunction m (numbers_in xs profile) false)
+      (reached_among (reached_in xs profile) (functions_of m.program)) h.all.sources h.all.walk.cores
 
-  of_prelude : (name : Name) (f : Function) (n : ℕ) → function_named prelude_functions name ≡ Some f
-      → (numbers_in xs profile).prelude name ≡ Some n → IsFunctionOf m (numbers_in xs profile) p f n true
-  of_prelude name f n named numbered =
-      function_at true f n (position_stands (IsCoreFunction m (numbers_in xs profile) true) prelude_functions name
-      h.all.sources h.all.library f n h.all.prelude named
-      (subst (λ k. position_from k prelude_functions name ≡ Some n)
-      (same_length (IsCoreFunction m (numbers_in xs profile) false)
-      (reached_among (reached_in xs profile) (functions_of m.program)) h.all.sources h.all.walk.cores) numbered))
+  in_front_of_others : first_other (reached_in xs profile) (functions_of m.program) prelude_functions
+      ≡ length (h.all.sources ++ h.all.library)
+  in_front_of_others =
+      ap₂ (λ a b. a + b) in_front
+      (same_length (IsCoreFunction m (numbers_in xs profile) true) prelude_functions h.all.library h.all.prelude)
+      ∙ sym (length-append h.all.sources h.all.library)
+
+  of_source : (name : Name) (f : Function) → function_named (functions_of m.program) name ≡ Some f
+      → IsFunctionOf m (numbers_in xs profile) p f ((numbers_in xs profile).source name) false
+  of_source name f named =
+      function_at false f ((numbers_in xs profile).source name)
+      (subst (λ k. Stands (IsCoreFunction m (numbers_in xs profile) false) f
+      (h.all.sources ++ (h.all.library ++ h.all.others))
+      (number_from (reached_in xs profile) 0 k (functions_of m.program) name)) (sym in_front_of_others)
+      (source_stands (IsCoreFunction m (numbers_in xs profile) false) (reached_in xs profile) (functions_of m.program)
+      name (h.all.sources ++ (h.all.library ++ h.all.others)) [] h.all.sources (h.all.library ++ h.all.others)
+      (h.all.sources ++ h.all.library) h.all.others f h.all.walk.cores h.all.walk.rest refl
+      (append_assoc h.all.sources h.all.library h.all.others) named))
+
+  of_prelude : (name : Name) (f : Function) → function_named prelude_functions name ≡ Some f
+      → IsFunctionOf m (numbers_in xs profile) p f ((numbers_in xs profile).prelude name) true
+  of_prelude name f named =
+      function_at true f ((numbers_in xs profile).prelude name)
+      (subst (λ k. Stands (IsCoreFunction m (numbers_in xs profile) true) f
+      (h.all.sources ++ (h.all.library ++ h.all.others)) (position_from k prelude_functions name)) (sym in_front)
+      (position_stands (IsCoreFunction m (numbers_in xs profile) true) prelude_functions name
+      (h.all.sources ++ (h.all.library ++ h.all.others)) h.all.sources h.all.library h.all.others f h.all.prelude refl named))
 
   pub are_functions : AreFunctions m (numbers_in xs profile) p
   are_functions = record { source = of_source; prelude = of_prelude }
 
   -- `main`
   main_at : IsFunctionOf m (numbers_in xs profile) p h.function p.main false
-  main_at = of_source main' h.function p.main h.is_main h.number
+  main_at =
+      subst (λ n. IsFunctionOf m (numbers_in xs profile) p h.function n false) h.number (of_source main' h.function h.is_main)
 
   pub is_unit_core : IsUnitCore xs profile p
   is_unit_core world limits depth = record {

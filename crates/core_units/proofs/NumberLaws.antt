@@ -1,12 +1,12 @@
 -- The core of a function stands where its number says.
 use Rattle.std.proofs.Common.{◌≡◌, ℕ, zero, suc, ◌+◌, Bool, true, false, cond, List, [], ◌∷◌, ◌++◌, length, Option, Some, None}
 use Rattle.std.proofs.Common.{refl, sym, ap, ◌∙◌, subst, arith}
-use Rattle.std.specs.Prelude.{slice_get}
+use Rattle.std.specs.Prelude.{slice_get, not}
 use Rattle.std.specs.Str.{bytes_eq}
 use Rattle.c_language.specs.Scopes.{Name}
 use Rattle.c_means.specs.Programs.{Function, function_named, has_function}
 use Rattle.core_tree.specs.declared.program.Function.{Function as CoreFunction}
-use Rattle.core_units.specs.Numbers.{reached_among, number_if, next_number, number_from, position_from}
+use Rattle.core_units.specs.Numbers.{reached_among, others_among, next_number, number_from, position_from}
 use Rattle.core_units.specs.Walked.{AllAre}
 
 -- what is related to a function stands at a number
@@ -43,58 +43,66 @@ module _ (R : Function → CoreFunction → Type 0) where
     is = subst (λ h. R h c) same r;
   }
 
-  -- a claim on all behind those that stand in front, moved on by one
-  moved : (f g : Function) (c : CoreFunction) (pre cs : List CoreFunction) (k : ℕ)
-      → Stands R g ((pre ++ c ∷ []) ++ cs) k → Stands R g (pre ++ c ∷ cs) k
-  moved f g c pre cs k h = subst (λ xs. Stands R g xs k) (append_one pre cs c) h
+  -- the functions of the source, of which those that are reached stand in one row and the others in another
+  abbrev Stand : List Function → List Function → Name → Type 0
+  Stand found fs name =
+      (all pre cs rest qre ds : List CoreFunction) (g : Function) → AllAre R (reached_among found fs) cs
+      → AllAre R (others_among found fs) ds → pre ++ (cs ++ rest) ≡ all → qre ++ ds ≡ all
+      → function_named fs name ≡ Some g → Stands R g all (number_from found (length pre) (length qre) fs name)
 
-  abbrev Reached : List Function → List Function → Name → Type 0
-  Reached found fs name =
-      (pre cs : List CoreFunction) (g : Function) (k : ℕ) → AllAre R (reached_among found fs) cs
-      → function_named fs name ≡ Some g → number_from found (length pre) fs name ≡ Some k → Stands R g (pre ++ cs) k
+  one_on : (all pre cs : List CoreFunction) (c : CoreFunction) → pre ++ c ∷ cs ≡ all → (pre ++ c ∷ []) ++ cs ≡ all
+  one_on all pre cs c is = append_one pre cs c ∙ is
 
-  reached_step : (found fs : List Function) (f : Function) (name : Name) → Reached found fs name
-      → (eq is : Bool) (pre cs : List CoreFunction) (g : Function) (k : ℕ)
+  stand_step : (found fs : List Function) (f : Function) (name : Name) → Stand found fs name → (eq is : Bool)
+      (all pre cs rest qre ds : List CoreFunction) (g : Function)
       → AllAre R (cond is (f ∷ reached_among found fs) (reached_among found fs)) cs
-      → cond eq (Some f) (function_named fs name) ≡ Some g
-      → cond eq (number_if is (length pre)) (number_from found (next_number is (length pre)) fs name) ≡ Some k
-      → Stands R g (pre ++ cs) k
-  reached_step found fs f name ih true true pre [] g k h named numbered = absurd h
-  reached_step found fs f name ih true true pre (c ∷ cs) g k h named numbered =
-      here f c pre cs g k h.0 (some_same f g named) (some_same (length pre) k numbered)
-  reached_step found fs f name ih true false pre cs g k h named numbered = absurd (none_some numbered)
-  reached_step found fs f name ih false true pre [] g k h named numbered = absurd h
-  reached_step found fs f name ih false true pre (c ∷ cs) g k h named numbered =
-      moved f g c pre cs k (ih (pre ++ c ∷ []) cs g k h.1 named
-      (subst (λ n. number_from found n fs name ≡ Some k) (sym (length_one pre c)) numbered))
-  reached_step found fs f name ih false false pre cs g k h named numbered = ih pre cs g k h named numbered
+      → AllAre R (cond is (others_among found fs) (f ∷ others_among found fs)) ds
+      → pre ++ (cs ++ rest) ≡ all → qre ++ ds ≡ all → cond eq (Some f) (function_named fs name) ≡ Some g
+      → Stands R g all (cond eq (cond is (length pre) (length qre))
+      (number_from found (next_number is (length pre)) (next_number (not is) (length qre)) fs name))
+  stand_step found fs f name ih true true all pre [] rest qre ds g h i p q named = absurd h
+  stand_step found fs f name ih true true all pre (c ∷ cs) rest qre ds g h i p q named =
+      subst (λ xs. Stands R g xs (length pre)) p
+      (here f c pre (cs ++ rest) g (length pre) h.0 (some_same f g named) refl)
+  stand_step found fs f name ih true false all pre cs rest qre [] g h i p q named = absurd i
+  stand_step found fs f name ih true false all pre cs rest qre (d ∷ ds) g h i p q named =
+      subst (λ xs. Stands R g xs (length qre)) q (here f d qre ds g (length qre) i.0 (some_same f g named) refl)
+  stand_step found fs f name ih false true all pre [] rest qre ds g h i p q named = absurd h
+  stand_step found fs f name ih false true all pre (c ∷ cs) rest qre ds g h i p q named =
+      subst (λ n. Stands R g all (number_from found n (length qre) fs name)) (length_one pre c)
+      (ih all (pre ++ c ∷ []) cs rest qre ds g h.1 i (one_on all pre (cs ++ rest) c p) q named)
+  stand_step found fs f name ih false false all pre cs rest qre [] g h i p q named = absurd i
+  stand_step found fs f name ih false false all pre cs rest qre (d ∷ ds) g h i p q named =
+      subst (λ n. Stands R g all (number_from found (length pre) n fs name)) (length_one qre d)
+      (ih all pre cs rest (qre ++ d ∷ []) ds g h i.1 p (one_on all qre ds d q) named)
 
-  pub reached_stands : (found fs : List Function) (name : Name) → Reached found fs name
-  reached_stands found [] name pre cs g k h named numbered = absurd (none_some named)
-  reached_stands found (f ∷ fs) name pre cs g k h named numbered =
-      reached_step found fs f name (reached_stands found fs name) (bytes_eq f.name name) (has_function f found) pre cs g k
-      h named numbered
+  pub source_stands : (found fs : List Function) (name : Name) → Stand found fs name
+  source_stands found [] name all pre cs rest qre ds g h i p q named = absurd (none_some named)
+  source_stands found (f ∷ fs) name all pre cs rest qre ds g h i p q named =
+      stand_step found fs f name (source_stands found fs name) (bytes_eq f.name name) (has_function f found) all pre cs rest
+      qre ds g h i p q named
 
-  -- behind those of the source stand those of the prelude
+  -- behind those of the source that are reached stand those of the prelude
   position_step : (fs : List Function) (f : Function) (name : Name)
-      → ((pre cs : List CoreFunction) (g : Function) (k : ℕ) → AllAre R fs cs → function_named fs name ≡ Some g
-      → position_from (length pre) fs name ≡ Some k → Stands R g (pre ++ cs) k)
-      → (eq : Bool) (pre cs : List CoreFunction) (g : Function) (k : ℕ) → AllAre R (f ∷ fs) cs
-      → cond eq (Some f) (function_named fs name) ≡ Some g
-      → cond eq (Some (length pre)) (position_from (suc (length pre)) fs name) ≡ Some k → Stands R g (pre ++ cs) k
-  position_step fs f name ih eq pre [] g k h named numbered = absurd h
-  position_step fs f name ih true pre (c ∷ cs) g k h named numbered =
-      here f c pre cs g k h.0 (some_same f g named) (some_same (length pre) k numbered)
-  position_step fs f name ih false pre (c ∷ cs) g k h named numbered =
-      moved f g c pre cs k (ih (pre ++ c ∷ []) cs g k h.1 named
-      (subst (λ n. position_from n fs name ≡ Some k) (sym (length_one pre c)) numbered))
+      → ((all pre cs rest : List CoreFunction) (g : Function) → AllAre R fs cs → pre ++ (cs ++ rest) ≡ all
+      → function_named fs name ≡ Some g → Stands R g all (position_from (length pre) fs name))
+      → (eq : Bool) (all pre cs rest : List CoreFunction) (g : Function) → AllAre R (f ∷ fs) cs
+      → pre ++ (cs ++ rest) ≡ all → cond eq (Some f) (function_named fs name) ≡ Some g
+      → Stands R g all (cond eq (length pre) (position_from (suc (length pre)) fs name))
+  position_step fs f name ih eq all pre [] rest g h p named = absurd h
+  position_step fs f name ih true all pre (c ∷ cs) rest g h p named =
+      subst (λ xs. Stands R g xs (length pre)) p
+      (here f c pre (cs ++ rest) g (length pre) h.0 (some_same f g named) refl)
+  position_step fs f name ih false all pre (c ∷ cs) rest g h p named =
+      subst (λ n. Stands R g all (position_from n fs name)) (length_one pre c)
+      (ih all (pre ++ c ∷ []) cs rest g h.1 (one_on all pre (cs ++ rest) c p) named)
 
-  pub position_stands : (fs : List Function) (name : Name) (pre cs : List CoreFunction) (g : Function) (k : ℕ)
-      → AllAre R fs cs → function_named fs name ≡ Some g → position_from (length pre) fs name ≡ Some k
-      → Stands R g (pre ++ cs) k
-  position_stands [] name pre cs g k h named numbered = absurd (none_some named)
-  position_stands (f ∷ fs) name pre cs g k h named numbered =
-      position_step fs f name (position_stands fs name) (bytes_eq f.name name) pre cs g k h named numbered
+  pub position_stands : (fs : List Function) (name : Name) (all pre cs rest : List CoreFunction) (g : Function)
+      → AllAre R fs cs → pre ++ (cs ++ rest) ≡ all → function_named fs name ≡ Some g
+      → Stands R g all (position_from (length pre) fs name)
+  position_stands [] name all pre cs rest g h p named = absurd (none_some named)
+  position_stands (f ∷ fs) name all pre cs rest g h p named =
+      position_step fs f name (position_stands fs name) (bytes_eq f.name name) all pre cs rest g h p named
 
   -- as many functions as cores
   pub same_length : (fs : List Function) (cs : List CoreFunction) → AllAre R fs cs → length fs ≡ length cs
@@ -102,12 +110,3 @@ module _ (R : Function → CoreFunction → Type 0) where
   same_length [] (c ∷ cs) h = absurd h
   same_length (f ∷ fs) [] h = absurd h
   same_length (f ∷ fs) (c ∷ cs) h = ap suc (same_length fs cs h.1)
-
-  -- some that stand behind others leave these where they are
-  in_front : (xs ys : List CoreFunction) (k : ℕ) (c : CoreFunction) → slice_get xs k ≡ Some c → slice_get (xs ++ ys) k ≡ Some c
-  in_front [] ys k c h = absurd (none_some h)
-  in_front (x ∷ xs) ys zero c h = h
-  in_front (x ∷ xs) ys (suc k) c h = in_front xs ys k c h
-
-  pub with_more : (f : Function) (xs ys : List CoreFunction) (k : ℕ) → Stands R f xs k → Stands R f (xs ++ ys) k
-  with_more f xs ys k h = record { core = h.core; found = in_front xs ys k h.core h.found; is = h.is }

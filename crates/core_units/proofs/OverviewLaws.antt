@@ -2,7 +2,7 @@
 use Rattle.std.proofs.Common.{◌≡◌, ℕ, suc, ◌+◌, Bool, true, false, cond, ◌||◌, nat_eq, List, [], ◌∷◌, ◌++◌, map, length}
 use Rattle.std.proofs.Common.{Option, Some, None, refl, sym, ap, ap₂, ◌∙◌, subst, arith}
 use Rattle.std.proofs.lemmas.Bool.Decides.{nat_tests}
-use Rattle.std.specs.Prelude.{option_map}
+use Rattle.std.specs.Prelude.{option_map, not}
 use Rattle.std.specs.Str.{bytes_eq}
 use Rattle.c_language.specs.declared.scope.Entry.{Entry}
 use Rattle.c_language.specs.Scopes.{Name, Scope}
@@ -21,9 +21,9 @@ use Rattle.c_program_notes.specs.Watched as noted
 use Rattle.c_program_notes.specs.Wholes.{overview_of}
 use Rattle.core_programs.specs.Programs.{HasArguments}
 use Rattle.core_units.specs.declared.plan.Plan.{Plan}
-use Rattle.core_units.specs.Numbers.{reached_among, number_if, next_number}
+use Rattle.core_units.specs.Numbers.{reached_among, next_number}
 use Rattle.core_units.specs.Overviews as spec
-use Rattle.core_units.specs.Plans.{plan_of, watched_if}
+use Rattle.core_units.specs.Plans.{plan_of, watched_if, reached_if}
 use Rattle.core_units.specs.Surroundings.{numbered_from}
 
 -- the variables that a function names
@@ -47,16 +47,19 @@ module _ (j : Judged) (p : Program) where
   abbrev found : List Function
   found = reached j.profile p
 
-  watched_same : (f : Option Function) → spec.watched_noted over (option_map (function_notes j) f) ≡ watched_if p found f
+  pub watched_same : (f : Option Function) → spec.watched_noted over (option_map (function_notes j) f) ≡ watched_if p f
   watched_same None = refl
-  watched_same (Some f) =
-      ap₂ (λ b es. cond b (Some es) None) (has_same j f found) (watched_are j p.scope f)
+  watched_same (Some f) = ap (λ es. Some es) (watched_are j p.scope f)
+
+  reached_same : (f : Option Function) → spec.reached_noted over (option_map (function_notes j) f) ≡ reached_if found f
+  reached_same None = refl
+  reached_same (Some f) = has_same j f found
 
   plan_same : (o : Outer) → spec.plan_noted over (outer_notes j o)
       ≡ plan_of p (needed_words j.profile p) found o
   plan_same o =
-      ap (λ w. record { is_needed = is_needed (needed_words j.profile p) o; watched = w })
-      (watched_same o.function)
+      ap₂ (λ w r. record { is_needed = is_needed (needed_words j.profile p) o; is_reached = r; watched = w })
+      (watched_same o.function) (reached_same o.function)
 
   pub plans_same : (os : List Outer) → map (spec.plan_noted over) (map (outer_notes j) os)
       ≡ map (plan_of p (needed_words j.profile p) found) os
@@ -69,21 +72,23 @@ module _ (j : Judged) (found : List Function) where
   abbrev notes : List FunctionNotes
   notes = map (function_notes j) found
 
-  one_number : (n : ℕ) (o : Option Function) (os : List Outer)
-      → ((n : ℕ) → spec.numbers_noted notes n (map (outer_notes j) os) ≡ numbered_from found n (functions_in os))
-      → spec.numbers_if notes n (option_map (function_notes j) o)
-      ++ spec.numbers_noted notes (spec.number_behind notes n (option_map (function_notes j) o)) (map (outer_notes j) os)
-      ≡ numbered_from found n (function_if o (functions_in os))
-  one_number n None os ih = ih n
-  one_number n (Some f) os ih =
-      ap₂ (λ b xs. record { name = f.name; number = number_if b n } ∷ xs) (has_same j f found)
-      (ap (λ b. spec.numbers_noted notes (next_number b n) (map (outer_notes j) os)) (has_same j f found)
-      ∙ ih (next_number (has_function f found) n))
+  one_number : (n m : ℕ) (o : Option Function) (os : List Outer)
+      → ((n m : ℕ) → spec.numbers_noted notes n m (map (outer_notes j) os) ≡ numbered_from found n m (functions_in os))
+      → spec.numbers_if notes n m (option_map (function_notes j) o)
+      ++ spec.numbers_noted notes (spec.number_behind notes n (option_map (function_notes j) o))
+      (spec.other_behind notes m (option_map (function_notes j) o)) (map (outer_notes j) os)
+      ≡ numbered_from found n m (function_if o (functions_in os))
+  one_number n m None os ih = ih n m
+  one_number n m (Some f) os ih =
+      ap₂ (λ b xs. record { name = f.name; number = cond b n m } ∷ xs) (has_same j f found)
+      (ap (λ b. spec.numbers_noted notes (next_number b n) (next_number (not b) m) (map (outer_notes j) os))
+      (has_same j f found)
+      ∙ ih (next_number (has_function f found) n) (next_number (not (has_function f found)) m))
 
-  pub numbers_same : (os : List Outer) (n : ℕ)
-      → spec.numbers_noted notes n (map (outer_notes j) os) ≡ numbered_from found n (functions_in os)
-  numbers_same [] n = refl
-  numbers_same (o ∷ os) n = one_number n o.function os (numbers_same os)
+  pub numbers_same : (os : List Outer) (n m : ℕ)
+      → spec.numbers_noted notes n m (map (outer_notes j) os) ≡ numbered_from found n m (functions_in os)
+  numbers_same [] n m = refl
+  numbers_same (o ∷ os) n m = one_number n m o.function os (numbers_same os)
 
   counted : (b : Bool) (f : Function) (n : ℕ) (rest : List Function)
       → next_number b n + length rest ≡ n + length (cond b (f ∷ rest) rest)

@@ -10,7 +10,7 @@ use Rattle.core_tree.specs.declared.program.Function.{Function as CoreFunction}
 use Rattle.core_tree.specs.declared.program.LastingSetting.{LastingSetting}
 use Rattle.core_programs.specs.Numberings.{Numbers}
 use Rattle.core_programs.specs.Programs.{AllSettings, AreSettings, bare_numbering, joined}
-use Rattle.core_units.specs.Numbers.{reached_among}
+use Rattle.core_units.specs.Numbers.{reached_among, others_among}
 use Rattle.core_units.specs.Walked.{AllAre, AreSet, IsCoreFunction, IsWalkOf}
 
 append_none : {A : Type 0} (xs : List A) → xs ++ [] ≡ xs
@@ -21,7 +21,7 @@ append_assoc : {A : Type 0} (xs ys zs : List A) → (xs ++ ys) ++ zs ≡ xs ++ (
 append_assoc [] ys zs = refl
 append_assoc (x ∷ xs) ys zs = ap (λ ys. x ∷ ys) (append_assoc xs ys zs)
 
-all_append : {A B : Type 0} (R : A → B → Type 0) (xs ys : List A) (us bs : List B) → AllAre R xs us → AllAre R ys bs
+pub all_append : {A B : Type 0} (R : A → B → Type 0) (xs ys : List A) (us bs : List B) → AllAre R xs us → AllAre R ys bs
     → AllAre R (xs ++ ys) (us ++ bs)
 all_append R [] ys [] bs h i = i
 all_append R [] ys (a ∷ us) bs h i = absurd h
@@ -68,6 +68,17 @@ reached_append found (f ∷ fs) gs =
     reached_if (has_function f found) f (reached_among found fs) (reached_among found gs) (reached_among found (fs ++ gs))
     (reached_append found fs gs)
 
+others_if : (b : Bool) (f : Function) (fs gs all : List Function) → all ≡ fs ++ gs
+    → cond b all (f ∷ all) ≡ cond b fs (f ∷ fs) ++ gs
+others_if true f fs gs all is = is
+others_if false f fs gs all is = ap (λ xs. f ∷ xs) is
+
+others_append : (found fs gs : List Function) → others_among found (fs ++ gs) ≡ others_among found fs ++ others_among found gs
+others_append found [] gs = refl
+others_append found (f ∷ fs) gs =
+    others_if (has_function f found) f (others_among found fs) (others_among found gs) (others_among found (fs ++ gs))
+    (others_append found fs gs)
+
 functions_if_append : (o : Option Function) (fs gs : List Function) → function_if o fs ++ gs ≡ function_if o (fs ++ gs)
 functions_if_append None fs gs = refl
 functions_if_append (Some f) fs gs = refl
@@ -90,17 +101,21 @@ lasting_append ws found (x ∷ xs) ys =
     ∙ sym (append_assoc d (f ++ a) b)
 
 module _ (m : whole.Machine) (ns : Numbers) (ws : List Word) (found : List Function) where
-  pub walk_none : IsWalkOf m ns ws found [] [] []
-  walk_none = record { cores = tt; set = set_none m }
+  pub walk_none : IsWalkOf m ns ws found [] [] [] []
+  walk_none = record { cores = tt; rest = tt; set = set_none m }
 
-  pub walk_append : (xs ys : List Outer) (fs gs : List CoreFunction) (ss ts : List LastingSetting)
-      → IsWalkOf m ns ws found xs fs ss → IsWalkOf m ns ws found ys gs ts
-      → IsWalkOf m ns ws found (xs ++ ys) (fs ++ gs) (ss ++ ts)
-  walk_append xs ys fs gs ss ts h i = record {
-    cores = subst (λ hs. AllAre (IsCoreFunction m ns false) hs (fs ++ gs))
+  pub walk_append : (xs ys : List Outer) (fs gs hs is : List CoreFunction) (ss ts : List LastingSetting)
+      → IsWalkOf m ns ws found xs fs hs ss → IsWalkOf m ns ws found ys gs is ts
+      → IsWalkOf m ns ws found (xs ++ ys) (fs ++ gs) (hs ++ is) (ss ++ ts)
+  walk_append xs ys fs gs hs is ss ts h i = record {
+    cores = subst (λ us. AllAre (IsCoreFunction m ns false) us (fs ++ gs))
         (sym (ap (reached_among found) (functions_append xs ys) ∙ reached_append found (functions_in xs) (functions_in ys)))
         (all_append (IsCoreFunction m ns false) (reached_among found (functions_in xs))
         (reached_among found (functions_in ys)) fs gs h.cores i.cores);
+    rest = subst (λ us. AllAre (IsCoreFunction m ns false) us (hs ++ is))
+        (sym (ap (others_among found) (functions_append xs ys) ∙ others_append found (functions_in xs) (functions_in ys)))
+        (all_append (IsCoreFunction m ns false) (others_among found (functions_in xs))
+        (others_among found (functions_in ys)) hs is h.rest i.rest);
     set = subst (λ ls. AreSet m (ss ++ ts) ls) (sym (lasting_append ws found xs ys))
         (set_append m ss ts (all_needs ws found xs).lasting (all_needs ws found ys).lasting h.set i.set);
   }

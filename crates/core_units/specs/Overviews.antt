@@ -1,5 +1,5 @@
 -- The plans and the numbers of functions, over what was noted of the source.
-use Rattle.std.specs.Prelude.{ℕ, Bool, false, cond, nat_eq, List, [], ◌∷◌, ◌++◌, Option, Some, None}
+use Rattle.std.specs.Prelude.{ℕ, Bool, false, not, cond, nat_eq, List, [], ◌∷◌, ◌++◌, Option, Some, None}
 use Rattle.std.specs.Str.{bytes_eq}
 use Rattle.c_language.specs.declared.scope.Entry.{Entry}
 use Rattle.c_means.specs.Programs.{declares_some, main'}
@@ -10,36 +10,47 @@ use Rattle.c_program_notes.specs.declared.whole.Overview.{Overview}
 use Rattle.c_program_notes.specs.Watched.{watched_lasting}
 use Rattle.core_callees.specs.declared.numbered.FunctionNumber.{FunctionNumber}
 use Rattle.core_units.specs.declared.plan.Plan.{Plan}
-use Rattle.core_units.specs.Numbers.{number_if, next_number}
+use Rattle.core_units.specs.Numbers.{next_number}
 
 abbrev pub watched_noted : Overview → Option FunctionNotes → Option (List Entry)
 watched_noted x None = None
-watched_noted x (Some f) = cond (has_at f.at x.reached) (Some (watched_lasting x.program.scope f)) None
+watched_noted x (Some f) = Some (watched_lasting x.program.scope f)
+
+abbrev pub reached_noted : Overview → Option FunctionNotes → Bool
+reached_noted x None = false
+reached_noted x (Some f) = has_at f.at x.reached
 
 abbrev pub plan_noted : Overview → OuterNotes → Plan
 plan_noted x o = record {
   is_needed = declares_some o.names.declares x.words;
+  is_reached = reached_noted x o.function;
   watched = watched_noted x o.function;
 }
 
 -- ---- numbers
 
-abbrev pub number_noted : List FunctionNotes → ℕ → FunctionNotes → FunctionNumber
-number_noted found n f = record { name = f.name; number = number_if (has_at f.at found) n }
+abbrev pub number_noted : List FunctionNotes → ℕ → ℕ → FunctionNotes → FunctionNumber
+number_noted found n m f = record { name = f.name; number = cond (has_at f.at found) n m }
 
-abbrev pub numbers_if : List FunctionNotes → ℕ → Option FunctionNotes → List FunctionNumber
-numbers_if found n None = []
-numbers_if found n (Some f) = number_noted found n f ∷ []
+abbrev pub numbers_if : List FunctionNotes → ℕ → ℕ → Option FunctionNotes → List FunctionNumber
+numbers_if found n m None = []
+numbers_if found n m (Some f) = number_noted found n m f ∷ []
 
+-- how many are reached behind so many, and how many aren't
 abbrev pub number_behind : List FunctionNotes → ℕ → Option FunctionNotes → ℕ
 number_behind found n None = n
 number_behind found n (Some f) = next_number (has_at f.at found) n
 
--- the functions of external declarations, where these numbers are given already
-abbrev pub numbers_noted : List FunctionNotes → ℕ → List OuterNotes → List FunctionNumber
-numbers_noted found n [] = []
-numbers_noted found n (o ∷ os) =
-    numbers_if found n o.function ++ numbers_noted found (number_behind found n o.function) os
+abbrev pub other_behind : List FunctionNotes → ℕ → Option FunctionNotes → ℕ
+other_behind found m None = m
+other_behind found m (Some f) = next_number (not (has_at f.at found)) m
+
+-- the functions of external declarations, where these are the next numbers
+abbrev pub numbers_noted : List FunctionNotes → ℕ → ℕ → List OuterNotes → List FunctionNumber
+numbers_noted found n m [] = []
+numbers_noted found n m (o ∷ os) =
+    numbers_if found n m o.function
+    ++ numbers_noted found (number_behind found n o.function) (other_behind found m o.function) os
 
 abbrev pub count_noted : List FunctionNotes → ℕ → List OuterNotes → ℕ
 count_noted found n [] = n

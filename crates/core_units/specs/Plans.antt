@@ -1,6 +1,6 @@
 -- A source with its profile: its program, which functions are reached and which words are needed, how its functions are
 -- numbered; and what is to be made of an external declaration.
-use Rattle.std.specs.Prelude.{Bool, cond, List, Option, Some, None}
+use Rattle.std.specs.Prelude.{Bool, false, List, Option, Some, None}
 use Rattle.c_language.specs.declared.unit.External.{External}
 use Rattle.c_language.specs.declared.scope.Entry.{Entry}
 use Rattle.c_means.specs.declared.profile.Profile.{Profile}
@@ -27,10 +27,18 @@ words_in xs profile = needed_words profile (program_of xs)
 abbrev pub numbers_in : List External → Profile → Numbers
 numbers_in xs profile = numbers_of (reached_in xs profile) (program_of xs) prelude_functions
 
--- the variables that live throughout the run that a function names, where it is reached
-abbrev pub watched_if : Program → List Function → Option Function → Option (List Entry)
-watched_if p found None = None
-watched_if p found (Some f) = cond (has_function f found) (Some (watched_lasting p.scope f)) None
+-- the variables that live throughout the run that a function names
+abbrev pub watched_if : Program → Option Function → Option (List Entry)
+watched_if p None = None
+watched_if p (Some f) = Some (watched_lasting p.scope f)
+
+abbrev pub reached_if : List Function → Option Function → Bool
+reached_if found None = false
+reached_if found (Some f) = has_function f found
 
 abbrev pub plan_of : Program → List Word → List Function → Outer → Plan
-plan_of p ws found x = record { is_needed = is_needed ws x; watched = watched_if p found x.function }
+plan_of p ws found x = record {
+  is_needed = is_needed ws x;
+  is_reached = reached_if found x.function;
+  watched = watched_if p x.function;
+}

@@ -1,5 +1,5 @@
 -- What is known of the whole source where its external declarations are made, as code has it.
-use Rattle.std.specs.Prelude.{◌≡◌, ℕ, Bool, List, [], ◌∷◌, length, option_map, Option}
+use Rattle.std.specs.Prelude.{◌≡◌, ℕ, Bool, true, false, not, cond, List, [], ◌∷◌, length, option_map, Option}
 use Rattle.c_language.specs.declared.unit.External.{External}
 use Rattle.c_language.specs.Scopes.{Name}
 use Rattle.c_means.specs.declared.profile.Profile.{Profile}
@@ -9,14 +9,17 @@ use Rattle.core_callees.specs.declared.numbered.FunctionNumber.{FunctionNumber}
 use Rattle.core_callees.specs.Numbered as table
 use Rattle.c_language.specs.declared.scope.Entry.{Entry}
 use Rattle.c_means.specs.Items.{Lasting}
+use Rattle.core_tree.specs.declared.program.Function.{Function as CoreFunction}
 use Rattle.core_tree.specs.declared.program.LastingSetting.{LastingSetting}
+use Rattle.core_functions.specs.declared.definitions.Definition.{Definition}
 use Rattle.core_units.specs.declared.plan.Plan.{Plan}
 use Rattle.core_units.specs.declared.walk.Around.{Around}
+use Rattle.core_units.specs.declared.unit.All.{All}
 use Rattle.core_units.specs.declared.walk.Made.{Made}
-use Rattle.core_units.specs.Numbers.{reached_among, number_if, next_number}
-use Rattle.core_units.specs.Plans.{program_in, reached_in, words_in, numbers_in, plan_of, watched_if}
+use Rattle.core_units.specs.Numbers.{reached_among, next_number}
+use Rattle.core_units.specs.Plans.{program_in, reached_in, words_in, numbers_in, plan_of, watched_if, reached_if}
 use Rattle.core_units.specs.Units.{AreAll}
-use Rattle.core_units.specs.Walked.{AreSet, IsWalkOf}
+use Rattle.core_units.specs.Walked.{AllAre, AreSet, IsCoreFunction, IsWalkOf}
 
 -- the places of what lives throughout the run, by offset; the functions with a body, by name; and how many of them are
 -- reached
@@ -32,14 +35,19 @@ pub record IsAround (xs : List External) (profile : Profile) (offsets : List ℕ
 abbrev pub AreMadeOf : List External → Profile → List Outer → Made → Type 0
 AreMadeOf xs profile os x =
     IsWalkOf (program_in xs profile) (numbers_in xs profile) (words_in xs profile) (reached_in xs profile) os x.functions
-    x.settings
+    x.others x.settings
 
--- the functions of a program by name, with the numbers of those that are reached
-abbrev pub numbered_from : List Function → ℕ → List Function → List FunctionNumber
-numbered_from found n [] = []
-numbered_from found n (f ∷ fs) =
-    record { name = f.name; number = number_if (has_function f found) n }
-    ∷ numbered_from found (next_number (has_function f found) n) fs
+-- the functions of a program by name, with their numbers, where these are the next
+abbrev pub numbered_from : List Function → ℕ → ℕ → List Function → List FunctionNumber
+numbered_from found n m [] = []
+numbered_from found n m (f ∷ fs) =
+    record { name = f.name; number = cond (has_function f found) n m }
+    ∷ numbered_from found (next_number (has_function f found) n) (next_number (not (has_function f found)) m) fs
+
+-- what is made of a function, which is reached or not
+abbrev pub made_by : Bool → Definition → Made
+made_by true d = record { functions = d.function ∷ []; others = []; settings = d.settings }
+made_by false d = record { functions = []; others = d.function ∷ []; settings = [] }
 
 -- ---- the same of what code knows of a source
 
@@ -65,13 +73,20 @@ abbrev pub AreSetIn : Around → List LastingSetting → List Lasting → Type 0
 AreSetIn x ss ls = AreSet (machine_of x) ss ls
 
 abbrev pub watched_in : Around → Option Function → Option (List Entry)
-watched_in x f = watched_if (machine_of x).program (reached_in (externals_of x) (profile_of x)) f
+watched_in x f = watched_if (machine_of x).program f
 
 abbrev pub plan_in : Around → Outer → Plan
 plan_in x o =
     plan_of (machine_of x).program (words_in (externals_of x) (profile_of x))
     (reached_in (externals_of x) (profile_of x)) o
 
+abbrev pub reached_by : Around → Option Function → Bool
+reached_by x f = reached_if (reached_in (externals_of x) (profile_of x)) f
+
+-- these are cores of functions of the prelude
+abbrev pub AreLibrary : Around → List Function → List CoreFunction → Type 0
+AreLibrary x fs cs = AllAre (IsCoreFunction (machine_of x) (numbers_in (externals_of x) (profile_of x)) true) fs cs
+
 -- all that is made of the source
-abbrev pub AreAllIn : Around → Made → Type 0
+abbrev pub AreAllIn : Around → All → Type 0
 AreAllIn x y = AreAll (externals_of x) (profile_of x) y.functions y.settings

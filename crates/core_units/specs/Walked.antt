@@ -1,5 +1,5 @@
--- What is made of external declarations, one after the other: the functions that are reached, in the core, and what
--- initializers of what is needed set.
+-- What is made of external declarations, one after the other: the functions that are reached, in the core, and the
+-- others; and what initializers of what is needed set.
 use Rattle.std.specs.Prelude.{◌≡◌, Bool, false, List, [], ◌∷◌}
 use Rattle.c_means.specs.Items as runs
 use Rattle.c_means.specs.Names.{Word}
@@ -12,7 +12,7 @@ use Rattle.core_tree.specs.States.{Output}
 use Rattle.elaborate.specs.Means.{IsBodyOf}
 use Rattle.core_programs.specs.Numberings.{Numbers, numbering_of}
 use Rattle.core_programs.specs.Programs.{AllSettings, bare_numbering, joined}
-use Rattle.core_units.specs.Numbers.{reached_among}
+use Rattle.core_units.specs.Numbers.{reached_among, others_among}
 
 -- each of these is that of the one in its place
 abbrev pub AllAre : {A B : Type 0} → (A → B → Type 0) → List A → List B → Type 0
@@ -35,6 +35,7 @@ pub record AreSet (m : whole.Machine) (xs : List LastingSetting) (ys : List runs
 
 -- of external declarations, of which these words are needed and these functions are reached
 pub record IsWalkOf (m : whole.Machine) (ns : Numbers) (ws : List Word) (found : List Function) (xs : List Outer)
-    (functions : List CoreFunction) (settings : List LastingSetting) : Type 0 where
+    (functions others : List CoreFunction) (settings : List LastingSetting) : Type 0 where
   pub cores : AllAre (IsCoreFunction m ns false) (reached_among found (functions_in xs)) functions
+  pub rest : AllAre (IsCoreFunction m ns false) (others_among found (functions_in xs)) others
   pub set : AreSet m settings (all_needs ws found xs).lasting

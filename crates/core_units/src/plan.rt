@@ -12,11 +12,13 @@ use core_callees::FunctionNumber;
 use plain_data::{Items, Shared};
 use std::alloc::{AllocError, Global};
 
-/// What is to be made of an external declaration: whether what it declares is needed; and where it defines a function that
-/// is reached, the variables that live throughout the run that the function names, as a log call in it shows them.
+/// What is to be made of an external declaration: whether what it declares is needed; and where it defines a function,
+/// whether this is reached, and the variables that live throughout the run that the function names, as a log call in it
+/// shows them.
 #[derive(Drop)]
 pub struct Plan {
     pub is_needed: bool,
+    pub is_reached: bool,
     pub watched: Option<Items<Shared<Entry>>>,
 }
 
@@ -39,8 +41,18 @@ fn is_reached(overview: &Overview, at: u32) -> bool
     is_among(at, overview.reached.as_slice())
 }
 
-/// The variables that live throughout the run that a function names, where it is reached.
-fn watched_if(
+/// Whether the function that is defined is reached.
+fn reaches(overview: &Overview, function: &Option<Shared<FunctionNotes>>) -> bool
+    ensures { result ≡ spec.reached_noted overview.now function.now }
+{
+    match function {
+        None => false,
+        Some(function) => is_reached(overview, function.get().at),
+    }
+}
+
+/// The variables that live throughout the run that a function names, where one is defined.
+pub(crate) fn watched_if(
     alloc: Global,
     overview: &Overview,
     function: &Option<Shared<FunctionNotes>>,
@@ -50,9 +62,6 @@ fn watched_if(
     match function {
         None => Ok(None),
         Some(function) => {
-            if !is_reached(overview, function.get().at) {
-                return Ok(None);
-            }
             let watched = watched_lasting(alloc, &overview.program.scope, function.get())?;
             Ok(Some(watched))
         }
@@ -64,6 +73,7 @@ fn plan_of(alloc: Global, overview: &Overview, outer: &OuterNotes) -> Result<Pla
 {
     Ok(Plan {
         is_needed: is_needed(overview.words.as_slice(), outer.names.get()),
+        is_reached: reaches(overview, &outer.function),
         watched: watched_if(alloc, overview, &outer.function)?,
     })
 }
@@ -90,32 +100,19 @@ pub(crate) fn plans_of(alloc: Global, overview: &Overview) -> Result<Items<Plan>
     plans_in(alloc, overview, overview.program.outers.as_slice())
 }
 
-/// The functions of the source with the numbers of those that are reached, and how many these are.
+/// The functions of the source with their numbers, the next number of one that is reached, and that of another.
 #[derive(Drop)]
 pub struct Numbering {
     pub functions: Items<Shared<FunctionNumber>>,
-    pub count: u32,
+    pub next: u32,
+    pub other: u32,
 }
 
-/// A function with the next number, where it is reached.
-fn number_of(
-    alloc: Global,
-    function: &FunctionNotes,
-    is_reached: bool,
-    next: u32,
-) -> Result<Shared<FunctionNumber>, AllocError>
-    ensures { IfOk result (λ f. f ≡ record { name = function.now.name; number = numbers.number_if is_reached next }) }
+/// The number behind one that is taken, or isn't.
+fn next_number(is_taken: bool, next: u32) -> Result<u32, AllocError>
+    ensures { IfOk result (λ n. n ≡ numbers.next_number is_taken next) }
 {
-    let name = function.name.clone()?;
-    let number = if is_reached { Some(next) } else { None };
-    Shared::new(alloc, FunctionNumber { name, number })
-}
-
-/// The number behind a function's.
-fn next_number(is_reached: bool, next: u32) -> Result<u32, AllocError>
-    ensures { IfOk result (λ n. n ≡ numbers.next_number is_reached next) }
-{
-    if !is_reached {
+    if !is_taken {
         return Ok(next);
     }
     match next.checked_add(1) {
@@ -124,23 +121,74 @@ fn next_number(is_reached: bool, next: u32) -> Result<u32, AllocError>
     }
 }
 
+fn counted(
+    overview: &Overview,
+    function: &Option<Shared<FunctionNotes>>,
+    count: u32,
+) -> Result<u32, AllocError>
+    ensures { IfOk result (λ n. n ≡ spec.number_behind overview.now.reached count function.now) }
+{
+    match function {
+        None => Ok(count),
+        Some(function) => next_number(is_reached(overview, function.get().at), count),
+    }
+}
+
+/// How many of these functions are reached.
+fn count_in(overview: &Overview, outers: &[OuterNotes]) -> Result<u32, AllocError>
+    ensures { IfOk result (λ n. n ≡ spec.count_noted overview.now.reached 0 outers.now) }
+{
+    let mut count = 0;
+    for outer in outers {
+        count = counted(overview, &outer.function, count)?;
+    }
+    Ok(count)
+}
+
+/// How many functions of the source are reached. It fails for want of memory alone.
+pub(crate) fn count_reached(overview: &Overview) -> Result<u32, AllocError>
+    ensures { IfOk result (λ n. n ≡ spec.count_noted overview.now.reached 0 overview.now.program.outers) }
+{
+    count_in(overview, overview.program.outers.as_slice())
+}
+
+/// A function with its number.
+fn number_of(
+    alloc: Global,
+    function: &FunctionNotes,
+    number: u32,
+) -> Result<Shared<FunctionNumber>, AllocError>
+    ensures { IfOk result (λ f. f ≡ record { name = function.now.name; number = number }) }
+{
+    let name = function.name.clone()?;
+    Shared::new(alloc, FunctionNumber { name, number })
+}
+
 fn and_function(
     alloc: Global,
     overview: &Overview,
     function: &Option<Shared<FunctionNotes>>,
     numbering: &mut Numbering,
 ) -> Result<(), AllocError>
-    ensures functions { OnOk result (numbering.new.functions ≡ numbering.old.functions ++ spec.numbers_if overview.now.reached numbering.old.count function.now) }
-    ensures count { OnOk result (numbering.new.count ≡ spec.number_behind overview.now.reached numbering.old.count function.now) }
+    ensures functions { OnOk result (numbering.new.functions ≡ numbering.old.functions ++ spec.numbers_if overview.now.reached numbering.old.next numbering.old.other function.now) }
+    ensures next { OnOk result (numbering.new.next ≡ spec.number_behind overview.now.reached numbering.old.next function.now) }
+    ensures other { OnOk result (numbering.new.other ≡ spec.other_behind overview.now.reached numbering.old.other function.now) }
 {
     match function {
         None => Ok(()),
         Some(function) => {
             let is_reached = is_reached(overview, function.get().at);
-            let number = number_of(alloc, function.get(), is_reached, numbering.count)?;
-            let next = next_number(is_reached, numbering.count)?;
+            let number = if is_reached {
+                numbering.next
+            } else {
+                numbering.other
+            };
+            let number = number_of(alloc, function.get(), number)?;
+            let next = next_number(is_reached, numbering.next)?;
+            let other = next_number(!is_reached, numbering.other)?;
             numbering.functions.push(number)?;
-            numbering.count = next;
+            numbering.next = next;
+            numbering.other = other;
             Ok(())
         }
     }
@@ -149,27 +197,33 @@ fn and_function(
 fn numbered_in(
     alloc: Global,
     overview: &Overview,
+    other: u32,
     outers: &[OuterNotes],
-) -> Result<Numbering, AllocError>
-    ensures functions { IfOk result (λ x. x.functions ≡ spec.numbers_noted overview.now.reached 0 outers.now) }
-    ensures count { IfOk result (λ x. x.count ≡ spec.count_noted overview.now.reached 0 outers.now) }
+) -> Result<Items<Shared<FunctionNumber>>, AllocError>
+    ensures { IfOk result (λ fs. fs ≡ spec.numbers_noted overview.now.reached 0 other outers.now) }
 {
     let mut numbering = Numbering {
         functions: Items::new(alloc),
-        count: 0,
+        next: 0,
+        other,
     };
     for outer in outers {
         and_function(alloc, overview, &outer.function, &mut numbering)?;
     }
-    Ok(numbering)
+    let Numbering { functions, .. } = numbering;
+    Ok(functions)
 }
 
-/// The numbers of all functions of the source, in order. It fails for want of memory alone.
-pub(crate) fn numbered(alloc: Global, overview: &Overview) -> Result<Numbering, AllocError>
-    ensures functions { IfOk result (λ x. x.functions ≡ spec.numbers_noted overview.now.reached 0 overview.now.program.outers) }
-    ensures count { IfOk result (λ x. x.count ≡ spec.count_noted overview.now.reached 0 overview.now.program.outers) }
+/// The numbers of all functions of the source, in order, of which the first that isn't reached has this one. It fails
+/// for want of memory alone.
+pub(crate) fn numbered(
+    alloc: Global,
+    overview: &Overview,
+    other: u32,
+) -> Result<Items<Shared<FunctionNumber>>, AllocError>
+    ensures { IfOk result (λ fs. fs ≡ spec.numbers_noted overview.now.reached 0 other overview.now.program.outers) }
 {
-    numbered_in(alloc, overview, overview.program.outers.as_slice())
+    numbered_in(alloc, overview, other, overview.program.outers.as_slice())
 }
 
 fn is_named_main(function: &Option<Shared<FunctionNotes>>) -> bool

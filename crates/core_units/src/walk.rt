@@ -1,5 +1,5 @@
-//! The external declarations of a source (C99 6.9), one after the other: the functions that are reached, in the core, and
-//! what the initializers of what is needed set.
+//! The external declarations of a source (C99 6.9), one after the other: their functions in the core, and what the
+//! initializers of what is needed set.
 ghost use Rattle.std.specs.Prelude.{◌≡◌, ◌∷◌, [], IfOk, map, drop, slice_get};
 ghost use Rattle.c_language.specs.declared.unit.External.TheVariants as external_;
 ghost use Rattle.c_means.specs.Programs as programs;
@@ -13,7 +13,6 @@ use c_program_notes::outer_notes;
 use c_type_scope::{Named, Scope};
 use core_callees::{Calling, FunctionNumber};
 use core_codes::{Begun, Parts};
-use core_forms::NoCore;
 use core_functions::{Definition, define};
 use core_parts::Whole;
 use core_programs::PlaceTable;
@@ -21,10 +20,12 @@ use core_tree::{Function, LastingSetting};
 use plain_data::{Items, Shared};
 use std::alloc::{AllocError, Global};
 
-/// Functions of the source in the core, and what is set before `main` is called, in order.
+/// Functions of the source in the core, those that are reached and the others, and what is set before `main` is
+/// called, each in order.
 #[derive(Drop)]
 pub struct Made {
     pub functions: Items<Function>,
+    pub others: Items<Function>,
     pub settings: Items<LastingSetting>,
 }
 
@@ -58,10 +59,11 @@ impl<'a> Around<'a> {
 
 /// Nothing is made.
 fn nothing(alloc: Global) -> Made
-    ensures { result ≡ record { functions = []; settings = [] } }
+    ensures { result ≡ record { functions = []; others = []; settings = [] } }
 {
     Made {
         functions: Items::new(alloc),
+        others: Items::new(alloc),
         settings: Items::new(alloc),
     }
 }
@@ -72,52 +74,59 @@ fn passed(
     around: &Around<'_>,
     external: &External,
     scope: &mut Scope,
-) -> Result<Made, NoCore>
-    ensures nothing { IfOk result (λ x. x ≡ record { functions = []; settings = [] }) }
+) -> Result<Made, AllocError>
+    ensures nothing { IfOk result (λ x. x ≡ record { functions = []; others = []; settings = [] }) }
     ensures after { IfOk result (λ _. scope.new ≡ (programs.outer external.now scope.old).after) }
 {
     let _ = outer_notes(alloc, around.source, external, scope)?;
     Ok(nothing(alloc))
 }
 
-/// The function that is defined, which is reached and names these variables (C99 6.9.1).
-#[tactic(auto, using(crate::proofs::Making::reached_made))]
-fn reached(
+/// What is made of a function, which is reached or not.
+fn placed(alloc: Global, definition: Definition, is_reached: bool) -> Result<Made, AllocError>
+    ensures { IfOk result (λ x. x ≡ spec.made_by is_reached definition) }
+{
+    let Definition { function, settings } = definition;
+    let mut functions = Items::new(alloc);
+    functions.push(function)?;
+    if is_reached {
+        Ok(Made {
+            functions,
+            others: Items::new(alloc),
+            settings,
+        })
+    } else {
+        Ok(Made {
+            functions: Items::new(alloc),
+            others: functions,
+            settings: Items::new(alloc),
+        })
+    }
+}
+
+/// The function that is defined, which is reached or not, and names these variables (C99 6.9.1).
+fn defined(
     alloc: Global,
     around: &Around<'_>,
     specifiers: &[Shared<Specifier>],
     declarator: &Declarator,
     body: &Body,
+    plan: &Plan,
     watched: &[Shared<Entry>],
     scope: &mut Scope,
-) -> Result<Made, NoCore>
+) -> Result<Made, AllocError>
     requires around { spec.IsAroundOf around.now }
     ensures made { spec.watched_in around.now (programs.outer (external_.Function specifiers.now declarator.now body.now) scope.old).function ≡ Some watched.now →
+        plan.now.is_reached ≡ spec.reached_by around.now (programs.outer (external_.Function specifiers.now declarator.now body.now) scope.old).function →
         IfOk result (λ x. spec.AreMadeIn around.now (programs.outer (external_.Function specifiers.now declarator.now body.now) scope.old ∷ []) x) }
     ensures after { IfOk result (λ _. scope.new ≡ (programs.outer (external_.Function specifiers.now declarator.now body.now) scope.old).after) }
 {
-    match body {
-        Body::Read { block } => {
-            let calling = around.calling(watched);
-            let parts = Whole { callees: &calling };
-            let found = define(
-                alloc,
-                &parts,
-                specifiers,
-                declarator,
-                block.get(),
-                false,
-                scope,
-            )?;
-            let Definition { function, settings } = found;
-            let mut functions = Items::new(alloc);
-            functions.push(function)?;
-            Ok(Made {
-                functions,
-                settings,
-            })
-        }
-        Body::Unread { .. } => Err(NoCore::Outside),
+    let calling = around.calling(watched);
+    let parts = Whole { callees: &calling };
+    let found = define(alloc, &parts, specifiers, declarator, body, false, scope)?;
+    match found {
+        Some(definition) => placed(alloc, definition, plan.is_reached),
+        None => Ok(nothing(alloc)),
     }
 }
 
@@ -128,9 +137,9 @@ fn needed(
     around: &Around<'_>,
     declared: &Declaration,
     scope: &mut Scope,
-) -> Result<Made, NoCore>
+) -> Result<Made, AllocError>
     requires around { spec.IsAroundOf around.now }
-    ensures made { IfOk result (λ x. (x.functions ≡ []) × spec.AreSetIn around.now x.settings (statements.declaration declared.now scope.old).lasting) }
+    ensures made { IfOk result (λ x. (x ≡ record { functions = []; others = []; settings = x.settings }) × spec.AreSetIn around.now x.settings (statements.declaration declared.now scope.old).lasting) }
     ensures after { IfOk result (λ _. scope.new ≡ (statements.declaration declared.now scope.old).after) }
 {
     let calling = around.calling(&[]);
@@ -139,6 +148,7 @@ fn needed(
     let Begun { settings, .. } = begun;
     Ok(Made {
         functions: Items::new(alloc),
+        others: Items::new(alloc),
         settings,
     })
 }
@@ -151,7 +161,7 @@ fn made_of(
     external: &External,
     plan: &Plan,
     scope: &mut Scope,
-) -> Result<Made, NoCore>
+) -> Result<Made, AllocError>
     requires around { spec.IsAroundOf around.now }
     requires plan { plan.now ≡ spec.plan_in around.now (programs.outer external.now scope.old) }
     ensures made { IfOk result (λ x. spec.AreMadeIn around.now (programs.outer external.now scope.old ∷ []) x) }
@@ -163,12 +173,13 @@ fn made_of(
             declarator,
             body,
         } => match &plan.watched {
-            Some(watched) => reached(
+            Some(watched) => defined(
                 alloc,
                 around,
                 specifiers.as_slice(),
                 declarator,
                 body,
+                plan,
                 watched.as_slice(),
                 scope,
             ),
@@ -185,8 +196,9 @@ fn made_of(
     }
 }
 
-/// What is made of all external declarations of the source, by their plans, each in the scope that those before it leave.
-pub(crate) fn make_each(alloc: Global, around: &Around<'_>, plans: &[Plan]) -> Result<Made, NoCore>
+/// What is made of all external declarations of the source, by their plans, each in the scope that those before it
+/// leave.
+pub(crate) fn make_each(alloc: Global, around: &Around<'_>, plans: &[Plan]) -> Result<Made, AllocError>
     requires around { spec.IsAroundOf around.now }
     requires plans { plans.now ≡ map (spec.plan_in around.now) (spec.outers_of around.now) }
     ensures { IfOk result (λ x. spec.AreMadeIn around.now (spec.outers_of around.now) x) }
@@ -196,11 +208,9 @@ pub(crate) fn make_each(alloc: Global, around: &Around<'_>, plans: &[Plan]) -> R
     let mut index = 0;
     let externals = around.source.externals;
     'each: for external in externals {
-        let Some(plan) = plans.get(index) else {
-            return Err(NoCore::Outside);
-        };
-        let more = made_of(alloc, around, external.get(), plan, &mut scope)?;
+        let more = made_of(alloc, around, external.get(), &plans[index], &mut scope)?;
         made.functions.append(more.functions)?;
+        made.others.append(more.others)?;
         made.settings.append(more.settings)?;
         index += 1;
     }

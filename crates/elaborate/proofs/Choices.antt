@@ -34,7 +34,7 @@ use Rattle.core_tree.specs.Codes.{Item, code, in_turn, lived}
 use Rattle.core_tree.specs.Codes as core
 use Rattle.core_tree.proofs.Equations as eq
 use Rattle.elaborate.specs.Means.{Numbering}
-use Rattle.elaborate.specs.Means.{as_done, Like, IsValueOf, Acts, IsCodeOf, SameType}
+use Rattle.elaborate.specs.Means.{as_done, Like, IsValueOf, Acts, IsCodeOf, StoresAs}
 use Rattle.elaborate.specs.Types.{word_type}
 use Rattle.elaborate.proofs.Numbers.{wrapped_same}
 use Rattle.elaborate.proofs.Codes.{by_item, acting_acts, lived_same, with_same, running_same}
@@ -116,18 +116,18 @@ module _ (numbering : Numbering) where
   -- the core of what one expression of an initializer sets
   pub record Sets (x : Setting) (p : says.Part) (n : Noted) : Type 0 where
     pub size : (l : c.Level) (k : Level Output) → Like numbering l k → (core.setting_needs Output x).size k.measures ≡
-        n.part.size l
+        initials.set_size p n l
     pub room : (l : c.Level) (k : Level Output) → Like numbering l k → (core.setting_needs Output x).room k.measures ≡
-        n.part.room l
+        initials.set_room p n l
     pub runs : (l : c.Level) (k : Level Output) → Like numbering l k → (a : ℕ) (env : Env) (base : ℕ) (d : State)
         → core.sets x a k env base (as_done d) ≡ Some (as_done (initials.sets p n a l env base d))
 
   pub value_sets : (e : Expr) (t : ValueType) (p : says.Part) (n : Noted) → is_text_of p.type n.part.typed ≡ false
-      → SameType (class_of p.type) (bytes_of n.part.typed.after.tables (Some p.type)) t → IsValueOf numbering e n.part →
+      → StoresAs (class_of p.type) (bytes_of n.part.typed.after.tables (Some p.type)) t → IsValueOf numbering e n.part →
       Sets (setting.Value p.offset t e) p n
   value_sets e t p n no_text same h = record {
-    size = h.size;
-    room = h.room;
+    size = λ l k like. h.size l k like ∙ ap (λ b. cond b 1 (n.part.size l)) (sym no_text);
+    room = λ l k like. h.room l k like ∙ ap (λ b. cond b 0 (n.part.room l)) (sym no_text);
     runs = λ l k like a env base d.
         ap (λ o. with_value o (λ v d. Some (memory.stored t (a + p.offset) v d))) (h.runs l k like env base d)
         ∙ with_same (n.part.run l env base d) (λ v d. Some (memory.stored t (a + p.offset) v d))
@@ -149,56 +149,56 @@ module _ (numbering : Numbering) where
 
   -- a literal in an array of characters
   pub text_sets : (size : ℕ) (bytes : List ℕ) (p : says.Part) (n : Noted) → is_text_of p.type n.part.typed ≡ true
-      → ((l : c.Level) → n.part.text l ≡ Some bytes) → ((l : c.Level) → n.part.size l ≡ 1) →
-      ((l : c.Level) → n.part.room l ≡ 0)
+      → ((l : c.Level) → unwrap_or (n.part.text l) [] ≡ bytes)
       → initials.text_room n.part.typed.after.tables p.type bytes ≡ size → Sets (setting.Text p.offset size bytes) p n
-  text_sets size bytes p n a_text text one none room = record {
-    size = λ l k like. sym (one l);
-    room = λ l k like. sym (none l);
+  text_sets size bytes p n a_text text room = record {
+    size = λ l k like. ap (λ b. cond b 1 (n.part.size l)) (sym a_text);
+    room = λ l k like. ap (λ b. cond b 0 (n.part.room l)) (sym a_text);
     runs = λ l k like a env base d.
         ap (λ m. Some (as_done (initials.lays_text (a + p.offset) m bytes d))) (sym room)
-        ∙ ap (λ t. Some (as_done (initials.sets_text n.part.typed.after.tables p a (unwrap_or t []) d))) (sym (text l))
+        ∙ ap (λ t. Some (as_done (initials.sets_text n.part.typed.after.tables p a t d))) (sym (text l))
         ∙ ap (λ b. Some (as_done (cond b (initials.sets_text n.part.typed.after.tables p a
         (unwrap_or (n.part.text l) []) d)
         (runs.with_value (n.part.run l env base d) (initials.stores n.part.typed.after.tables p.type
         (a + p.offset)))))) (sym a_text);
   }
 
-  -- all of them, in order
+  -- all of them, in order, of each part with its expression
   abbrev pub AllSet : List Setting → List says.Part → List Noted → Type 0
-  AllSet [] [] [] = Unit {0}
+  AllSet [] [] ns = Unit {0}
+  AllSet [] (p ∷ ps) [] = Unit {0}
   AllSet (x ∷ xs) (p ∷ ps) (n ∷ ns) = Sets x p n × AllSet xs ps ns
   AllSet _ _ _ = ⊥
 
-  sizes_same : (xs : List Setting) (ps : List says.Part) (ns : List Noted) → AllSet xs ps ns → (l : c.Level)
+  pub sizes_same : (xs : List Setting) (ps : List says.Part) (ns : List Noted) → AllSet xs ps ns → (l : c.Level)
       (k : Level Output) → Like numbering l k
-      → (core.all_needs Output xs).size k.measures ≡ initials.all_sizes ns l
-  sizes_same [] [] [] h l k like = refl
-  sizes_same [] [] (n ∷ ns) h l k like = absurd h
-  sizes_same [] (p ∷ ps) ns h l k like = absurd h
+      → (core.all_needs Output xs).size k.measures ≡ initials.all_sizes ps ns l
+  sizes_same [] [] ns h l k like = refl
+  sizes_same [] (p ∷ ps) [] h l k like = refl
+  sizes_same [] (p ∷ ps) (n ∷ ns) h l k like = absurd h
   sizes_same (x ∷ xs) [] ns h l k like = absurd h
   sizes_same (x ∷ xs) (p ∷ ps) [] h l k like = absurd h
   sizes_same (x ∷ xs) (p ∷ ps) (n ∷ ns) h l k like = ap₂ (λ a b. a + b) (h.0.size l k like)
       (sizes_same xs ps ns h.1 l k like)
 
-  rooms_same : (xs : List Setting) (ps : List says.Part) (ns : List Noted) → AllSet xs ps ns → (l : c.Level)
+  pub rooms_same : (xs : List Setting) (ps : List says.Part) (ns : List Noted) → AllSet xs ps ns → (l : c.Level)
       (k : Level Output) → Like numbering l k
-      → (core.all_needs Output xs).room k.measures ≡ initials.all_rooms ns l
-  rooms_same [] [] [] h l k like = refl
-  rooms_same [] [] (n ∷ ns) h l k like = absurd h
-  rooms_same [] (p ∷ ps) ns h l k like = absurd h
+      → (core.all_needs Output xs).room k.measures ≡ initials.all_rooms ps ns l
+  rooms_same [] [] ns h l k like = refl
+  rooms_same [] (p ∷ ps) [] h l k like = refl
+  rooms_same [] (p ∷ ps) (n ∷ ns) h l k like = absurd h
   rooms_same (x ∷ xs) [] ns h l k like = absurd h
   rooms_same (x ∷ xs) (p ∷ ps) [] h l k like = absurd h
   rooms_same (x ∷ xs) (p ∷ ps) (n ∷ ns) h l k like = ap₂ (λ a b. a + b) (h.0.room l k like)
       (rooms_same xs ps ns h.1 l k like)
 
-  sets_all_same : (xs : List Setting) (ps : List says.Part) (ns : List Noted) → AllSet xs ps ns → (l : c.Level)
+  pub sets_all_same : (xs : List Setting) (ps : List says.Part) (ns : List Noted) → AllSet xs ps ns → (l : c.Level)
       (k : Level Output) → Like numbering l k
       → (a : ℕ) (env : Env) (base : ℕ) (d : State) → core.sets_all xs a k env base (as_done d) ≡ Some
       (as_done (initials.sets_all ps ns a l env base d))
-  sets_all_same [] [] [] h l k like a env base d = refl
-  sets_all_same [] [] (n ∷ ns) h l k like a env base d = absurd h
-  sets_all_same [] (p ∷ ps) ns h l k like a env base d = absurd h
+  sets_all_same [] [] ns h l k like a env base d = refl
+  sets_all_same [] (p ∷ ps) [] h l k like a env base d = refl
+  sets_all_same [] (p ∷ ps) (n ∷ ns) h l k like a env base d = absurd h
   sets_all_same (x ∷ xs) [] ns h l k like a env base d = absurd h
   sets_all_same (x ∷ xs) (p ∷ ps) [] h l k like a env base d = absurd h
   sets_all_same (x ∷ xs) (p ∷ ps) (n ∷ ns) h l k like a env base d =
@@ -206,9 +206,9 @@ module _ (numbering : Numbering) where
       (h.0.runs l k like a env base d)
       ∙ ap (λ m. running (core.sets_all xs a k env (base + m)) (as_done (initials.sets p n a l env base d)))
       (h.0.room l k like)
-      ∙ running_same (core.sets_all xs a k env (base + n.part.room l))
-      (initials.sets_all ps ns a l env (base + n.part.room l)) (initials.sets p n a l env base d)
-      (sets_all_same xs ps ns h.1 l k like a env (base + n.part.room l) (initials.sets p n a l env base d))
+      ∙ running_same (core.sets_all xs a k env (base + initials.set_room p n l))
+      (initials.sets_all ps ns a l env (base + initials.set_room p n l)) (initials.sets p n a l env base d)
+      (sets_all_same xs ps ns h.1 l k like a env (base + initials.set_room p n l) (initials.sets p n a l env base d))
 
   zeroed_same : (b : Bool) (a n : ℕ) (d : State) → core.zeroed_if b a n (as_done d) ≡ as_done
       (statements.zeroed_if b a n d)

@@ -2,6 +2,7 @@ pub mod Numbers
 pub mod States
 pub mod Objects
 pub mod Values
+pub mod Refused
 pub mod Pointers
 pub mod Operates
 pub mod Codes

@@ -1,7 +1,7 @@
 -- The operator of the core that is chosen for a binary operator does what that does.
-use Rattle.std.proofs.Common.{◌≡◌, ℕ, pos, Bool, cond, Option, Some, None, Ok, refl, sym, ap}
+use Rattle.std.proofs.Common.{◌≡◌, ℕ, ℤ, pos, Bool, cond, Option, Some, None, Ok, refl, sym, ap}
 use Rattle.std.proofs.Common.{◌∙◌}
-use Rattle.std.specs.Prelude.{IfSome, nat_lt, nat_le, neg_ℤ, ◌+ℤ◌, ◌-ℤ◌, ◌*ℤ◌}
+use Rattle.std.specs.Prelude.{IfSome, is_some, nat_lt, nat_le, neg_ℤ, ◌+ℤ◌, ◌-ℤ◌, ◌*ℤ◌}
 use Rattle.plain_data.specs.declared.run.Undefined.TheVariants as undefined
 use Rattle.c_language.specs.declared.expr.BinaryOperator.{BinaryOperator}
 use Rattle.c_language.specs.declared.expr.BinaryOperator.TheVariants as o
@@ -9,7 +9,8 @@ use Rattle.c_language.specs.declared.ctype.IntegerKind.{IntegerKind}
 use Rattle.c_language.specs.Integers.{number_of}
 use Rattle.c_store.specs.Access.{in_one_object}
 use Rattle.c_language.specs.Typing as says
-use Rattle.c_means.specs.Parts.{State, stop}
+use Rattle.c_means.specs.Operators.{operated, works_on}
+use Rattle.c_means.specs.Parts.{State, stop, refused}
 use Rattle.c_means.specs.Values.{address}
 use Rattle.c_means.specs.Pointers as pointers
 use Rattle.core_tree.specs.declared.types.Arithmetic.{Arithmetic}
@@ -20,7 +21,7 @@ use Rattle.core_tree.specs.States.{or_stop}
 use Rattle.core_tree.specs.Memory as memory
 use Rattle.elaborate.specs.declared.operators.OperandType.{OperandType}
 use Rattle.elaborate.specs.Means.{Numbering, as_done, as_found}
-use Rattle.elaborate.specs.Operators.{operator_on, operator_of, Operates}
+use Rattle.elaborate.specs.Operators.{operator_on, operator_of, operand_in, Operates}
 use Rattle.elaborate.specs.Types.{word_type, arithmetic, working}
 use Rattle.elaborate.proofs.Numbers.{worked_same, working_word}
 use Rattle.elaborate.proofs.States.{or_stop_same, test_same}
@@ -190,3 +191,160 @@ pub operates_if : (b : BinaryOperator) (x y : OperandType) (c : Option Operator)
     (λ q. Operates b x y q)
 operates_if b x y None e = tt
 operates_if b x y (Some q) e = operates b x y q (sym e)
+
+-- ---- where there is none
+
+-- the operators that have a meaning on operands of these kinds are those that the core has
+pub works_same : (b : BinaryOperator) (j k : Option IntegerKind) (m n : ℕ) → works_on b j k ≡ is_some (operator_on b j k m n)
+works_same o.Multiply (Some j) (Some k) m n = refl
+works_same o.Multiply (Some j) None m n = refl
+works_same o.Multiply None (Some k) m n = refl
+works_same o.Multiply None None m n = refl
+works_same o.Divide (Some j) (Some k) m n = refl
+works_same o.Divide (Some j) None m n = refl
+works_same o.Divide None (Some k) m n = refl
+works_same o.Divide None None m n = refl
+works_same o.Remainder (Some j) (Some k) m n = refl
+works_same o.Remainder (Some j) None m n = refl
+works_same o.Remainder None (Some k) m n = refl
+works_same o.Remainder None None m n = refl
+works_same o.Add (Some j) (Some k) m n = refl
+works_same o.Add (Some j) None m n = refl
+works_same o.Add None (Some k) m n = refl
+works_same o.Add None None m n = refl
+works_same o.Subtract (Some j) (Some k) m n = refl
+works_same o.Subtract (Some j) None m n = refl
+works_same o.Subtract None (Some k) m n = refl
+works_same o.Subtract None None m n = refl
+works_same o.ShiftLeft (Some j) (Some k) m n = refl
+works_same o.ShiftLeft (Some j) None m n = refl
+works_same o.ShiftLeft None (Some k) m n = refl
+works_same o.ShiftLeft None None m n = refl
+works_same o.ShiftRight (Some j) (Some k) m n = refl
+works_same o.ShiftRight (Some j) None m n = refl
+works_same o.ShiftRight None (Some k) m n = refl
+works_same o.ShiftRight None None m n = refl
+works_same o.Less (Some j) (Some k) m n = refl
+works_same o.Less (Some j) None m n = refl
+works_same o.Less None (Some k) m n = refl
+works_same o.Less None None m n = refl
+works_same o.Greater (Some j) (Some k) m n = refl
+works_same o.Greater (Some j) None m n = refl
+works_same o.Greater None (Some k) m n = refl
+works_same o.Greater None None m n = refl
+works_same o.LessEqual (Some j) (Some k) m n = refl
+works_same o.LessEqual (Some j) None m n = refl
+works_same o.LessEqual None (Some k) m n = refl
+works_same o.LessEqual None None m n = refl
+works_same o.GreaterEqual (Some j) (Some k) m n = refl
+works_same o.GreaterEqual (Some j) None m n = refl
+works_same o.GreaterEqual None (Some k) m n = refl
+works_same o.GreaterEqual None None m n = refl
+works_same o.Equal (Some j) (Some k) m n = refl
+works_same o.Equal (Some j) None m n = refl
+works_same o.Equal None (Some k) m n = refl
+works_same o.Equal None None m n = refl
+works_same o.NotEqual (Some j) (Some k) m n = refl
+works_same o.NotEqual (Some j) None m n = refl
+works_same o.NotEqual None (Some k) m n = refl
+works_same o.NotEqual None None m n = refl
+works_same o.BitAnd (Some j) (Some k) m n = refl
+works_same o.BitAnd (Some j) None m n = refl
+works_same o.BitAnd None (Some k) m n = refl
+works_same o.BitAnd None None m n = refl
+works_same o.BitXor (Some j) (Some k) m n = refl
+works_same o.BitXor (Some j) None m n = refl
+works_same o.BitXor None (Some k) m n = refl
+works_same o.BitXor None None m n = refl
+works_same o.BitOr (Some j) (Some k) m n = refl
+works_same o.BitOr (Some j) None m n = refl
+works_same o.BitOr None (Some k) m n = refl
+works_same o.BitOr None None m n = refl
+works_same o.LogicalAnd (Some j) (Some k) m n = refl
+works_same o.LogicalAnd (Some j) None m n = refl
+works_same o.LogicalAnd None (Some k) m n = refl
+works_same o.LogicalAnd None None m n = refl
+works_same o.LogicalOr (Some j) (Some k) m n = refl
+works_same o.LogicalOr (Some j) None m n = refl
+works_same o.LogicalOr None (Some k) m n = refl
+works_same o.LogicalOr None None m n = refl
+
+-- what has no operator is refused
+refused_by : (b : BinaryOperator) (j k : Option IntegerKind) (m n : ℕ) → operator_on b j k m n ≡ None → (at : ℕ) (v w : ℤ)
+    (d : State) → operated at b (operand_in (type_of j m) v) (operand_in (type_of k n) w) d ≡ refused d
+refused_by o.Multiply (Some j) (Some k) m n e at v w d = cc
+refused_by o.Multiply (Some j) None m n e at v w d = refl
+refused_by o.Multiply None (Some k) m n e at v w d = refl
+refused_by o.Multiply None None m n e at v w d = refl
+refused_by o.Divide (Some j) (Some k) m n e at v w d = cc
+refused_by o.Divide (Some j) None m n e at v w d = refl
+refused_by o.Divide None (Some k) m n e at v w d = refl
+refused_by o.Divide None None m n e at v w d = refl
+refused_by o.Remainder (Some j) (Some k) m n e at v w d = cc
+refused_by o.Remainder (Some j) None m n e at v w d = refl
+refused_by o.Remainder None (Some k) m n e at v w d = refl
+refused_by o.Remainder None None m n e at v w d = refl
+refused_by o.Add (Some j) (Some k) m n e at v w d = cc
+refused_by o.Add (Some j) None m n e at v w d = cc
+refused_by o.Add None (Some k) m n e at v w d = cc
+refused_by o.Add None None m n e at v w d = refl
+refused_by o.Subtract (Some j) (Some k) m n e at v w d = cc
+refused_by o.Subtract (Some j) None m n e at v w d = refl
+refused_by o.Subtract None (Some k) m n e at v w d = cc
+refused_by o.Subtract None None m n e at v w d = cc
+refused_by o.ShiftLeft (Some j) (Some k) m n e at v w d = cc
+refused_by o.ShiftLeft (Some j) None m n e at v w d = refl
+refused_by o.ShiftLeft None (Some k) m n e at v w d = refl
+refused_by o.ShiftLeft None None m n e at v w d = refl
+refused_by o.ShiftRight (Some j) (Some k) m n e at v w d = cc
+refused_by o.ShiftRight (Some j) None m n e at v w d = refl
+refused_by o.ShiftRight None (Some k) m n e at v w d = refl
+refused_by o.ShiftRight None None m n e at v w d = refl
+refused_by o.Less (Some j) (Some k) m n e at v w d = cc
+refused_by o.Less (Some j) None m n e at v w d = cc
+refused_by o.Less None (Some k) m n e at v w d = cc
+refused_by o.Less None None m n e at v w d = cc
+refused_by o.Greater (Some j) (Some k) m n e at v w d = cc
+refused_by o.Greater (Some j) None m n e at v w d = cc
+refused_by o.Greater None (Some k) m n e at v w d = cc
+refused_by o.Greater None None m n e at v w d = cc
+refused_by o.LessEqual (Some j) (Some k) m n e at v w d = cc
+refused_by o.LessEqual (Some j) None m n e at v w d = cc
+refused_by o.LessEqual None (Some k) m n e at v w d = cc
+refused_by o.LessEqual None None m n e at v w d = cc
+refused_by o.GreaterEqual (Some j) (Some k) m n e at v w d = cc
+refused_by o.GreaterEqual (Some j) None m n e at v w d = cc
+refused_by o.GreaterEqual None (Some k) m n e at v w d = cc
+refused_by o.GreaterEqual None None m n e at v w d = cc
+refused_by o.Equal (Some j) (Some k) m n e at v w d = cc
+refused_by o.Equal (Some j) None m n e at v w d = cc
+refused_by o.Equal None (Some k) m n e at v w d = cc
+refused_by o.Equal None None m n e at v w d = cc
+refused_by o.NotEqual (Some j) (Some k) m n e at v w d = cc
+refused_by o.NotEqual (Some j) None m n e at v w d = cc
+refused_by o.NotEqual None (Some k) m n e at v w d = cc
+refused_by o.NotEqual None None m n e at v w d = cc
+refused_by o.BitAnd (Some j) (Some k) m n e at v w d = cc
+refused_by o.BitAnd (Some j) None m n e at v w d = refl
+refused_by o.BitAnd None (Some k) m n e at v w d = refl
+refused_by o.BitAnd None None m n e at v w d = refl
+refused_by o.BitXor (Some j) (Some k) m n e at v w d = cc
+refused_by o.BitXor (Some j) None m n e at v w d = refl
+refused_by o.BitXor None (Some k) m n e at v w d = refl
+refused_by o.BitXor None None m n e at v w d = refl
+refused_by o.BitOr (Some j) (Some k) m n e at v w d = cc
+refused_by o.BitOr (Some j) None m n e at v w d = refl
+refused_by o.BitOr None (Some k) m n e at v w d = refl
+refused_by o.BitOr None None m n e at v w d = refl
+refused_by o.LogicalAnd (Some j) (Some k) m n e at v w d = refl
+refused_by o.LogicalAnd (Some j) None m n e at v w d = refl
+refused_by o.LogicalAnd None (Some k) m n e at v w d = refl
+refused_by o.LogicalAnd None None m n e at v w d = refl
+refused_by o.LogicalOr (Some j) (Some k) m n e at v w d = refl
+refused_by o.LogicalOr (Some j) None m n e at v w d = refl
+refused_by o.LogicalOr None (Some k) m n e at v w d = refl
+refused_by o.LogicalOr None None m n e at v w d = refl
+
+pub refuses : (b : BinaryOperator) (x y : OperandType) → operator_of b x y ≡ None → (at : ℕ) (v w : ℤ) (d : State)
+    → operated at b (operand_in x v) (operand_in y w) d ≡ refused d
+refuses b x y e at v w d = refused_by b x.kind y.kind x.element y.element e at v w d

@@ -47,8 +47,8 @@ use Rattle.core_tree.proofs.Equations as eq
 use Rattle.elaborate.specs.Means.{Numbering}
 use Rattle.elaborate.specs.Means.{as_done, as_found, as_value, Like, Does, IsValueOf, IsAddressOf, IsEffectOf}
 use Rattle.elaborate.specs.Types.{word_type, arithmetic, working}
-use Rattle.elaborate.specs.Means.{OfType}
-use Rattle.elaborate.proofs.Objects.{load_same, put_same}
+use Rattle.elaborate.specs.Means.{OfType, StoredAs}
+use Rattle.elaborate.proofs.Objects.{load_same, put_same, stored_of}
 use Rattle.elaborate.proofs.Numbers.{worked_same, plus_same, minus_same, complement_same, promoted_word, working_word}
 use Rattle.elaborate.proofs.States.{then_same, or_stop_same, branch_same}
 
@@ -514,7 +514,7 @@ module _ (numbering : Numbering) where
   from_address (Ok x) f g h = h x.0 x.1
   from_address (Err d) f g h = refl
 
-  pub simple_value : (at : ℕ) (t : ValueType) (e f : Expr) (p q : Part) → OfType q.typed.after.tables p.typed t →
+  pub simple_value : (at : ℕ) (t : ValueType) (e f : Expr) (p q : Part) → StoredAs q.typed.after.tables p.typed t →
       IsAddressOf numbering e p → IsValueOf numbering f q
       → IsValueOf numbering (expr.Store at (record { at = p.typed.at; stored = t; is_tested = not p.rooted }) e f)
       (forms.assignment at None p q)
@@ -538,13 +538,14 @@ module _ (numbering : Numbering) where
 
   -- `op=`, by an operator of the core that does what the operator does
   pub compound_value : (at : ℕ) (b : BinaryOperator) (operator : Operator) (t : ValueType) (e f : Expr) (p q : Part)
+      → forms.is_updated b p.typed (kind_in (value_type q.typed)) ≡ true
       → OfType p.typed.after.tables p.typed t → OfType q.typed.after.tables p.typed t → IsAddressOf numbering e p →
       IsValueOf numbering f q
       → ((v w : ℤ) (d : State) → memory.operated at operator v w (as_done d) ≡ as_found
       (c_operators.operated_on at b p.typed q.typed v w d))
       → IsValueOf numbering (expr.Update at operator (record { at = p.typed.at; stored = t; is_tested = not p.rooted })
       e f) (forms.assignment at (Some b) p q)
-  compound_value at b operator t e f p q read written h i same = by_worth _ _ _ _ _
+  compound_value at b operator t e f p q is read written h i same = by_worth _ _ _ _ _
       (eq.worth-Update at operator (access_of p t) e f) (record {
         size = λ l k like. ap₂ (λ a b. suc (a + b)) (h.size l k like) (i.size l k like);
         room = λ l k like. ap₂ (λ a b. a + b) (h.room l k like) (i.room l k like);
@@ -570,19 +571,22 @@ module _ (numbering : Numbering) where
             ∙ then_same (q.run l env (base + p.room l) d) _ _
             (λ w d. ap (λ o. o >>= (λ z. memory.put at (access_of p t) a z.0 z.1)) (same v w d)
             ∙ then_same (c_operators.operated_on at b p.typed q.typed v w d) _ _
-            (λ z d. put_same at q.typed.after.tables p.typed t p.rooted a z d written))));
+            (λ z d. put_same at q.typed.after.tables p.typed t p.rooted a z d
+            (stored_of q.typed.after.tables p.typed t written)))))
+            ∙ ap (λ b'. as_found (forms.compound_if b' at b p q l env base d)) (sym is);
       })
 
   -- `++` and `--`, by an operator of the core that does what the operator does with 1; `f` tells which value it has
   stepped_value : (at : ℕ) (b : BinaryOperator) (operator : Operator) (answer : Answered) (t : ValueType) (e : Expr)
       (p : Part) (f : ℤ × ℤ → ℤ)
+      → forms.is_updated b p.typed c_operators.one.kind ≡ true
       → OfType p.typed.after.tables p.typed t → IsAddressOf numbering e p →
       ((v w : ℤ) → core.either_value answer v w ≡ f (v, w))
       → ((v : ℤ) (d : State) → memory.operated at operator v (pos 1) (as_done d) ≡ as_found
       (c_operators.operated at b (c_operators.operand p.typed.after.tables p.typed v) c_operators.one d))
       → Does numbering (value (expr.Step at operator (access_of p t) answer e)) (λ l. suc (p.size l)) p.room
       (λ l env base d. c.◌>>=◌ (forms.stepped at b p l env base d) (λ v. Ok (f v.0, v.1)))
-  stepped_value at b operator answer t e p f typed h answers same = by_worth _ _ _ _ _
+  stepped_value at b operator answer t e p f is typed h answers same = by_worth _ _ _ _ _
       (eq.worth-Step at operator (access_of p t) answer e) (record {
         size = λ l k like. ap suc (h.size l k like);
         room = h.room;
@@ -607,11 +611,13 @@ module _ (numbering : Numbering) where
             ∙ then_same (c_operators.operated at b (c_operators.operand p.typed.after.tables p.typed v) c_operators.one
             d) _ _
             (λ w d. ap (λ o. o >>= (λ z. found (core.either_value answer v z.0) z.1))
-            (put_same at p.typed.after.tables p.typed t p.rooted a w d typed)
+            (put_same at p.typed.after.tables p.typed t p.rooted a w d
+            (stored_of p.typed.after.tables p.typed t typed))
             ∙ then_same (objects.put at p.typed.after.tables p.typed p.rooted a w d) (λ z. Ok (f (v, z.0), z.1))
             (λ z. found (core.either_value answer v z.0) z.1)
             (λ z d. ap (λ y. as_found (Ok (y, d))) (answers v z)))))
-            ∙ ap as_found (sym (stepped_then (p.reach l env base d)));
+            ∙ ap as_found (sym (stepped_then (p.reach l env base d)))
+            ∙ ap (λ b'. as_found (c.◌>>=◌ (forms.steps_if b' at b p l env base d) (λ v. Ok (f v.0, v.1)))) (sym is);
       }) where
         -- one sequence, however it is grouped
         last : (v : ℤ) (o : c.Outcome ℤ) → c.◌>>=◌ (c.◌>>=◌ o (λ z. Ok ((v, z.0), z.1))) (λ v. Ok (f v.0, v.1)) ≡
@@ -655,22 +661,23 @@ module _ (numbering : Numbering) where
         stepped_then (Err d) = refl
 
   -- the value before
-  pub postfix_value : (at : ℕ) (b : BinaryOperator) (operator : Operator) (t : ValueType) (e : Expr) (p : Part) →
-      OfType p.typed.after.tables p.typed t → IsAddressOf numbering e p
+  pub postfix_value : (at : ℕ) (b : BinaryOperator) (operator : Operator) (t : ValueType) (e : Expr) (p : Part)
+      → forms.is_updated b p.typed c_operators.one.kind ≡ true → OfType p.typed.after.tables p.typed t → IsAddressOf numbering e p
       → ((v : ℤ) (d : State) → memory.operated at operator v (pos 1) (as_done d) ≡ as_found
       (c_operators.operated at b (c_operators.operand p.typed.after.tables p.typed v) c_operators.one d))
       → IsValueOf numbering (expr.Step at operator (access_of p t) answered.Before e) (forms.postfix_by at b p)
-  postfix_value at b operator t e p typed h same = stepped_value at b operator answered.Before t e p (λ v. v.0) typed
+  postfix_value at b operator t e p is typed h same = stepped_value at b operator answered.Before t e p (λ v. v.0) is typed
       h (λ v w. refl) same
 
   -- the value that was stored
   pub prefix_value : (at : ℕ) (u : UnaryOperator) (b : BinaryOperator) (operator : Operator) (t : ValueType)
-      (e : Expr) (p : Part) → OfType p.typed.after.tables p.typed t → IsAddressOf numbering e p
+      (e : Expr) (p : Part) → forms.is_updated b p.typed c_operators.one.kind ≡ true
+      → OfType p.typed.after.tables p.typed t → IsAddressOf numbering e p
       → ((v : ℤ) (d : State) → memory.operated at operator v (pos 1) (as_done d) ≡ as_found
       (c_operators.operated at b (c_operators.operand p.typed.after.tables p.typed v) c_operators.one d))
       → IsValueOf numbering (expr.Step at operator (access_of p t) answered.Stored e) (forms.prefix at u b p)
-  prefix_value at u b operator t e p typed h same = stepped_value at b operator answered.Stored t e p (λ v. v.1)
-      typed h (λ v w. refl) same
+  prefix_value at u b operator t e p is typed h same = stepped_value at b operator answered.Stored t e p (λ v. v.1)
+      is typed h (λ v w. refl) same
 
   -- ---- lvalues that aren't read (C99 6.3.2.1p3, p4, 6.3.2.2)
 

@@ -21,7 +21,7 @@ use Rattle.core_tree.specs.Memory.{stored}
 use Rattle.core_tree.specs.Programs.{Body, Machine, turns_in}
 use Rattle.c_means.specs.Rules.{Rules, BodyCall, PreludeCall, identity_index}
 use Rattle.core_tree.specs.declared.code.Code.{Code}
-use Rattle.c_means.specs.Expressions.{Passed}
+use Rattle.c_means.specs.Expressions.{Passed, nowhere}
 use Rattle.core_tree.specs.declared.expr.Callee.{Callee}
 use Rattle.core_tree.specs.Callees.{callee_size, callee_room, called, body_call}
 use Rattle.core_tree.specs.declared.expr.Expr.{Expr}
@@ -113,6 +113,10 @@ IsAddressOf numbering e p = Does numbering (value e) p.size p.room (λ l env bas
 abbrev pub IsEffectOf : Numbering → Expr → Part → Type 0
 IsEffectOf numbering e p = Does numbering (value e) p.size p.room p.effect
 
+-- where a part has no address, it is evaluated, and 0 stands for one
+pub record HasNoAddress (p : Part) : Type 0 where
+  pub reaches : (l : c.Level) (env : Env) (base : ℕ) (d : State) → p.reach l env base d ≡ nowhere p.run l env base d
+
 -- ---- statements
 
 pub record Acts (numbering : Numbering) (x : Item Output) (i : runs.Item) : Type 0 where
@@ -137,6 +141,12 @@ pub record SameType (c : Class) (n : ℕ) (t : ValueType) : Type 0 where
   pub bytes : (z : ℤ) → bytes_of_value t z ≡ values.bytes_of_value c z
   pub converted : (z : ℤ) → converted_to t z ≡ values.converted_to c z
 
+-- they are stored as those of a type of the core
+pub record StoresAs (c : Class) (n : ℕ) (t : ValueType) : Type 0 where
+  pub size : size_of t ≡ n
+  pub bytes : (z : ℤ) → bytes_of_value t z ≡ values.bytes_of_value c z
+  pub converted : (z : ℤ) → converted_to t z ≡ values.converted_to c z
+
 -- what an expression's type says to the tables is a type of the core
 pub record OfType (tables : Tables) (x : Typed) (t : ValueType) : Type 0 where
   pub class : Class
@@ -144,6 +154,14 @@ pub record OfType (tables : Tables) (x : Typed) (t : ValueType) : Type 0 where
   pub is_class : values.class_in (type_of x) ≡ class
   pub has_bytes : values.bytes_of tables (type_of x) ≡ bytes
   pub same : SameType class bytes t
+
+-- and as one it is stored
+pub record StoredAs (tables : Tables) (x : Typed) (t : ValueType) : Type 0 where
+  pub class : Class
+  pub bytes : ℕ
+  pub is_class : values.class_in (type_of x) ≡ class
+  pub has_bytes : values.bytes_of tables (type_of x) ≡ bytes
+  pub same : StoresAs class bytes t
 
 -- ---- calls
 

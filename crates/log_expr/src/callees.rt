@@ -20,7 +20,7 @@ pub struct Walk<'a, L, K> {
 }
 
 /// Whether a log call has enough arguments for its format.
-fn is_served(pieces: &Pieces, before: u32, types: &[WordType], count: usize) -> bool
+fn is_served(pieces: &Pieces, before: u64, types: &[WordType], count: usize) -> bool
     ensures { result ≡ true → (length (kinds pieces.now) + before ≤ length types.now)
         × (length (kinds pieces.now) + before ≤ count) }
 {

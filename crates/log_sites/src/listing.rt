@@ -49,8 +49,8 @@ fn sites_of(alloc: Global, marks: Items<Mark>) -> Result<SiteList, AllocError>
     Ok(sites)
 }
 
-/// The log calls in the functions of a program's source that are reached, by the offset of the callee's name: where each
-/// stands, its format and the variables that it shows. It fails for want of memory alone.
+/// The log calls in the functions of a program's source that are reached, by the offset of the callee's name: where
+/// each stands, its format and the variables that it shows. It fails for want of memory alone.
 pub fn sites(alloc: Global, core: &Core) -> Result<SiteList, SiteFault>
     ensures { IfOk result (λ sites. spec.AreSitesOf core.now sites) }
 {

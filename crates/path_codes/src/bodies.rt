@@ -99,7 +99,8 @@ fn pass_one(
     Ok(set)
 }
 
-/// The arguments are converted and stored in the parameters' objects, the first of which has this place behind the base.
+/// The arguments are converted and stored in the parameters' objects, the first of which has this place behind the
+/// base.
 fn pass_all(
     alloc: Global,
     bank: &mut Bank,
@@ -176,8 +177,8 @@ fn walk_function<C: Calls>(
     Ok(all)
 }
 
-/// The states that a function's body makes of one in which the function begins, from a memory and a position in the log:
-/// its parameters' objects have the first places, its room's, and the arguments are stored there.
+/// The states that a function's body makes of one in which the function begins, from a memory and a position in the
+/// log: its parameters' objects have the first places, its room's, and the arguments are stored there.
 pub fn walk_body<C: Calls>(
     alloc: Global,
     scene: &C,

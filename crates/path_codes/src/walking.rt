@@ -122,8 +122,8 @@ impl<
     }
 }
 
-/// The states behind code, from these, in a function whose places behind the base are so many and whose code has at most
-/// so many levels.
+/// The states behind code, from these, in a function whose places behind the base are so many and whose code has at
+/// most so many levels.
 pub fn walk_code<C: Calls>(
     alloc: Global,
     scene: &C,

@@ -33,7 +33,7 @@ pub(crate) fn speak(
 }
 
 /// The numbers behind so many.
-pub(crate) fn behind(numbers: &[Number], count: u32) -> &[Number]
+pub(crate) fn behind(numbers: &[Number], count: u64) -> &[Number]
     ensures { result.now ≡ drop count numbers.now }
 {
     let count = count as usize;

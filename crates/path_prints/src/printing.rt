@@ -121,7 +121,7 @@ fn print_format(
     frame: &[Placed],
     room: u64,
     pieces: &[Piece],
-    before: u32,
+    before: u64,
     types: &[WordType],
     watched: &[Watched],
     site: CallSite,

@@ -333,8 +333,8 @@ pub fn each(
     Ok(walked)
 }
 
-/// The states that go on do so by a leaf, and those that end there come to the others that have ended. It fails for want
-/// of memory alone.
+/// The states that go on do so by a leaf, and those that end there come to the others that have ended. It fails for
+/// want of memory alone.
 pub fn then_each(
     alloc: Global,
     bank: &mut Bank,

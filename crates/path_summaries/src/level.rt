@@ -23,9 +23,9 @@ use std::alloc::Global;
 use summary_compose::compose;
 use term_bank::Bank;
 
-/// Where a function of a program is walked: the program, the log, the bounds, the program's end table along the log, the
-/// summaries with fewer levels left, the rooms of the functions that are called, how many levels of calls are left below
-/// the function, and the function.
+/// Where a function of a program is walked: the program, the log, the bounds, the program's end table along the log,
+/// the summaries with fewer levels left, the rooms of the functions that are called, how many levels of calls are left
+/// below the function, and the function.
 #[derive(Clone, Copy)]
 pub struct Level<'a> {
     pub core: &'a Core,

@@ -17,8 +17,8 @@ use plain_data::{Bounds, Items};
 use std::alloc::{AllocError, Global};
 use term_bank::Bank;
 
-/// All functions of a program, walked along a log with so many levels of calls left below them: the summaries with fewer
-/// levels left, and the rooms of the functions that are called.
+/// All functions of a program, walked along a log with so many levels of calls left below them: the summaries with
+/// fewer levels left, and the rooms of the functions that are called.
 #[derive(Clone, Copy)]
 pub struct Floor<'a> {
     pub core: &'a Core,
@@ -259,9 +259,9 @@ fn level_above(
     Ok(level)
 }
 
-/// The summaries of all functions of a program along a log, as they are walked with every level of calls left: each key
-/// of the table of ends has one, which stands for it, and is walked and counted once. It fails for want of memory, where
-/// the walk can't do a step yet, and where 64 bits don't count the places or the walks.
+/// The summaries of all functions of a program along a log, as they are walked with every level of calls left: each
+/// key of the table of ends has one, which stands for it, and is walked and counted once. It fails for want of memory,
+/// where the walk can't do a step yet, and where 64 bits don't count the places or the walks.
 pub fn summarize(
     alloc: Global,
     core: &Core,

@@ -96,11 +96,11 @@ impl Query {
     /// Whether some run fits and is as it is asked for, by at most so many conflicts.
     ///
     /// `World` has a world whose run is so, `Refuted` a refutation of the clauses of `claim_formula`, and then no
-    /// world's run is so; `Spent` comes where so many conflicts were met, with the clauses learnt from them behind those that
-    /// earlier questions learnt: of questions on facts all steps are kept. Where the bits alone say that no run that fits is so,
-    /// nothing is searched for. A question on a value has a solver of its own.
-    /// It fails for want of memory, and `Unwalked` where what a print sees of the watched variable isn't walked yet; it may
-    /// be asked again whatever it answers.
+    /// world's run is so; `Spent` comes where so many conflicts were met, with the clauses learnt from them behind
+    /// those that earlier questions learnt: of questions on facts all steps are kept. Where the bits alone say that no
+    /// run that fits is so, nothing is searched for. A question on a value has a solver of its own. It fails for want
+    /// of memory, and `Unwalked` where what a print sees of the watched variable isn't walked yet; it may be asked
+    /// again whatever it answers.
     pub fn ask(&mut self, alloc: Global, target: Target, conflicts: u32) -> Result<Reply, AskFault>
         requires whole { IsWhole self.old }
         requires target { IsAbout self.old target }

@@ -27,8 +27,8 @@ impl Query {
         }
     }
 
-    /// Makes the literal of a watched variable and a value, which hasn't been made, and answers its index. Where it fails
-    /// for want of memory the bank is lost, and so each other literal fails that isn't made yet.
+    /// Makes the literal of a watched variable and a value, which hasn't been made, and answers its index. Where it
+    /// fails for want of memory the bank is lost, and so each other literal fails that isn't made yet.
     fn make(&mut self, alloc: Global, watch: u32, value: &i128) -> Result<usize, AskFault>
         requires whole { IsWhole self.old }
         requires watch { IsWatched self.old watch }

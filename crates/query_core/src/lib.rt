@@ -1,5 +1,5 @@
-//! Questions on the runs of a program that fit a log: on facts, asked of one solver over the clauses of its formula, and on
-//! what watched variables were, each asked of a solver of its own over these clauses and those of its literal.
+//! Questions on the runs of a program that fit a log: on facts, asked of one solver over the clauses of its formula,
+//! and on what watched variables were, each asked of a solver of its own over these clauses and those of its literal.
 #![tactic(auto)]
 
 mod asking;

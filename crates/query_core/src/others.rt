@@ -58,8 +58,8 @@ fn watch_numbered(watches: &[Watch], number: u32) -> Watch
     watches[number as usize - 1]
 }
 
-/// The literal of a watched variable and a value, none where what it stands for isn't plain, and the bank, in which it is a
-/// term.
+/// The literal of a watched variable and a value, none where what it stands for isn't plain, and the bank, in which it
+/// is a term.
 #[derive(Drop)]
 pub(crate) struct Made {
     pub(crate) other: Option<Other>,

@@ -134,8 +134,8 @@ impl Query {
         Ok(formula)
     }
 
-    /// The clauses that say that a run fits, and behind them those of the literal of a watched variable and a value and the
-    /// one that says that it is true.
+    /// The clauses that say that a run fits, and behind them those of the literal of a watched variable and a value
+    /// and the one that says that it is true.
     fn claim_of_other(
         &self,
         alloc: Global,
@@ -162,9 +162,9 @@ impl Query {
 
     /// The clauses that say that a run fits and is as it is asked for: the query's own; of a question on a value those
     /// that define its literal; and one more at the end, with one literal or, where no run that fits is so by the bits
-    /// alone, with none. Where each run that fits is so by the bits alone there is no clause more at the end. A refutation
-    /// that the query answers to this target is one of exactly these clauses, which stay the same from the first question
-    /// on. It fails as `ask` does.
+    /// alone, with none. Where each run that fits is so by the bits alone there is no clause more at the end. A
+    /// refutation that the query answers to this target is one of exactly these clauses, which stay the same from the
+    /// first question on. It fails as `ask` does.
     pub fn claim_formula(&mut self, alloc: Global, target: Target) -> Result<Formula, AskFault>
         requires whole { IsWhole self.old }
         requires target { IsAbout self.old target }

@@ -40,8 +40,8 @@ fn search(
     }
 }
 
-/// What the solver answers where a known bit is to be true, whose clause would have this number. Where the bit is false,
-/// nothing is searched for.
+/// What the solver answers where a known bit is to be true, whose clause would have this number. Where the bit is
+/// false, nothing is searched for.
 fn seek_known(
     alloc: Global,
     solver: &mut Solver,
@@ -66,8 +66,8 @@ fn seek_known(
     Ok(Reply::Refuted(refutation))
 }
 
-/// What the solver answers where a bit is to be true, whose clause would have this number. Where the bit is known not to
-/// be true, nothing is searched for.
+/// What the solver answers where a bit is to be true, whose clause would have this number. Where the bit is known not
+/// to be true, nothing is searched for.
 pub(crate) fn seek(
     alloc: Global,
     solver: &mut Solver,

@@ -74,7 +74,8 @@ pub(crate) struct Heap {
 }
 
 impl Heap {
-    /// An object of so many bytes at this place, or null where the place says so; more than the bound leaves the bounds.
+    /// An object of so many bytes at this place, or null where the place says so; more than the bound leaves the
+    /// bounds.
     fn object(
         self,
         count: u128,

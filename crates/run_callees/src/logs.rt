@@ -43,7 +43,7 @@ pub(crate) struct LogCall<'a> {
     pub(crate) at: u32,
     pub(crate) to: ValueType,
     pub(crate) pieces: &'a Pieces,
-    pub(crate) before: u32,
+    pub(crate) before: u64,
     pub(crate) types: &'a [WordType],
     pub(crate) watched: &'a [Watched],
 }

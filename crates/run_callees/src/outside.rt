@@ -1,4 +1,5 @@
-//! Functions outside (C99 5.1.2.3): the world gives their answers, and they write nothing but what a buffer is filled with.
+//! Functions outside (C99 5.1.2.3): the world gives their answers, and they write nothing but what a buffer is filled
+//! with.
 ghost use Rattle.std.specs.Prelude.{◌≡◌, ◌<◌, ◌+◌, ◌^◌, map, true, false, OnOk, IfOk};
 ghost use Rattle.c_memory.specs.Memories.{Holds, initial_bytes};
 ghost use Rattle.c_machine.specs.Worth.{worth};
@@ -32,8 +33,8 @@ fn make(place: u64, size: u64, m: &mut Machine) -> Result<(), AllocError>
     Ok(())
 }
 
-/// A call of a function outside: the bounds on the bytes of a heap object and of a string from outside, the token of the
-/// callee's name, the type of the call, and what is answered.
+/// A call of a function outside: the bounds on the bytes of a heap object and of a string from outside, the token of
+/// the callee's name, the type of the call, and what is answered.
 #[derive(Clone, Copy)]
 pub(crate) struct Outside {
     pub(crate) alloc: Global,
@@ -211,7 +212,8 @@ impl Outside {
         Ok(())
     }
 
-    /// The whole call, whose first place this is: what it fills, and what it answers. It fails for want of memory alone.
+    /// The whole call, whose first place this is: what it fills, and what it answers. It fails for want of memory
+    /// alone.
     pub(crate) fn call(
         self,
         fill: &Option<Fill>,

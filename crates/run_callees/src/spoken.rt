@@ -29,7 +29,7 @@ pub(crate) fn behind_first<'a>(
 /// What stands behind so many arguments.
 #[tactic(auto, using(crate::proofs::Dropping::behind_values, crate::proofs::Dropping::few_types, crate::proofs::Dropping::few_values))]
 pub(crate) fn behind<'a>(
-    count: u32,
+    count: u64,
     types: &'a [WordType],
     values: &'a [Value],
 ) -> (&'a [WordType], &'a [Value])

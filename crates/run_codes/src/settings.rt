@@ -96,8 +96,8 @@ impl<
         }
     }
 
-    /// An automatic object where its declaration is reached, by the declaration's offset: what stands in braces sets the
-    /// whole object to 0 first.
+    /// An automatic object where its declaration is reached, by the declaration's offset: what stands in braces sets
+    /// the whole object to 0 first.
     pub(crate) fn declaration(
         &self,
         at: u32,

@@ -52,7 +52,8 @@ impl<
         }
     }
 
-    /// `return` with a value (C99 6.8.6.4p3). A structure, which no accepted program gives so, counts as want of memory.
+    /// `return` with a value (C99 6.8.6.4p3). A structure, which no accepted program gives so, counts as want of
+    /// memory.
     fn value_return(
         &self,
         e: &Expr,

@@ -32,8 +32,8 @@ fn array_size(count: u32) -> u64
     8 * (u64::from(count) + 1)
 }
 
-/// The bounds on arguments: how many bytes a string from outside has but for its last, and how many arguments there are at
-/// most.
+/// The bounds on arguments: how many bytes a string from outside has but for its last, and how many arguments there
+/// are at most.
 #[derive(Clone, Copy)]
 pub struct Arguments {
     pub outside: u32,
@@ -111,8 +111,8 @@ impl Arguments {
         self.pointers(next, place + 1, left - 1, m)
     }
 
-    /// Makes the strings of the arguments behind the array of the pointers to them, whose last ones are null. It fails for
-    /// want of memory alone.
+    /// Makes the strings of the arguments behind the array of the pointers to them, whose last ones are null. It fails
+    /// for want of memory alone.
     pub fn make(&self, place: u64, m: &mut Machine) -> Result<(), AllocError>
         requires { 0 < self.now.most }
         ensures world { m.new.world ≡ m.old.world }

@@ -89,8 +89,8 @@ impl<
         self.arguments_behind(items, Items::new(self.alloc), base, m)
     }
 
-    /// The event of a call, and what the callee does with the values of its arguments, from the first place that is given
-    /// to it.
+    /// The event of a call, and what the callee does with the values of its arguments, from the first place that is
+    /// given to it.
     fn acting(
         &self,
         at: u32,

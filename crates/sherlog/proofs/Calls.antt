@@ -171,19 +171,13 @@ pub record Refusals (asked : Asked) (before after : ShelfState) (old new err tol
   pub memory_line : result ≡ 12 → Told err told memory_line
   pub decided : AllIsWell asked before after old new → (result ≡ 6 → ⊥) × (result ≡ 7 → ⊥)
   pub no_program : IsNoProgram asked before after → (result ≡ 3) ⊎ (result ≡ 12)
-  pub complete : IsAnswerable asked before after old new → (result ≡ 12) ⊎ ((result ≡ 3) × (asked.command ≢ Diagnose))
+  pub complete : IsAnswerable asked before after old new → result ≡ 12
 
 by_status : (result status : ℕ) → result ≡ status → (status ≡ 3) ⊎ (status ≡ 12) → (result ≡ 3) ⊎ (result ≡ 12)
 by_status result status e (inl f) = inl (e ∙ f)
 by_status result status e (inr f) = inr (e ∙ f)
 
-by_end : {P : Type 0} (result status : ℕ) → result ≡ status → (status ≡ 12) ⊎ ((status ≡ 3) × P)
-    → (result ≡ 12) ⊎ ((result ≡ 3) × P)
-by_end result status e (inl f) = inl (e ∙ f)
-by_end result status e (inr f) = inr (e ∙ f.0, f.1)
-
-pub whole : {P : Type 0} (result : ℕ) → (result ≡ 12) ⊎ ((result ≡ 3) × P)
-    → IsAnswer result ⊎ ((result ≡ 12) ⊎ ((result ≡ 3) × P))
+pub whole : (result : ℕ) → result ≡ 12 → IsAnswer result ⊎ (result ≡ 12)
 whole result h = inr h
 
 not_memory : (result : ℕ) → result ≡ 12 → IsRefusal result → ⊥
@@ -233,7 +227,7 @@ told_of asked before after old new err told r result h (inl t) = record {
       let p = well_status asked before after old new r well h in
       (λ e. p.0 (sym e ∙ t.is_status), λ e. p.1 (sym e ∙ t.is_status));
   no_program = λ u. by_status result (status_of r) t.is_status (none_status asked before after old new r u h);
-  complete = λ a. by_end result (status_of r) t.is_status (answer_status asked before after old new a r h);
+  complete = λ a. t.is_status ∙ answer_status asked before after old new a r h;
 }
   where
     fault_memory : Fault ≡ Memory → ⊥
@@ -245,7 +239,7 @@ told_of asked before after old new err told r result h (inr t) = record {
   memory_line = λ e. t.1.told;
   decided = λ well. (λ e. not_six result t.1.is_status e, λ e. not_seven result t.1.is_status e);
   no_program = λ u. inr t.1.is_status;
-  complete = λ a. inl t.1.is_status;
+  complete = λ a. t.1.is_status;
 }
   where
     not_six : (n : ℕ) → n ≡ 12 → n ≡ 6 → ⊥

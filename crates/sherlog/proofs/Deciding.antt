@@ -1,7 +1,6 @@
 -- Where files are told, what they hold decides.
 use Rattle.std.proofs.Common.{◌≡◌, ◌≤◌, ◌<◌, ◌+◌, ◌*◌, ◌∙◌, ◌⊎◌, inl, inr, ℕ, List, [], Bool, true, false, Option, Some, None, Result, Ok, Err, length}
 use Rattle.std.proofs.Common.{arith, ap, subst, refl, sym}
-use Rattle.std.specs.Prelude.{◌≢◌}
 use Rattle.plain_data.specs.declared.bounds.Bounds.{Bounds}
 use Rattle.plain_data.specs.Worlds.{WorldTables}
 use Rattle.acceptance.specs.Refusals.{IsFirstBroken, judged_in}
@@ -273,14 +272,12 @@ module _ (asked : Asked) (before after : ShelfState) (old new : SinkState) (a : 
       let spelled = h.read.ok h.world refl in
       read_not fault h.world (reads.spelled h.world spelled.0 (same ∙ spelled.1) (not_memory fault line is))
 
-  not_served : (xs : List External) → xs ≡ a.externals → (asked.command ≡ Diagnose → program_of xs ≡ None)
-      → asked.command ≢ Diagnose
-  not_served xs same other is =
+  not_served : (xs : List External) → xs ≡ a.externals → asked.command ≡ Diagnose → program_of xs ≡ None → ⊥
+  not_served xs same is other =
       subst (λ (c : Command). IsServed c a.externals) is a.served
-      (subst (λ (ys : List External). program_of ys ≡ None) same (other is))
+      (subst (λ (ys : List External). program_of ys ≡ None) same other)
 
-  pub answer_status : (r : Refusal) → Refused asked before after old new r
-      → (status_of r ≡ 12) ⊎ ((status_of r ≡ 3) × (asked.command ≢ Diagnose))
+  pub answer_status : (r : Refusal) → Refused asked before after old new r → status_of r ≡ 12
   answer_status (BadConfig f) h = absurd (h.0.named a.plain)
   answer_status (BadSource f spot) h =
       absurd (no_fault asked.source a.source a.externals a.program.is_derived f h.0.has_fault.at
@@ -292,11 +289,7 @@ module _ (asked : Asked) (before after : ShelfState) (old new : SinkState) (a : 
   answer_status (Broken rule spot) h =
       absurd (rw (kept_for h.0.config h.0.externals h.0.read).kept at h.0.refused.first.first.among)
   answer_status NotYetRead h =
-      inr (
-        refl,
-        not_served h.0.externals
-            (externals_are h.0.config h.0.externals h.0.accepted.read) h.0.other,
-      )
+      absurd (not_served h.0.externals (externals_are h.0.config h.0.externals h.0.accepted.read) h.0.command h.0.other)
   answer_status (TooManyLines count) h =
       let l = logged h.0.logged in
       let same = same_bytes before.files l.at_hand.files asked.second h.0.log l.log h.0.input.held l.at_hand.told l.at_hand.held in
@@ -307,4 +300,4 @@ module _ (asked : Asked) (before after : ShelfState) (old new : SinkState) (a : 
   answer_status Fault (inl h) = absurd (reached_not h.0.0 h.0.1.0 (inl h.0.1.1))
   answer_status Fault (inr broken) = absurd (a.wrote broken.fault)
   answer_status (TooLong file) h = absurd (reached_not file h.0.0 (inr h.0.1))
-  answer_status Memory h = inl refl
+  answer_status Memory h = refl

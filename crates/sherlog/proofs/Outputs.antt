@@ -1,6 +1,5 @@
 -- From what was got and read to the output of a command, and why there is none.
 use Rattle.std.proofs.Common.{◌≡◌, ◌≤◌, ◌<◌, ◌+◌, ◌*◌, ◌∙◌, ℕ, true, List, [], Option, Some, None, Ok, Err, min, arith, ap, subst, sym, refl, inl, inr}
-use Rattle.std.specs.Prelude.{◌≢◌}
 use Rattle.plain_data.specs.declared.bounds.Bounds.{Bounds}
 use Rattle.plain_data.specs.declared.run.Run.{Run}
 use Rattle.plain_data.specs.Worlds.{WorldTables}
@@ -62,35 +61,29 @@ still_accepted asked before mid x h kept =
 
 rule_cause : (asked : Asked) (before after : ShelfState) (x : Parsed) (r : Refusal) → IsParsed asked before.files x
     → IsRefusedFor asked.source x.bytes x.unit.externals x.config.profile r
-    → (r ≡ NotYetRead → asked.command ≡ Diagnose → program_of x.unit.externals ≡ None) → Cause asked before after r
-rule_cause asked before after x NoMain h refused other =
+    → Cause asked before after r
+rule_cause asked before after x NoMain h refused =
     record { config = x.config; externals = x.unit.externals; read = read_of asked before.files x h; refused = refused }
-rule_cause asked before after x (Broken rule spot) h refused other =
+rule_cause asked before after x (Broken rule spot) h refused =
     record { config = x.config; externals = x.unit.externals; read = read_of asked before.files x h; refused = refused }
-rule_cause asked before after x NotYetRead h refused other = record {
-  config = x.config;
-  externals = x.unit.externals;
-  accepted = accepted_of asked before.files x h refused;
-  other = other refl;
-}
-rule_cause asked before after x Memory h refused other = tt
-rule_cause asked before after x (BadConfig fault) h refused other = absurd refused
-rule_cause asked before after x (BadSource fault spot) h refused other = absurd refused
-rule_cause asked before after x (TooManyLines count) h refused other = absurd refused
-rule_cause asked before after x TooLarge h refused other = absurd refused
-rule_cause asked before after x (BadWorld line) h refused other = absurd refused
-rule_cause asked before after x Fault h refused other = absurd refused
-rule_cause asked before after x (TooLong file) h refused other = absurd refused
+rule_cause asked before after x NotYetRead h refused = absurd refused
+rule_cause asked before after x Memory h refused = tt
+rule_cause asked before after x (BadConfig fault) h refused = absurd refused
+rule_cause asked before after x (BadSource fault spot) h refused = absurd refused
+rule_cause asked before after x (TooManyLines count) h refused = absurd refused
+rule_cause asked before after x TooLarge h refused = absurd refused
+rule_cause asked before after x (BadWorld line) h refused = absurd refused
+rule_cause asked before after x Fault h refused = absurd refused
+rule_cause asked before after x (TooLong file) h refused = absurd refused
 
 pub not_formed : (asked : Asked) (before after : ShelfState) (x : Parsed) (r told : Refusal)
     → Parses asked before after (Ok x) → IsRefusedFor asked.source x.bytes x.unit.externals x.config.profile r
-    → (r ≡ NotYetRead → asked.command ≡ Diagnose → program_of x.unit.externals ≡ None) → told ≡ r
-    → Forms asked before after (Err told)
-not_formed asked before after x r told h refused other is =
+    → told ≡ r → Forms asked before after (Err told)
+not_formed asked before after x r told h refused is =
     rw is (record {
       files = h.files;
       formed = tt;
-      refused = rule_cause asked before after x r h.parsed refused other;
+      refused = rule_cause asked before after x r h.parsed refused;
     })
 
 -- ---- `diagnose`
@@ -173,32 +166,34 @@ too_large_to_diagnose asked before mid after x p bounds log command h of in_forc
   });
 }
 
-unserved_cause : (asked : Asked) (before after : ShelfState) (x : Parsed) (r : Refusal) → IsParsed asked before.files x
-    → IsAcceptedSource x.unit.externals x.config.profile → IsNotServed x.unit.externals r → Cause asked before after r
-unserved_cause asked before after x NotYetRead h kept other = record {
+unserved_cause : (asked : Asked) (before after : ShelfState) (x : Parsed) (r : Refusal) → asked.command ≡ Diagnose
+    → IsParsed asked before.files x → IsAcceptedSource x.unit.externals x.config.profile → IsNotServed x.unit.externals r → Cause asked before after r
+unserved_cause asked before after x NotYetRead command h kept other = record {
   config = x.config;
   externals = x.unit.externals;
   accepted = accepted_of asked before.files x h kept;
-  other = λ command. other;
+  command = command;
+  other = other;
 }
-unserved_cause asked before after x Memory h kept other = tt
-unserved_cause asked before after x NoMain h kept other = absurd other
-unserved_cause asked before after x (Broken rule spot) h kept other = absurd other
-unserved_cause asked before after x (BadConfig fault) h kept other = absurd other
-unserved_cause asked before after x (BadSource fault spot) h kept other = absurd other
-unserved_cause asked before after x (TooManyLines count) h kept other = absurd other
-unserved_cause asked before after x TooLarge h kept other = absurd other
-unserved_cause asked before after x (BadWorld line) h kept other = absurd other
-unserved_cause asked before after x Fault h kept other = absurd other
-unserved_cause asked before after x (TooLong file) h kept other = absurd other
+unserved_cause asked before after x Memory command h kept other = tt
+unserved_cause asked before after x NoMain command h kept other = absurd other
+unserved_cause asked before after x (Broken rule spot) command h kept other = absurd other
+unserved_cause asked before after x (BadConfig fault) command h kept other = absurd other
+unserved_cause asked before after x (BadSource fault spot) command h kept other = absurd other
+unserved_cause asked before after x (TooManyLines count) command h kept other = absurd other
+unserved_cause asked before after x TooLarge command h kept other = absurd other
+unserved_cause asked before after x (BadWorld line) command h kept other = absurd other
+unserved_cause asked before after x Fault command h kept other = absurd other
+unserved_cause asked before after x (TooLong file) command h kept other = absurd other
 
 pub not_served : (asked : Asked) (before mid after : ShelfState) (x : Parsed) (p : Accepted) (log : List ℕ) (r : Refusal)
-    → Parses asked before mid (Ok x) → IsOf p x → GetsLog asked x.config.prefix x.config.drop_unmatched mid after (Ok log)
-    → IsNotServed x.unit.externals r → Forms asked before after (Err r)
-not_served asked before mid after x p log r h of got other = record {
+    → asked.command ≡ Diagnose → Parses asked before mid (Ok x) → IsOf p x
+    → GetsLog asked x.config.prefix x.config.drop_unmatched mid after (Ok log) → IsNotServed x.unit.externals r
+    → Forms asked before after (Err r)
+not_served asked before mid after x p log r command h of got other = record {
   files = got.files ∙ h.files;
   formed = tt;
-  refused = unserved_cause asked before after x r h.parsed (kept_of p x of) other;
+  refused = unserved_cause asked before after x r command h.parsed (kept_of p x of) other;
 }
 
 -- ---- `replay`
@@ -294,12 +289,6 @@ listing_of asked files x sites h are = record {
   are = are;
 }
 
-pub not_listed : (asked : Asked) (before after : ShelfState) (x : Parsed) (r told : Refusal) → asked.command ≢ Diagnose
-    → Parses asked before after (Ok x) → Lists asked.source x.bytes x.unit.externals x.config.profile (Err r) → told ≡ r
-    → Forms asked before after (Err told)
-not_listed asked before after x r told apart h list is =
-    not_formed asked before after x r told h list.refused (λ e command. absurd (apart command)) is
-
 pub listing_formed : (asked : Asked) (before after : ShelfState) (x : Parsed) (sites : List Site) (output : Output)
     → asked.command ≡ Sites → Parses asked before after (Ok x)
     → Lists asked.source x.bytes x.unit.externals x.config.profile (Ok sites)
@@ -354,13 +343,3 @@ broke_off asked before after old new err kept output h fault written = record {
   refused = inr (record { output = output; just = h.formed; fault = fault; written = written });
   untold = refl;
 }
-
--- what is replayed, listed or matched isn't diagnosed
-pub not_both : (c : Command) → c ≡ Replay → c ≡ Diagnose → ⊥
-not_both c e f = cc
-
-pub not_sites : (c : Command) → c ≡ Sites → c ≢ Diagnose
-not_sites c e f = cc
-
-pub not_match : (c : Command) → c ≡ Match → c ≢ Diagnose
-not_match c e f = cc

@@ -81,12 +81,13 @@ pub record BreaksRules (asked : Asked) (files : Option Files) (refusal : Refusal
   pub read : IsRead asked files config externals
   pub refused : IsRefusedFor asked.source read.source externals config.profile refusal
 
--- the source is accepted, and not served; `diagnose` serves each of the first form, other commands each whose core is made
+-- the source is accepted, and not diagnosed, which is told of no source of the first form; all else serves each source
 pub record IsUnserved (asked : Asked) (files : Option Files) : Type 0 where
   pub config : ConfigType
   pub externals : List External
   pub accepted : IsAccepted asked files config externals
-  pub other : asked.command ≡ Diagnose → program_of externals ≡ None
+  pub command : asked.command ≡ Diagnose
+  pub other : program_of externals ≡ None
 
 -- which accepted sources are always served: of `diagnose` those of the first form
 abbrev pub IsServed : Command → List External → Type 0

@@ -17,7 +17,6 @@ use Rattle.c_means.specs.declared.breach.BrokenRule.{BrokenRule}
 use Rattle.c_means.specs.declared.breach.BrokenRule.TheVariants as broken
 use Rattle.c_means.specs.declared.profile.Profile.{Profile}
 use Rattle.c_means.specs.Checks.{has_main}
-use Rattle.c_means.specs.Units.{IsAcceptedSource}
 use Rattle.c_language.specs.declared.scope.LayoutRule.{LayoutRule}
 use Rattle.c_language.specs.declared.scope.LayoutRule.TheVariants as layout
 use Rattle.c_language.specs.declared.scope.Rule.{Rule}
@@ -26,7 +25,7 @@ use Rattle.printf_text.specs.declared.parse.FormatFault.{FormatFault}
 use Rattle.printf_text.specs.declared.parse.FormatFault.TheVariants as format
 use Rattle.sherlog.specs.Places.{spot_at}
 use Rattle.sherlog.specs.declared.refusal.Refusal.{Refusal}
-use Rattle.sherlog.specs.declared.refusal.Refusal.TheVariants.{NoMain, Broken, NotYetRead, Memory}
+use Rattle.sherlog.specs.declared.refusal.Refusal.TheVariants.{NoMain, Broken, Memory}
 use Rattle.sherlog.specs.declared.refusal.SourceFault.{SourceFault}
 use Rattle.sherlog.specs.declared.refusal.SourceFault.TheVariants.{BadByte, OpenText, WideNumber, BadConstant, BadDirective, Syntax, TooDeep}
 
@@ -135,6 +134,5 @@ pub record IsBrokenAt (name bytes : List ℕ) (externals : List External) (profi
 abbrev pub IsRefusedFor : List ℕ → List ℕ → List External → Profile → Refusal → Type 0
 IsRefusedFor name bytes externals profile NoMain = has_main (judged_in externals profile) ≡ false
 IsRefusedFor name bytes externals profile (Broken told spot) = IsBrokenAt name bytes externals profile told spot
-IsRefusedFor name bytes externals profile NotYetRead = IsAcceptedSource externals profile
 IsRefusedFor name bytes externals profile Memory = ⊤
 IsRefusedFor name bytes externals profile _ = ⊥

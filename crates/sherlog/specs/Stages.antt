@@ -100,13 +100,6 @@ pub record Parses (asked : Asked) (before after : ShelfState) (result : Result P
   pub parsed : IfOk result (IsParsed asked before.files)
   pub refused : IfErr result (Cause asked before after)
 
--- a refusal for a rule, or for want of memory
-abbrev pub IsRule : Refusal → Type 0
-IsRule NoMain = ⊤
-IsRule (Broken rule spot) = ⊤
-IsRule Memory = ⊤
-IsRule _ = ⊥
-
 -- ---- what is diagnosed
 
 -- an accepted source is not served, which is told of no source of the first form
@@ -120,7 +113,6 @@ pub record Accepts (name bytes : List ℕ) (xs : List External) (f : Profile) (r
   pub externals : IfOk result (λ p. p.externals ≡ xs)
   pub profile : IfOk result (λ p. p.profile ≡ f)
   pub refused : IfErr result (IsRefusedFor name bytes xs f)
-  pub other : result ≡ Err NotYetRead → program_of xs ≡ None
 
 -- ---- what is listed
 

@@ -1,9 +1,8 @@
 //! The top call.
-ghost use Rattle.std.specs.Prelude.{◌≡◌, ◌≢◌, ◌⊎◌, None, IfSome, map, string_bytes};
+ghost use Rattle.std.specs.Prelude.{◌≡◌, ◌⊎◌, None, IfSome, map, string_bytes};
 ghost use Rattle.sl_io.specs.Writes.{Told};
 ghost use Rattle.sherlog.specs.Answers.{AllIsWell, Answered, IsAnswer, IsRefusal, IsRefused};
 ghost use Rattle.sherlog.specs.Completeness.{IsAnswerable, IsNoProgram};
-ghost use Rattle.sherlog.specs.declared.request.Command.{Command as CommandType};
 ghost use Rattle.sherlog.specs.Lines.{memory_line, usage_line};
 ghost use Rattle.sherlog.specs.Words.{asked_of};
 
@@ -15,8 +14,8 @@ use sl_config::{WordsFault, read_words};
 use sl_io::{Shelf, Sink};
 use std::alloc::Global;
 
-/// Serves a command line, and answers the status. The words are those behind the program's name. What a diagnosis rests on
-/// is kept as values.
+/// Serves a command line, and answers the status. The words are those behind the program's name. What a diagnosis
+/// rests on is kept as values.
 pub fn run<H: Shelf, O: Sink, E: Sink>(
     alloc: Global,
     words: &[String],
@@ -25,11 +24,12 @@ pub fn run<H: Shelf, O: Sink, E: Sink>(
     err: &mut E,
     kept: &mut Kept,
 ) -> u8
-    // 0, 1 and 9 come once what is asked for was written: of `diagnose` a report that is true of every world, 1 where no
-    // run fits, and 9 where a question stayed open after the conflicts that were allowed; of `replay`, always 0, what the
-    // run prints, with the line of its end on err; of `sites` and `match`, always 0, exactly the lines for the log calls of
-    // the source in functions that are reached, with exactly the ends that some arguments of the format's kinds reach. Behind
-    // `diagnose` the formula of the runs and the diagnosis over it are kept: each refutation and each trail, as values.
+    // 0, 1 and 9 come once what is asked for was written: of `diagnose` a report that is true of every world, 1 where
+    // no run fits, and 9 where a question stayed open after the conflicts that were allowed; of `replay`, always 0,
+    // what the run prints, with the line of its end on err; of `sites` and `match`, always 0, exactly the lines for
+    // the log calls of the source in functions that are reached, with exactly the ends that some arguments of the
+    // format's kinds reach. Behind `diagnose` the formula of the runs and the diagnosis over it are kept: each
+    // refutation and each trail, as values.
     ensures answered { IsAnswer result → IfSome (asked_of (map string_bytes words.now)) (λ asked.
         Answered asked (H.state shelf.old).files result (O.state out.old) (O.state out.new)
         (E.state err.old) (E.state err.new) kept.new) }
@@ -56,7 +56,7 @@ pub fn run<H: Shelf, O: Sink, E: Sink>(
         IsNoProgram asked (H.state shelf.old) (H.state shelf.new) → (result ≡ 3) ⊎ (result ≡ 12)) }
     ensures complete { IfSome (asked_of (map string_bytes words.now)) (λ asked.
         IsAnswerable asked (H.state shelf.old) (H.state shelf.new) (O.state out.old) (O.state out.new)
-        → IsAnswer result ⊎ ((result ≡ 12) ⊎ ((result ≡ 3) × (asked.command ≢ CommandType.Diagnose)))) }
+        → IsAnswer result ⊎ (result ≡ 12)) }
 {
     let job = match read_words(alloc, words) {
         Ok(job) => job,

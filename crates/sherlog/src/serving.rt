@@ -150,8 +150,8 @@ fn form_listing<H: Shelf>(
     Ok(written(alloc, text))
 }
 
-/// Gets and reads the files of `match`, and finds where prints of the source's log calls can end along the log. Nothing is
-/// written.
+/// Gets and reads the files of `match`, and finds where prints of the source's log calls can end along the log.
+/// Nothing is written.
 fn form_matches<H: Shelf>(
     alloc: Global,
     request: &Request<'_>,

@@ -10,7 +10,7 @@ ghost use Rattle.c_means.specs.declared.profile.Profile.{Profile as ProfileType}
 ghost use Rattle.c_language.specs.declared.unit.External.{External as ExternalType};
 ghost use Rattle.first_form.specs.Form.{program_of};
 ghost use Rattle.sherlog.specs.Sources.{HasFault, IsRefusedFor, start_at};
-ghost use Rattle.sherlog.specs.Stages.{Accepts, IsNotServed, IsRule, IsToldAt, Lists, Reads, Tells};
+ghost use Rattle.sherlog.specs.Stages.{Accepts, IsNotServed, IsToldAt, Lists, Reads, Tells};
 
 use crate::places::{MAX_SOURCE, spot_at};
 use crate::refusal::{Refusal, SourceFault};
@@ -112,7 +112,6 @@ fn refused_for(alloc: Global, name: &str, bytes: &[u8], why: acceptance::Refusal
     requires { length bytes.now ≤ MAX_SOURCE }
     ensures told { (externals : List ExternalType) (profile : ProfileType) → IsRefusal externals profile why
         → IsRefusedFor name.now bytes.now externals profile result }
-    ensures rule { IsRule result }
 {
     match why {
         acceptance::Refusal::NoMain => Refusal::NoMain,
@@ -142,7 +141,6 @@ pub fn accepted(
     match accept(alloc, externals, profile) {
         Ok(program) => Ok(program),
         Err(CheckFault::Refused(why)) => Err(refused_for(alloc, name, bytes, why)),
-        Err(CheckFault::NoCore) => Err(Refusal::NotYetRead),
         Err(CheckFault::Memory) => Err(Refusal::Memory),
     }
 }
@@ -161,8 +159,8 @@ fn copy_externals(
     Ok(copy)
 }
 
-/// Of an accepted source that can't be diagnosed, the refusal: that it isn't served, or for want of memory where it is of
-/// the first form, of which each source is served.
+/// Of an accepted source that can't be diagnosed, the refusal: that it isn't served, or for want of memory where it is
+/// of the first form, of which each source is served.
 pub fn unserved(alloc: Global, unit: &Unit) -> Refusal
     ensures { IsNotServed unit.now.externals result }
 {
@@ -199,12 +197,7 @@ pub fn diagnosable(
     ensures { Accepts name.now bytes.now unit.now.externals profile result }
 {
     let externals = copy_externals(alloc, unit.externals.as_slice())?;
-    match accept(alloc, externals, profile) {
-        Ok(program) => Ok(program),
-        Err(CheckFault::Refused(why)) => Err(refused_for(alloc, name, bytes, why)),
-        Err(CheckFault::NoCore) => Err(unserved(alloc, unit)),
-        Err(CheckFault::Memory) => Err(Refusal::Memory),
-    }
+    accepted(alloc, name, bytes, externals, profile)
 }
 
 /// The log calls of a source that is derived, where it is accepted.

@@ -73,8 +73,8 @@ fn in_order(sites: Items<Site>) -> Result<Items<Site>, AllocError>
     Ok(Items::from_vec(items))
 }
 
-/// The log calls in the functions of a source that are reached, by the offset of the callee's name, those in operands of
-/// `sizeof` too: of the external declarations in order, with what is known of functions besides.
+/// The log calls in the functions of a source that are reached, by the offset of the callee's name, those in operands
+/// of `sizeof` too: of the external declarations in order, with what is known of functions besides.
 pub fn sites(
     alloc: Global,
     source: &Source<'_>,

@@ -215,10 +215,10 @@ fn keeps_bank(bank: &Bank)
     let _ = bank.len();
 }
 
-/// A call, by the summary of the function that is called, from the state's position: its entry's memory is the state's,
-/// its parameters are the arguments, and its places begin at the call's. The answer has one state for each end. It fails
-/// for want of memory, where an argument can't be passed yet, and where there are more or fewer arguments than
-/// parameters.
+/// A call, by the summary of the function that is called, from the state's position: its entry's memory is the
+/// state's, its parameters are the arguments, and its places begin at the call's. The answer has one state for each
+/// end. It fails for want of memory, where an argument can't be passed yet, and where there are more or fewer
+/// arguments than parameters.
 pub fn compose(
     alloc: Global,
     bank: &mut Bank,

@@ -48,7 +48,6 @@ fn accepted(alloc: Global, unit: Unit, profile: Profile) -> Result<Accepted> {
     match accept(alloc, unit.externals, profile) {
         Ok(program) => Ok(program),
         Err(CheckFault::Refused(_)) => Err(anyhow!("the source breaks a rule")),
-        Err(CheckFault::NoCore) => Err(anyhow!("the source has no core")),
         Err(CheckFault::Memory) => Err(anyhow!(AllocError)),
     }
 }

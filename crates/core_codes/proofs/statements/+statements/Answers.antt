@@ -1,4 +1,4 @@
-use Rattle.std.proofs.Common.{ℕ, None, map, refl}
+use Rattle.std.proofs.Common.{ℕ, None, map, refl, ap}
 use Rattle.std.proofs.lemmas.Result.{IfOk-weaker}
 use Rattle.c_means.specs.Notes.{noted}
 use Rattle.c_means.specs.Statements.{stmt}
@@ -84,17 +84,27 @@ pub all_items-returns : goal.all_items-returns
 all_items-returns g t c =
     turn.all_items (g.P.Parts.numbering c.args.parts.now) c.args.x c.args.scope.now c.args.items.now c.loop-item.item-index c.loop-item.made c.loop-item.scope c.loop-item-test.false c.loop-item.invariant
 
-pub content-returns-in_ok-made-in-Block : goal.content-returns-in_ok-made-in-Block
-content-returns-in_ok-made-in-Block g t c =
+pub content-returns-in_ok-made-in-Block-clause-content : goal.content-returns-in_ok-made-in-Block-clause-content
+content-returns-in_ok-made-in-Block-clause-content g t c =
     arm.block_content (g.P.Parts.numbering c.args.parts.now) c.args.x c.args.scope.now c.args.node.now _ _ c.as_slice.result.now c.in_ok-made-in-Block.made c.content.result c.all_items.new.scope c.in-Block.is c.as_slice.ensures c.in_ok-made-in-Block.ensures c.content.ensures
 
+pub content-returns-in_ok-made-in-Block-clause-block : goal.content-returns-in_ok-made-in-Block-clause-block
+content-returns-in_ok-made-in-Block-clause-block g t c =
+    arm.block_is (g.P.Parts.numbering c.args.parts.now) c.args.x c.args.scope.now c.args.node.now _ _ _ c.in-Block.is
+    (ap (λ b. b.content.is_compound) c.content.ensures)
+
 pub content-returns-in_ok-made-in_default : goal.content-returns-in_ok-made-in_default
-content-returns-in_ok-made-in_default g t c =
-    arm.other_content (g.P.Parts.numbering c.args.parts.now) c.args.x c.args.scope.now c.args.node.now c.in_ok-made-in_default.made c.content-in_default.result c.statement.new.scope c.in_default.not-Block c.in_ok-made-in_default.ensures c.content-in_default.ensures
+content-returns-in_ok-made-in_default g t c = record {
+  content = arm.other_content (g.P.Parts.numbering c.args.parts.now) c.args.x c.args.scope.now c.args.node.now
+      c.in_ok-made-in_default.made c.content-in_default.result c.statement.new.scope c.in_default.not-Block
+      c.in_ok-made-in_default.ensures c.content-in_default.ensures;
+  block = arm.other_is (g.P.Parts.numbering c.args.parts.now) c.args.x c.args.scope.now c.args.node.now _
+      c.in_default.not-Block (ap (λ b. b.content.is_compound) c.content-in_default.ensures);
+}
 
 pub sub_block-returns : goal.sub_block-returns
 sub_block-returns g t c =
-    arm.a_sub (g.P.Parts.numbering c.args.parts.now) c.args.x c.args.scope.now c.args.node.now c.within.result c.enter.new.self c.in_ok-inside.inside c.in_ok-block.block c.content.new.scope c.leave.new.self c.within.ensures c.in_ok-enter.ensures c.in_ok-inside.ensures c.leave.ensures c.in_ok-block.ensures
+    arm.a_sub (g.P.Parts.numbering c.args.parts.now) c.args.x c.args.scope.now c.args.node.now c.within.result c.enter.new.self c.in_ok-inside.inside c.in_ok-block.block c.content.new.scope c.leave.new.self c.within.ensures c.in_ok-enter.ensures c.in_ok-inside.ensures.content c.leave.ensures c.in_ok-block.ensures
 
 pub case_statement-returns : goal.case_statement-returns
 case_statement-returns g t c =
@@ -118,7 +128,7 @@ else_block-returns-in-None g t c =
 
 pub switch_statement-returns : goal.switch_statement-returns
 switch_statement-returns g t c =
-    IfOk-weaker c.switch_made.result _ _ (λ y h. arm.a_switch (g.P.Parts.numbering c.args.parts.now) c.args.x c.args.scope.now c.args.at (noted c.args.value.now) c.enter.new.self c.in_ok-found.found c.value.new.scope c.tables.result.now c.in_ok-compared.compared c.choosing.result c.enter-2.new.self (stmt c.args.body.now) c.in_ok-body.body c.content.new.scope c.leave.new.self c.leave-2.new.self y c.in_ok-enter.ensures c.in_ok-found.ensures c.tables.ensures c.in_ok-compared.ensures c.choosing.ensures c.in_ok-enter-2.ensures c.in_ok-body.ensures c.leave.ensures c.leave-2.ensures h) c.switch_made.ensures
+    IfOk-weaker c.switch_made.result _ _ (λ y h. arm.a_switch (g.P.Parts.numbering c.args.parts.now) c.args.x c.args.scope.now c.args.at (noted c.args.value.now) c.enter.new.self c.in_ok-found.found c.value.new.scope c.tables.result.now c.in_ok-compared.compared c.choosing.result c.enter-2.new.self (stmt c.args.body.now) c.in_ok-body.body c.content.new.scope c.leave.new.self c.leave-2.new.self y c.in_ok-enter.ensures c.in_ok-found.ensures c.tables.ensures c.in_ok-compared.ensures c.choosing.ensures c.in_ok-enter-2.ensures c.in_ok-body.ensures.content c.leave.ensures c.leave-2.ensures h) c.switch_made.ensures
 
 pub while_statement-returns : goal.while_statement-returns
 while_statement-returns g t c =

@@ -6,6 +6,7 @@ use Rattle.c_means.specs.Initials.{uninitialised}
 use Rattle.c_means.specs.Items.{Item}
 use Rattle.core_objects.specs.Begun.{IsBegun}
 use Rattle.core_declarations.specs.Items.{declared_as}
+use Rattle.core_declarations.proofs.Declarators.{any_initial}
 use Rattle.core_declarations.proofs.declarations.without_initializer.Goals as goal
 
 pub returns : goal.returns
@@ -16,4 +17,5 @@ returns g c = λ at.
     subst (λ (i : Item). IfOk c.declared_name.result (λ y. IsBegun n y i s))
     (ap (λ (w : Declared). declared_as at (not c.is_extern.result) w uninitialised) c.in_ok-declared.ensures
     ∙ ap (λ (b : Bool). declared_as at (not b) (plainly (begins_in c.args.front s)) uninitialised) c.is_extern.ensures)
-    (c.declared_name.ensures at uninitialised (c.not_initialised.ensures n))
+    (c.declared_name.ensures at uninitialised (any_initial n c.not_initialised.result uninitialised
+    c.in_ok-declared.declared.entry (λ m. c.not_initialised.ensures m n)))

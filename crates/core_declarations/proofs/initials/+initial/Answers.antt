@@ -12,7 +12,7 @@ use Rattle.c_means.specs.Notes.{noted}
 use Rattle.core_declarations.specs.Hearing.{IsHeard}
 use Rattle.core_declarations.specs.Walked.{Walks}
 use Rattle.core_declarations.proofs.Fillings as fillings
-use Rattle.core_declarations.proofs.Sources.{says_it}
+use Rattle.core_declarations.proofs.Pairs.{says_it}
 use Rattle.core_declarations.proofs.initials.+initial.Goals as goal
 
 pub fills-returns-in_ok-x-in-Value-clause-says : goal.fills-returns-in_ok-x-in-Value-clause-says

@@ -1,13 +1,19 @@
-use Rattle.std.proofs.Common.{subst}
-use Rattle.core_declarations.specs.Walked.{GivesOne}
-use Rattle.core_declarations.proofs.Sources.{whole_step, source_of}
+use Rattle.std.proofs.Common.{[], ◌∷◌, Err, sym, ap, ◌∙◌, refl, subst}
+use Rattle.c_language.specs.Initials.{Filling}
+use Rattle.c_initials.specs.Filled.{Filled}
+use Rattle.core_declarations.specs.declared.pairing.Paired.{Paired}
+use Rattle.core_declarations.specs.Pairing.{AreGrown, Holds}
+use Rattle.core_declarations.proofs.Pairs.{none_held, source_of}
 use Rattle.core_declarations.proofs.initials.as_whole.Goals as goal
 
 pub returns-clause-goes : goal.returns-clause-goes
 returns-clause-goes c = λ numbering n h.
-    let given = c.in_ok-given.given in
-    whole_step numbering n c.in_ok-filling.filling given c.args.whole c.args.x.told c.args.scope.now c.in_ok-filling.ensures
-    (subst (λ g. GivesOne numbering g c.args.whole n given) c.none_given-given.ensures
-    (subst (λ p. GivesOne numbering c.none_given-given.result p n given) c.get.ensures
-    (c.in_ok-given.ensures numbering n (source_of numbering c.args.x n c.args.scope.now c.is_literal-literal.result
-    c.tables.result.now h c.is_literal-literal.ensures c.tables.ensures))))
+    let s = c.args.scope.now in
+    let x = c.args.x in
+    subst (λ (g : Filled). Holds numbering (n ∷ []) g.parts c.in_ok-paired.paired) c.filling.view_is
+    (c.in_ok-paired.ensures numbering [] [] n
+    (source_of numbering x n s c.is_literal.result h c.is_literal.ensures) h.after
+    (subst (λ (y : Paired). Holds numbering [] [] y) (sym c.none_paired.ensures) (none_held numbering))
+    (subst (AreGrown [])
+    (sym (ap (λ (g : Filled). g.parts) c.filling.view_is ∙ ap (λ (y : Filling). y.parts) c.in_ok-filling.ensures))
+    (Err (record { part = c.args.whole; is = refl }))))

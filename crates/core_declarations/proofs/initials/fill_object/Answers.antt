@@ -9,7 +9,7 @@ use Rattle.core_declarations.specs.declared.initials.Walked.{Walked}
 use Rattle.core_declarations.specs.Hearing.{IsHeard}
 use Rattle.core_declarations.specs.Walked.{Walks}
 use Rattle.core_declarations.proofs.Fillings as fillings
-use Rattle.core_declarations.proofs.Sources.{says_it}
+use Rattle.core_declarations.proofs.Pairs.{says_it}
 use Rattle.core_declarations.proofs.initials.fill_object.Goals as goal
 
 pub returns-in_ok-x-in-Value-clause-says : goal.returns-in_ok-x-in-Value-clause-says
@@ -32,35 +32,26 @@ returns-in_ok-filling-in-List-clause-says g c =
     ∙ list_whole c.args.initializer.now c.in-List.at c.in-List.items c.in-List.trailing f c.in_ok-whole.whole c.args.ctype s
     c.in-List.is c.in_ok-whole.ensures c.in_ok-filling-in-List.ensures) c.fills_all.ensures.says
 
-pub returns-in_ok-x-in-Value-clause-given : goal.returns-in_ok-x-in-Value-clause-given
-returns-in_ok-x-in-Value-clause-given g c =
+pub returns-in_ok-x-in-Value-clause-gone : goal.returns-in_ok-x-in-Value-clause-gone
+returns-in_ok-x-in-Value-clause-gone g c =
     let n = g.C.Places.numbering c.args.callees.now in
     let s = c.args.scope.now in
-    let i = c.args.initializer.now in
     let v = c.in-Value.value in
-    let x = c.in_ok-x-in-Value.x in
-    let t = c.hear.new.scope in
-    let h = subst (λ e. IsHeard n x (noted e s) t) c.get.ensures c.in_ok-x-in-Value.ensures in
-    let says = fillings.alone_says i v x.told s t c.in_ok-whole.whole c.args.ctype c.in-Value.is
-    (says_it n x (noted v s) t h) c.in_ok-whole.ensures
+    let h = subst (λ e. IsHeard n c.in_ok-x-in-Value.x (noted e s) c.hear.new.scope) c.get.ensures
+    c.in_ok-x-in-Value.ensures
     in
-    fillings.both_ok c.as_whole.result _ _ _ (λ z k m. fillings.value_given n i v c.args.ctype s t z c.in-Value.is
-    (k ∙ says) m) c.as_whole.ensures.says (c.as_whole.ensures.goes n (noted v s) h)
+    IfOk-weaker c.as_whole.result _ _ (λ z k. fillings.value_gone n c.args.initializer.now v s z c.in-Value.is k)
+    (c.as_whole.ensures.goes n (noted v s) h)
 
-pub returns-in_ok-filling-in-List-clause-given : goal.returns-in_ok-filling-in-List-clause-given
-returns-in_ok-filling-in-List-clause-given g c =
+pub returns-in_ok-filling-in-List-clause-gone : goal.returns-in_ok-filling-in-List-clause-gone
+returns-in_ok-filling-in-List-clause-gone g c =
     let n = g.C.Places.numbering c.args.callees.now in
     let s = c.args.scope.now in
     let i = c.args.initializer.now in
     let u = c.fills_all.new.scope in
-    let f = c.in_ok-filling-in-List.filling in
-    let x : Walked = record { filling = f; given = c.none_given.result } in
-    let says = ap (λ xs. fills_all (all_fills (map listed_item xs)) (filling_in f s)) c.as_slice.ensures
-    ∙ list_whole i c.in-List.at c.in-List.items c.in-List.trailing f c.in_ok-whole.whole c.args.ctype s
-    c.in-List.is c.in_ok-whole.ensures c.in_ok-filling-in-List.ensures
-    in
-    fillings.both_ok c.fills_all.result _ _ _ (λ z k m. fillings.whole_given n i c.args.ctype s u x z
-    (ap (λ (f : Filled). f.parts) c.in_ok-filling-in-List.ensures) c.none_given.ensures (k ∙ says)
+    let x : Walked = record { filling = c.in_ok-filling-in-List.filling; paired = c.none_paired.result } in
+    IfOk-weaker c.fills_all.result _ _ (λ z m. fillings.list_gone n i s u x z
+    (ap (λ (f : Filled). f.parts) c.in_ok-filling-in-List.ensures) c.none_paired.ensures
     (fillings.list_walks n i c.in-List.at c.in-List.items c.in-List.trailing x z s u c.in-List.is
     (subst (λ xs. Walks n (all_elements (map listed_item xs)) x s z u) c.as_slice.ensures m)))
-    c.fills_all.ensures.says c.fills_all.ensures.walks
+    c.fills_all.ensures.walks

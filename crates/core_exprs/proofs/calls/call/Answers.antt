@@ -1,12 +1,8 @@
-use Rattle.std.proofs.Common.{◌∙◌}
-use Rattle.std.proofs.lemmas.Result.{IfOk-weaker}
-use Rattle.core_exprs.proofs.CallLaws as laws
+use Rattle.std.proofs.Common.{◌∙◌, refl}
 use Rattle.core_exprs.proofs.calls.call.Goals as goal
 
-pub returns : goal.returns
-returns g c f ps same shown h =
-    IfOk-weaker c.call_at.result _ _ (λ x k. laws.call_found _ c.args.at f ps c.args.scope.now c.in-Some.function
-    c.in_ok-callee.callee (shown ∙ c.in-Some.is) c.in_ok-callee.ensures c.args.xs h c.args.name c.in_ok-told.told
-    c.in_ok-ctype.ctype c.in_ok-types.types c.in_ok-values.values x same
-    c.in_ok-types.ensures c.in_ok-values.ensures c.in_ok-told.ensures c.in_ok-ctype.ensures
-    k) c.call_at.ensures
+pub returns-in-Some : goal.returns-in-Some
+returns-in-Some g c f ps same shown h = c.call_of.ensures f ps same (shown ∙ c.in-Some.is) h
+
+pub returns-in-None : goal.returns-in-None
+returns-in-None g c f ps same shown h = c.uncalled.ensures _ f ps same (shown ∙ c.in-None.is) refl h

@@ -12,6 +12,11 @@ core_of-returns-in-Character g t c =
     tree.in_character _ c.character_constant.result c.in-Character.at c.in-Character.value c.args.scope.now c.in-Character.is
     (c.character_constant.ensures _ c.args.scope.now)
 
+pub core_of-returns-in-Floating : goal.core_of-returns-in-Floating
+core_of-returns-in-Floating g t c =
+    tree.in_floating _ c.floating_constant.result c.in-Floating.at c.args.scope.now c.in-Floating.is
+    (c.floating_constant.ensures _ c.args.scope.now)
+
 pub core_of-returns-in-StringLiteral : goal.core_of-returns-in-StringLiteral
 core_of-returns-in-StringLiteral g t c =
     tree.in_literal _ c.string_literal.result c.in-StringLiteral.at c.as_slice.result.now _ c.args.scope.now

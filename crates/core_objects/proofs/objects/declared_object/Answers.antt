@@ -1,24 +1,38 @@
 use Rattle.std.proofs.Common.{[], ◌∷◌, Some, ap, ◌∙◌, subst}
+use Rattle.std.proofs.lemmas.Result.{IfOk-weaker}
 use Rattle.c_language.specs.declared.scope.Duration.TheVariants as duration
 use Rattle.c_language.specs.declared.scope.Means.TheVariants as means
 use Rattle.c_means.specs.Values.{bytes_of}
 use Rattle.c_means.specs.Statements as statements
 use Rattle.core_objects.specs.Begun.{IsBegun}
+use Rattle.core_objects.specs.Given.{IsInitial}
 use Rattle.core_objects.proofs.DeclaredObjects.{means_begun, nothing_is}
 use Rattle.core_objects.proofs.objects.declared_object.Goals as goal
 
-pub returns-in_ok-automatic-in-Automatic : goal.returns-in_ok-automatic-in-Automatic
-returns-in_ok-automatic-in-Automatic g c = λ at x h.
+pub returns-in-Automatic : goal.returns-in-Automatic
+returns-in-Automatic g c = λ at x h.
     let n = g.P.Places.numbering c.args.places.now in
     let en = c.args.entry.now in
     let s = c.args.scope.now in
-    let y = c.in_ok-automatic-in-Automatic.field-0 in
-    means_begun n at en (means.Object c.in-Object.ctype duration.Automatic c.in-Object.linkage) c.args.is_defined x s y
-    (c.in-Object.is ∙ ap (λ d. means.Object c.in-Object.ctype d c.in-Object.linkage) c.in-Automatic.is)
+    let m = means.Object c.in-Object.ctype duration.Automatic c.in-Object.linkage in
+    let is = c.in-Object.is ∙ ap (λ d. means.Object c.in-Object.ctype d c.in-Object.linkage) c.in-Automatic.is in
+    let i = subst (λ m. IsInitial m n c.args.initial x) is h in
+    IfOk-weaker c.automatic.result _ _ (λ y k. means_begun n at en m c.args.is_defined x s y is
     (subst (λ b. IsBegun n y (statements.automatic en b x s) s)
     (c.bytes_of-bytes.ensures ∙ ap (λ t. bytes_of t (Some c.get.result.now)) c.tables.ensures
-    ∙ ap (λ t. bytes_of s.tables (Some t)) c.get.ensures)
-    (c.in_ok-automatic-in-Automatic.ensures n x s h))
+    ∙ ap (λ t. bytes_of s.tables (Some t)) c.get.ensures) k))
+    (c.automatic.ensures n x s i.zeroed i.given)
+
+pub returns-in-Static : goal.returns-in-Static
+returns-in-Static g c = λ at x h.
+    let n = g.P.Places.numbering c.args.places.now in
+    let en = c.args.entry.now in
+    let s = c.args.scope.now in
+    let m = means.Object c.in-Object.ctype duration.Static c.in-Object.linkage in
+    let is = c.in-Object.is ∙ ap (λ d. means.Object c.in-Object.ctype d c.in-Object.linkage) c.in-Static.is in
+    let i = subst (λ m. IsInitial m n c.args.initial x) is h in
+    IfOk-weaker c.lasting.result _ _ (λ y k. means_begun n at en m c.args.is_defined x s y is k)
+    (c.lasting.ensures at (bytes_of s.tables (Some c.in-Object.ctype)) c.in-Object.linkage x s i.given)
 
 pub returns-in-Function : goal.returns-in-Function
 returns-in-Function g c = λ at x h.

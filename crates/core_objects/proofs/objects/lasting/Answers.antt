@@ -1,13 +1,10 @@
-use Rattle.std.proofs.Common.{sym, subst}
-use Rattle.core_objects.specs.Begun.{bare}
-use Rattle.core_objects.specs.Given.{IsGiven}
-use Rattle.core_objects.proofs.DeclaredObjects.{given_bare}
+use Rattle.std.proofs.lemmas.Result.{IfOk-weaker}
+use Rattle.core_objects.proofs.DeclaredObjects.{lasting_begun}
 use Rattle.core_objects.proofs.objects.lasting.Goals as goal
 
-pub returns-in-Some : goal.returns-in-Some
-returns-in-Some g c = λ at bytes k x s h.
+pub returns : goal.returns
+returns g c = λ at bytes k x s h.
     let n = g.P.Places.numbering c.args.places.now in
-    let i = c.args.initial in
-    c.lasting_given.ensures at bytes k i.is_zeroed x s
-    (subst (λ given. IsGiven (bare n) i.is_zeroed given x) (sym c.in-Some.ensures.1)
-    (given_bare n i.is_bare i.is_zeroed i.given x c.in-Some.ensures.0 h))
+    IfOk-weaker c.one_begun.result _ _ (λ y is. lasting_begun n at c.args.entry.now bytes k c.args.is_defined
+    c.args.initial x s c.place-place.result c.in_ok-code.code c.in_ok-settings.settings y c.place-place.ensures
+    c.in_ok-settings.ensures c.in_ok-code.ensures is h) c.one_begun.ensures

@@ -1,9 +1,4 @@
-use Rattle.std.proofs.Common.{[], ◌∙◌, subst, sym}
-use Rattle.c_means.specs.Prelude.{prelude_functions}
-use Rattle.core_callees.specs.Known.{numbering_in}
-use Rattle.core_callees.specs.Knows.{known_by}
-use Rattle.core_functions.specs.Definitions.{ArePrelude}
-use Rattle.core_units.proofs.Making.{prelude_made}
+use Rattle.std.proofs.Common.{◌∙◌, ◌++◌, ap}
 use Rattle.core_units.proofs.Wholes.{plans_given}
 use Rattle.core_units.proofs.unit.all_made.Goals as goal
 
@@ -15,10 +10,9 @@ make_each-requires-clause-plans c =
 pub returns : goal.returns
 returns c = record {
   sources = c.in_ok-made.made.functions;
-  library = c.in_ok-library.library;
-  all = c.in_ok-append.ensures.ok;
+  library = c.in_ok-more.more;
+  others = c.in_ok-made.made.others;
+  all = c.in_ok-append-2.ensures.ok ∙ ap (λ fs. c.in_ok-made.made.functions ++ fs) c.in_ok-append.ensures.ok;
   walk = c.in_ok-made.ensures;
-  prelude = prelude_made c.args.around.now c.requires.around [] c.in_ok-library.library prelude_functions
-      (subst (λ k. ArePrelude (numbering_in k) c.in_ok-library.library prelude_functions) c.calling.ensures
-      c.in_ok-library.ensures);
+  prelude = c.in_ok-more.ensures;
 }

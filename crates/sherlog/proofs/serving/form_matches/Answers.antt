@@ -1,12 +1,12 @@
 use Rattle.std.proofs.lemmas.Result.{err_from_is_err_and}
-use Rattle.sherlog.proofs.Outputs.{log_not_matched, matches_formed, not_listed, not_match}
+use Rattle.sherlog.proofs.Outputs.{log_not_matched, matches_formed, not_formed}
 use Rattle.sherlog.proofs.serving.form_matches.Goals as goal
 
 pub returns-in_err-sites : goal.returns-in_err-sites
 returns-in_err-sites g c =
     let p = err_from_is_err_and c.from_residual-in_err-sites.result c.from_residual-in_err-sites.ensures.1 in
-    rw p.1 (not_listed _ _ _ c.in_ok-config.field-0 _ _ (not_match _ c.requires) c.in_ok-config.ensures
-    (rw c.as_slice.ensures at c.in_err-sites.ensures) p.2)
+    rw p.1 (not_formed _ _ _ c.in_ok-config.field-0 _ _ c.in_ok-config.ensures
+    (rw c.as_slice.ensures at c.in_err-sites.ensures).refused p.2)
 
 pub returns-in_err-log : goal.returns-in_err-log
 returns-in_err-log g c =

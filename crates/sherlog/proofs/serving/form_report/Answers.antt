@@ -1,4 +1,4 @@
-use Rattle.std.proofs.Common.{ap, refl, Err}
+use Rattle.std.proofs.Common.{ap, Err}
 use Rattle.std.proofs.lemmas.Result.{err_from_is_err_and}
 use Rattle.sherlog.proofs.Outputs.{log_not_read_of, not_formed, not_served, report_formed, too_large_to_diagnose}
 use Rattle.sherlog.proofs.serving.form_report.Goals as goal
@@ -7,7 +7,7 @@ pub returns-in_err-program : goal.returns-in_err-program
 returns-in_err-program g c =
     let p = err_from_is_err_and c.from_residual-in_err-program.result c.from_residual-in_err-program.ensures.1 in
     let h = rw c.as_slice.ensures at c.in_err-program.ensures in
-    rw p.1 (not_formed _ _ _ c.in_ok-config.field-0 _ _ c.in_ok-config.ensures h.refused (λ e command. h.other (ap Err e)) p.2)
+    rw p.1 (not_formed _ _ _ c.in_ok-config.field-0 _ _ c.in_ok-config.ensures h.refused p.2)
 
 pub returns-in_err-log : goal.returns-in_err-log
 returns-in_err-log g c =
@@ -34,6 +34,6 @@ returns-in-Err-TooLarge g c =
 pub returns-in-Err-Unwalked : goal.returns-in-Err-Unwalked
 returns-in-Err-Unwalked g c =
     not_served _ _ _ _ c.in_ok-config.field-0 c.in_ok-program.program c.in_ok-log.log c.unserved.result
-    c.in_ok-config.ensures
+    c.requires c.in_ok-config.ensures
     (record { externals = c.in_ok-program.ensures.externals; profile = c.in_ok-program.ensures.profile })
     c.in_ok-log.ensures c.unserved.ensures

@@ -1,13 +1,13 @@
 use Rattle.std.proofs.Common.{refl}
 use Rattle.std.proofs.lemmas.Result.{err_from_is_err_and}
-use Rattle.sherlog.proofs.Outputs.{not_both, not_formed, run_formed, too_large, world_not_read}
+use Rattle.sherlog.proofs.Outputs.{not_formed, run_formed, too_large, world_not_read}
 use Rattle.sherlog.proofs.serving.form_run.Goals as goal
 
 pub returns-in_err-program : goal.returns-in_err-program
 returns-in_err-program g c =
     let p = err_from_is_err_and c.from_residual-in_err-program.result c.from_residual-in_err-program.ensures.1 in
     rw p.1 (not_formed _ _ _ c.in_ok-config.field-0 _ _ c.in_ok-config.ensures
-    (rw c.as_slice.ensures at c.in_err-program.ensures.refused) (λ e command. absurd (not_both _ c.requires command)) p.2)
+    (rw c.as_slice.ensures at c.in_err-program.ensures.refused) p.2)
 
 pub returns-in_err-world : goal.returns-in_err-world
 returns-in_err-world g c =

@@ -1,14 +1,8 @@
-use Rattle.sherlog.proofs.Reading.{not_accepted_yet, rule_refused}
 use Rattle.sherlog.proofs.source.diagnosable.Goals as goal
 
-pub returns-in-Err-Refused : goal.returns-in-Err-Refused
-returns-in-Err-Refused c =
-    rule_refused _ _ _ _ _ c.refused_for.ensures.rule
-    (c.refused_for.ensures.told c.args.unit.now.externals c.args.profile
-    (rw (c.in-Err-Refused.field-0-is, c.in_ok-externals.ensures, c.as_slice.ensures) at c.in-Err-Refused.ensures.refused))
-
-pub returns-in-Err-NoCore : goal.returns-in-Err-NoCore
-returns-in-Err-NoCore c =
-    not_accepted_yet _ _ _ _ _
-    (rw (c.in-Err-NoCore.field-0-is, c.in_ok-externals.ensures, c.as_slice.ensures) at c.in-Err-NoCore.ensures.refused)
-    c.unserved.ensures
+pub returns : goal.returns
+returns c = record {
+  externals = rw (c.in_ok-externals.ensures, c.as_slice.ensures) at c.accepted.ensures.externals;
+  profile = c.accepted.ensures.profile;
+  refused = rw (c.in_ok-externals.ensures, c.as_slice.ensures) at c.accepted.ensures.refused;
+}

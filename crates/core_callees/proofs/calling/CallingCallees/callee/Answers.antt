@@ -10,7 +10,7 @@ use Rattle.core_callees.proofs.calling.CallingCallees.callee.Goals as goal
 pub returns : goal.returns
 returns c =
     IfOk-weaker c.callee_of.result _ _
-    (λ y e. chosen (known_by c.args.self.now) (site_of c.args.site.now c.args.scope.now)
+    (λ y is. chosen (known_by c.args.self.now) (site_of c.args.site.now c.args.scope.now)
     (type_as c.args.scope.now.tables c.args.site.now.ctype)
-    (converts_same (class_in c.args.site.now.ctype) (bytes_of c.args.scope.now.tables c.args.site.now.ctype)) y e)
+    (converts_same (class_in c.args.site.now.ctype) (bytes_of c.args.scope.now.tables c.args.site.now.ctype)) y is)
     c.callee_of.ensures

@@ -1,0 +1,6 @@
+pub mod ExprCalls
+pub mod CodeCalls
+pub mod CalleesAgree
+pub mod ValuesAgree
+pub mod CodesAgree
+pub mod RunsAgree
