@@ -2,3 +2,6 @@ pub mod BeginLemmas
 pub mod CallTrials
 pub mod ExitLemmas
 pub mod OutsideLemmas
+pub mod PlaceLemmas
+pub mod ReplyLemmas
+pub mod OutsideTrials

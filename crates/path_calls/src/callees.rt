@@ -3,21 +3,21 @@ ghost use Rattle.std.specs.Prelude.{IfOk, ℕ};
 ghost use Rattle.core_tree.specs.declared.expr.Callee.TheVariants as c;
 ghost use Rattle.path_states.specs.States.{IsState};
 ghost use Rattle.path_calls.specs.Begun.{CallsBy};
+ghost use Rattle.path_calls.specs.Places.{CallsWithin};
 
 use crate::answering::{answer, argument, finish};
 use crate::beginning::begin;
 use crate::exiting::{MOST_CHOICES, put_exits};
-use crate::outside_words::outside_word;
-use core_tree::{Callee, Fill, OutsideAnswer};
+use crate::outside_calls::outside;
+use core_tree::Callee;
 use path_forms::{CallSite, WalkFault};
-use path_numbers::constant;
 use path_states::{State, Walked, settled};
-use plain_data::Finish;
+use plain_data::{Bounds, Finish};
 use std::alloc::Global;
 use term_bank::{Bank, BankFault};
 
 /// How many places a call by rule names at most, but for those of `%p`.
-const PLACES: u64 = 4;
+pub(crate) const PLACES: u64 = 4;
 
 /// An argument of this index is the answer. It fails for want of memory alone.
 pub fn identity(
@@ -80,107 +80,18 @@ pub fn exit(
     Ok(walked)
 }
 
-/// A function outside answers nothing.
-fn outside_nothing(
-    alloc: Global,
-    bank: &mut Bank,
-    site: CallSite,
-    state: &State,
-) -> Result<Walked, BankFault>
-    requires { IsState bank.old state.now }
-    ensures { IfOk result (λ w. (room : ℕ) → CallsBy room bank.old bank.new state.now (c.Outside
-        OutsideAnswer.Nothing None) site w) }
-{
-    let mut now = state.copy(alloc)?;
-    let arguments = begin(alloc, bank, site, &mut now)?;
-    let _ = arguments;
-    let number = constant(bank, 0)?;
-    let walked = answer(alloc, bank, site.answer, number, now)?;
-    Ok(walked)
-}
-
-/// A function outside answers the word of the call's first place.
-fn outside_number(
-    alloc: Global,
-    bank: &mut Bank,
-    room: u64,
-    site: CallSite,
-    state: &State,
-) -> Result<Walked, WalkFault>
-    requires { IsState bank.old state.now }
-    ensures { IfOk result (λ w. CallsBy room bank.old bank.new state.now (c.Outside OutsideAnswer.Number None) site w) }
-{
-    if room < PLACES || room - PLACES < site.place {
-        return Err(WalkFault::TooFar);
-    }
-    let mut now = state.copy(alloc)?;
-    let arguments = begin(alloc, bank, site, &mut now)?;
-    let _ = arguments;
-    let number = outside_word(bank, site.place)?;
-    let walked = answer(alloc, bank, site.answer, number, now)?;
-    Ok(walked)
-}
-
-/// A function outside that fills nothing.
-fn outside_answer(
-    alloc: Global,
-    bank: &mut Bank,
-    room: u64,
-    site: CallSite,
-    answers: OutsideAnswer,
-    state: &State,
-) -> Result<Walked, WalkFault>
-    requires { IsState bank.old state.now }
-    ensures { IfOk result (λ w. CallsBy room bank.old bank.new state.now (c.Outside answers None) site w) }
-{
-    match answers {
-        OutsideAnswer::Nothing => {
-            let walked = outside_nothing(alloc, bank, site, state)?;
-            Ok(walked)
-        }
-        OutsideAnswer::Number => {
-            let walked = outside_number(alloc, bank, room, site, state)?;
-            Ok(walked)
-        }
-        OutsideAnswer::Pointer { .. } => Err(WalkFault::Unwalked),
-    }
-}
-
-/// A function outside that fills nothing, and answers a number or nothing: what it answers is the world's. It fails
-/// where the call's places aren't in the room, and where it fills or answers a pointer.
-pub fn outside(
-    alloc: Global,
-    bank: &mut Bank,
-    room: u64,
-    site: CallSite,
-    answers: OutsideAnswer,
-    fill: Option<Fill>,
-    state: &State,
-) -> Result<Walked, WalkFault>
-    requires { IsState bank.old state.now }
-    ensures { IfOk result (λ w. CallsBy room bank.old bank.new state.now (c.Outside answers fill) site w) }
-{
-    match fill {
-        None => {
-            let walked = outside_answer(alloc, bank, room, site, answers, state)?;
-            Ok(walked)
-        }
-        Some(_) => Err(WalkFault::Unwalked),
-    }
-}
-
-/// A call by rule that neither prints nor needs a new object. It fails where the call's places aren't in the room, and
-/// for every other callee.
+/// A call by rule that doesn't print. It fails where the call's places aren't in the room, and for every other callee.
 pub fn call_by_rule(
     alloc: Global,
     bank: &mut Bank,
+    bounds: &Bounds,
     room: u64,
     callee: &Callee,
     site: CallSite,
     state: &State,
 ) -> Result<Walked, WalkFault>
     requires { IsState bank.old state.now }
-    ensures { IfOk result (λ w. CallsBy room bank.old bank.new state.now callee.now site w) }
+    ensures { IfOk result (λ w. CallsWithin bounds.now room bank.old bank.new state.now callee.now site w) }
 {
     match callee {
         Callee::Identity { index } => {
@@ -196,7 +107,7 @@ pub fn call_by_rule(
             Ok(walked)
         }
         Callee::Outside { answer, fill } => {
-            let walked = outside(alloc, bank, room, site, *answer, *fill, state)?;
+            let walked = outside(alloc, bank, bounds, room, site, *answer, *fill, state)?;
             Ok(walked)
         }
         Callee::Body { .. } | Callee::Log { .. } | Callee::Malloc | Callee::Calloc | Callee::Free =>

@@ -5,9 +5,13 @@ mod answering;
 mod beginning;
 mod callees;
 mod exiting;
+mod outside_calls;
+mod outside_pointers;
 mod outside_words;
+mod placing;
 
 pub use answering::{answer, argument};
 pub use beginning::{begin, take_arguments};
-pub use callees::{abort, call_by_rule, exit, identity, outside};
+pub use callees::{abort, call_by_rule, exit, identity};
+pub use outside_calls::outside;
 pub use outside_words::outside_word;
