@@ -5,3 +5,5 @@ pub mod OutsideLemmas
 pub mod PlaceLemmas
 pub mod ReplyLemmas
 pub mod OutsideTrials
+pub mod FillLemmas
+pub mod FillTrials

@@ -3,3 +3,5 @@ pub mod Outside
 pub mod Exits
 pub mod Places
 pub mod Replies
+pub mod Fills
+pub mod FillCalls

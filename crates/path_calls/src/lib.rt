@@ -5,6 +5,7 @@ mod answering;
 mod beginning;
 mod callees;
 mod exiting;
+mod fills;
 mod outside_calls;
 mod outside_pointers;
 mod outside_words;
