@@ -1,9 +1,9 @@
 -- Buffers that functions outside fill.
-use Rattle.std.proofs.Common.{◌≡◌, ℕ, ◌+◌, ◌*◌, ◌%◌, ◌^◌, ◌<◌, ◌≤◌, ℤ, pos, negsuc, min, List, Bool, true, false, not, cond, nat_lt, nat_eq, refl, sym, ap, ◌∙◌, arith}
+use Rattle.std.proofs.Common.{◌≡◌, ℕ, ◌+◌, ◌%◌, ◌^◌, ◌<◌, ◌≤◌, pos, negsuc, min, List, Bool, true, false, not, cond, nat_lt, nat_eq, refl, sym, ap, ◌∙◌, arith}
 use Rattle.std.specs.Prelude.{Ok, bit_and, ◌&&◌}
 use Rattle.std.proofs.lemmas.Nat.{and_mask}
 use Rattle.std.proofs.lemmas.Bool.Decides.{nat_tests}
-use Rattle.plain_data.specs.Words.{signed, word, is_signed as is_in_signed}
+use Rattle.plain_data.specs.Words.{signed, word}
 use Rattle.plain_data.specs.declared.bounds.Bounds.{Bounds}
 use Rattle.plain_data.specs.declared.width.Width.TheVariants.{W64}
 use Rattle.plain_data.proofs.WordLaws.{signed-word}
@@ -22,14 +22,14 @@ use Rattle.term_bank.specs.declared.sort.Sort.TheVariants as sort
 use Rattle.term_bank.specs.declared.sort.Node.{Node}
 use Rattle.term_bank.specs.declared.shape.Shape.{Shape}
 use Rattle.term_bank.specs.declared.shape.Shape.TheVariants.{Initial, Constant, Binary, Test, Choose, Connect, Not, CopyRange}
-use Rattle.term_bank.specs.Terms.{IsTerm, Makes}
+use Rattle.term_bank.specs.Terms.{Makes}
 use Rattle.term_bank.specs.Values.{Worth, of_truth, result_of, outcome_of}
 use Rattle.term_bank.proofs.BankLemmas.{weaken, grows_on}
 use Rattle.term_bank.proofs.TermLemmas.{term_grown}
 use Rattle.mem_terms.specs.Truths.{Gives}
 use Rattle.mem_terms.proofs.Space.{lay_store}
 use Rattle.path_states.specs.declared.state.Number.{Number}
-use Rattle.path_states.specs.States.{IsSized, number_in, numbers_in}
+use Rattle.path_states.specs.States.{number_in, numbers_in}
 use Rattle.path_numbers.specs.Answers.{Numbered, Truthful, Worded}
 use Rattle.path_numbers.proofs.Nodes.{term_below}
 use Rattle.path_numbers.proofs.WordSums.{word-pos}

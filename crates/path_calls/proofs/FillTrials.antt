@@ -1,5 +1,5 @@
 -- What calls of functions outside that fill buffers make of one state.
-use Rattle.std.proofs.Common.{◌≡◌, ℕ, ◌+◌, ◌<◌, ℤ, pos, negsuc, List, [], ◌∷◌, ◌++◌, Bool, true, false, not, cond, Option, Some, None, refl, sym, ap, ◌∙◌, subst, append-nil}
+use Rattle.std.proofs.Common.{◌≡◌, ℕ, ◌+◌, ◌<◌, ℤ, pos, negsuc, List, [], ◌∷◌, ◌++◌, Bool, true, false, not, cond, Option, Some, refl, sym, ap, ◌∙◌, subst, append-nil}
 use Rattle.std.specs.Prelude.{Result, Ok, Err}
 use Rattle.plain_data.specs.declared.bounds.Bounds.{Bounds}
 use Rattle.plain_data.specs.declared.run.Finish.TheVariants as finish
@@ -8,7 +8,6 @@ use Rattle.plain_data.specs.declared.run.Undefined.{Undefined}
 use Rattle.plain_data.specs.declared.run.Undefined.TheVariants.{Dereference, LiteralWrite}
 use Rattle.c_store.specs.Store.{Store}
 use Rattle.c_store.specs.Access.{can_access, can_write}
-use Rattle.c_means.specs.declared.kind.Kind.TheVariants as k
 use Rattle.core_tree.specs.declared.expr.Callee.TheVariants as callee
 use Rattle.core_tree.specs.declared.expr.Fill.{Fill}
 use Rattle.core_tree.specs.declared.expr.OutsideAnswer.{OutsideAnswer}
@@ -16,14 +15,13 @@ use Rattle.core_tree.specs.Callees.{is_odd}
 use Rattle.core_tree.specs.Numbers.{converted_to}
 use Rattle.core_tree.specs.States.{Done, along, entered, note, returned, finished, ◌>>=◌}
 use Rattle.core_tree.specs.Values.{needed}
-use Rattle.term_bank.specs.declared.sort.Sort.TheVariants.{Memory}
 use Rattle.term_bank.specs.declared.shape.Shape.{Shape}
 use Rattle.term_bank.specs.Values.{Environment, Values, Models, Grows}
 use Rattle.term_bank.proofs.BankLemmas.{weaken, grows_on}
 use Rattle.path_states.specs.declared.state.Number.{Number}
 use Rattle.path_states.specs.declared.state.State.{State}
 use Rattle.path_states.specs.declared.state.Walked.{Walked}
-use Rattle.path_states.specs.States.{Held, IsSized, AllSized, IsRoomy, run_in, done_in, onto, number_in, numbers_in}
+use Rattle.path_states.specs.States.{Held, IsSized, AllSized, IsRoomy, run_in, done_in, onto, number_in}
 use Rattle.path_states.specs.Ways.{to_list, Trial, going, ending, Tries}
 use Rattle.path_states.proofs.Growth.{onto_pushed}
 use Rattle.path_steps.specs.declared.settling.Exit.{Exit}

@@ -1,11 +1,11 @@
 -- What calls of functions outside make of one state.
 use Rattle.std.proofs.Common.{◌≡◌, ℕ, ◌+◌, ◌^◌, ◌<◌, ℤ, pos, List, [], ◌∷◌, ◌++◌, Bool, true, false, not, cond, Option, Some, None, refl, sym, ap, ◌∙◌, subst, append-nil}
-use Rattle.std.specs.Prelude.{Result, Ok, Err, nat_eq, ◌&&◌}
+use Rattle.std.specs.Prelude.{Result, Ok, nat_eq, ◌&&◌}
 use Rattle.plain_data.specs.declared.bounds.Bounds.{Bounds}
 use Rattle.plain_data.specs.declared.run.Happening.TheVariants as happening
 use Rattle.c_store.specs.declared.object.Object.{Object}
 use Rattle.c_store.specs.declared.object.ObjectKind.TheVariants.{Outside}
-use Rattle.c_store.specs.Store.{Store, start, make, zero_range}
+use Rattle.c_store.specs.Store.{Store, start, make}
 use Rattle.c_means.specs.declared.kind.Kind.TheVariants as k
 use Rattle.core_tree.specs.declared.expr.Callee.{Callee}
 use Rattle.core_tree.specs.declared.expr.Callee.TheVariants as callee
@@ -16,7 +16,7 @@ use Rattle.core_tree.specs.declared.expr.Pointee.TheVariants as pointee
 use Rattle.core_tree.specs.declared.types.ValueType.{ValueType}
 use Rattle.core_tree.specs.Callees.{called, outside_answer, outside_object}
 use Rattle.core_tree.specs.Numbers.{converted_to}
-use Rattle.core_tree.specs.States.{Done, along, entered, note, returned, found, ◌>>=◌}
+use Rattle.core_tree.specs.States.{Done, along, entered, note, returned, ◌>>=◌}
 use Rattle.core_tree.specs.Values.{needed}
 use Rattle.term_bank.specs.declared.sort.Sort.TheVariants.{Memory}
 use Rattle.term_bank.specs.declared.sort.Node.{Node}
@@ -29,10 +29,9 @@ use Rattle.path_states.specs.declared.state.Number.{Number}
 use Rattle.path_states.specs.declared.state.State.{State}
 use Rattle.path_states.specs.declared.state.Walked.{Walked}
 use Rattle.path_states.specs.States.{Held, IsState, IsSized, IsRoomy, run_in, done_in, onto, number_in}
-use Rattle.path_states.specs.Ways.{Tries}
 use Rattle.path_states.proofs.Growth.{onto_pushed, state_grown}
 use Rattle.path_steps.specs.Operands.{pushed}
-use Rattle.path_steps.proofs.Trials.{Keeps, with_operand}
+use Rattle.path_steps.proofs.Trials.{with_operand}
 use Rattle.path_forms.specs.declared.calling.CallSite.{CallSite}
 use Rattle.path_forms.specs.declared.frame.Placed.{Placed}
 use Rattle.path_forms.specs.Around.{Around, level_at, env_at}
@@ -185,8 +184,10 @@ module _ (b : Bounds) (room : ℕ) (a c d f : List Shape) (s t : State) (site : 
         h.guard (λ e v m roomy. replies_in y frame bound e v m roomy)
         (record {
           keeps = λ e v q k.
-              rw (reply_way y frame site x e v q)
-              (store_sized y.limits.outside x (word_in e (e.base + site.place)) (e.base + site.place) q.done.store
-              (subst (λ n. IsSmall n x) (sym bound.outside) i.small) k, tt);
+              rw (reply_way y frame site x e v q) (
+                store_sized y.limits.outside x (word_in e (e.base + site.place)) (e.base + site.place) q.done.store
+                    (subst (λ n. IsSmall n x) (sym bound.outside) i.small) k,
+                tt,
+              );
         }));
   }

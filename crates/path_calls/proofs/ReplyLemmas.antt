@@ -1,5 +1,5 @@
 -- What functions outside answer.
-use Rattle.std.proofs.Common.{◌≡◌, ℕ, zero, suc, ◌+◌, ◌^◌, ◌<◌, ℤ, pos, List, Bool, true, false, not, cond, refl, sym, ap, ◌∙◌, arith}
+use Rattle.std.proofs.Common.{◌≡◌, ℕ, zero, suc, ◌+◌, pos, List, Bool, true, false, not, cond, refl, sym, ap, ◌∙◌, arith}
 use Rattle.std.specs.Prelude.{Ok, nat_eq, ◌&&◌}
 use Rattle.std.proofs.lemmas.Bool.Decides.{nat_tests}
 use Rattle.plain_data.specs.declared.width.Width.TheVariants.{W64}
@@ -22,7 +22,7 @@ use Rattle.path_states.specs.States.{number_in}
 use Rattle.path_numbers.specs.Answers.{Numbered, Truthful}
 use Rattle.path_calls.specs.Outside.{AsksAt}
 use Rattle.path_calls.specs.Places.{Tells, Changes}
-use Rattle.path_calls.specs.Replies.{IsSizeOf, MakesObject, Replies, size_by, object_by, word_in}
+use Rattle.path_calls.specs.Replies.{IsSizeOf, MakesObject, Replies, object_by, word_in}
 
 -- ---- objects
 

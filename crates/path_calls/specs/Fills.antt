@@ -12,7 +12,6 @@ use Rattle.term_bank.specs.Memories as wrapping
 use Rattle.term_bank.specs.declared.sort.Sort.TheVariants.{Truth, Word, Memory}
 use Rattle.term_bank.specs.declared.sort.Node.{Node}
 use Rattle.term_bank.specs.declared.shape.Shape.{Shape}
-use Rattle.term_bank.specs.Banks.{IsBank}
 use Rattle.term_bank.specs.Terms.{IsTerm}
 use Rattle.term_bank.specs.Values.{Environment, Values, Models, Grows}
 use Rattle.path_states.specs.declared.state.Number.{Number}

@@ -1,5 +1,5 @@
 -- What functions outside answer, and the objects that they make.
-use Rattle.std.specs.Prelude.{◌≡◌, ℕ, suc, ◌+◌, ◌%◌, ◌^◌, ◌<◌, ℤ, pos, Bool, cond, not, ◌&&◌, nat_eq, List}
+use Rattle.std.specs.Prelude.{◌≡◌, ℕ, suc, ◌+◌, ◌%◌, ◌^◌, ◌<◌, ℤ, pos, cond, not, ◌&&◌, nat_eq, List}
 use Rattle.c_store.specs.declared.object.ObjectKind.TheVariants.{Outside}
 use Rattle.c_store.specs.Store.{Store, start, make, zero_range}
 use Rattle.core_tree.specs.declared.expr.OutsideAnswer.{OutsideAnswer}

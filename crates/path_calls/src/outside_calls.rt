@@ -32,7 +32,8 @@ fn answered(
     state: &State,
 ) -> Result<Walked, WalkFault>
     requires { IsState bank.old state.now }
-    ensures { IfOk result (λ w. CallsWithin bounds.now room bank.old bank.new state.now (c.Outside answers None) site w) }
+    ensures { IfOk result (λ w. CallsWithin bounds.now room bank.old bank.new state.now (c.Outside answers None)
+        site w) }
 {
     if room < PLACES || room - PLACES < site.place {
         return Err(WalkFault::TooFar);
@@ -103,7 +104,9 @@ fn filled(
     }
     let mut now = state.copy(alloc)?;
     let arguments = begin(alloc, bank, site, &mut now)?;
-    let reply = answer_fill(bank, bounds, site.place, answers, fill, &arguments, now.memory)?;
+    let reply = answer_fill(
+        bank, bounds, site.place, answers, fill, &arguments, now.memory,
+    )?;
     let walked = settle_fill(alloc, bank, site, reply, &now)?;
     Ok(walked)
 }
@@ -121,7 +124,8 @@ pub fn outside(
     state: &State,
 ) -> Result<Walked, WalkFault>
     requires { IsState bank.old state.now }
-    ensures { IfOk result (λ w. CallsWithin bounds.now room bank.old bank.new state.now (c.Outside answers fill) site w) }
+    ensures { IfOk result (λ w. CallsWithin bounds.now room bank.old bank.new state.now (c.Outside answers fill)
+        site w) }
 {
     match fill {
         None => {

@@ -46,12 +46,7 @@ fn size_of(bounds: &Bounds, pointee: Pointee) -> Result<u64, WalkFault>
 }
 
 /// The memory in which the object of a place lives.
-fn new_object(
-    bank: &mut Bank,
-    place: u64,
-    size: u64,
-    memory: Node,
-) -> Result<Node, BankFault>
+fn new_object(bank: &mut Bank, place: u64, size: u64, memory: Node) -> Result<Node, BankFault>
     requires { IsTerm bank.old Memory memory }
     ensures { IfOk result (λ n. Changes bank.old bank.new place memory n
         (λ q s. make q (record { kind = kind.Outside; size = size }) s)) }
@@ -106,7 +101,8 @@ fn or_null(
     memory: Node,
 ) -> Result<Reply, WalkFault>
     requires { IsTerm bank.old Memory memory }
-    ensures { IfOk result (λ r. Replies bank.old bank.new bounds.now.outside (answers.Pointer false pointee) place memory r) }
+    ensures { IfOk result (λ r. Replies bank.old bank.new bounds.now.outside (answers.Pointer false pointee)
+        place memory r) }
 {
     let made = object(bank, bounds, place, pointee, memory)?;
     let first = first_address(bank, place)?;
@@ -133,7 +129,8 @@ fn never_null(
     memory: Node,
 ) -> Result<Reply, WalkFault>
     requires { IsTerm bank.old Memory memory }
-    ensures { IfOk result (λ r. Replies bank.old bank.new bounds.now.outside (answers.Pointer true pointee) place memory r) }
+    ensures { IfOk result (λ r. Replies bank.old bank.new bounds.now.outside (answers.Pointer true pointee)
+        place memory r) }
 {
     let memory = object(bank, bounds, place, pointee, memory)?;
     let node = first_address(bank, place)?;
@@ -155,7 +152,8 @@ fn pointer(
     memory: Node,
 ) -> Result<Reply, WalkFault>
     requires { IsTerm bank.old Memory memory }
-    ensures { IfOk result (λ r. Replies bank.old bank.new bounds.now.outside (answers.Pointer is_never_null pointee) place memory r) }
+    ensures { IfOk result (λ r. Replies bank.old bank.new bounds.now.outside (answers.Pointer is_never_null pointee)
+        place memory r) }
 {
     if is_never_null {
         let reply = never_null(bank, bounds, place, pointee, memory)?;

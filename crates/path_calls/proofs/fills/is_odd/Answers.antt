@@ -1,4 +1,3 @@
-use Rattle.term_bank.proofs.BankLemmas.{grows_on}
 use Rattle.term_bank.proofs.TermLemmas.{term_grown}
 use Rattle.path_calls.proofs.FillLemmas.{odd_truth}
 use Rattle.path_calls.proofs.fills.is_odd.Goals as goal
