@@ -12,7 +12,7 @@ use Rattle.term_bank.specs.Values.{Worth, result_of}
 use Rattle.term_bank.proofs.BankLemmas.{weaken, grows_on}
 use Rattle.path_calls.specs.Outside.{AsksAt}
 
-placed : (base offset room : ℕ) → base + room ≤ 2 ^ 32 → offset < room → ((base % 2 ^ 64) + offset) % 2 ^ 64 ≡ base + offset
+pub placed : (base offset room : ℕ) → base + room ≤ 2 ^ 32 → offset < room → ((base % 2 ^ 64) + offset) % 2 ^ 64 ≡ base + offset
 placed base offset room h k =
     let small : base < 2 ^ 64 = omega arith in
     let sum : base + offset < 2 ^ 64 = omega arith in

@@ -3,21 +3,23 @@ ghost use Rattle.std.specs.Prelude.{IfOk, ℕ};
 ghost use Rattle.core_tree.specs.declared.expr.Callee.TheVariants as c;
 ghost use Rattle.path_states.specs.States.{IsState};
 ghost use Rattle.path_calls.specs.Begun.{CallsBy};
+ghost use Rattle.path_calls.specs.Places.{CallsWithin};
 
 use crate::answering::{answer, argument, finish};
 use crate::beginning::begin;
 use crate::exiting::{MOST_CHOICES, put_exits};
+use crate::heap::{calloc, free, malloc};
 use crate::outside_words::outside_word;
 use core_tree::{Callee, Fill, OutsideAnswer};
 use path_forms::{CallSite, WalkFault};
 use path_numbers::constant;
 use path_states::{State, Walked, settled};
-use plain_data::Finish;
+use plain_data::{Bounds, Finish};
 use std::alloc::Global;
 use term_bank::{Bank, BankFault};
 
 /// How many places a call by rule names at most, but for those of `%p`.
-const PLACES: u64 = 4;
+pub(crate) const PLACES: u64 = 4;
 
 /// An argument of this index is the answer. It fails for want of memory alone.
 pub fn identity(
@@ -169,18 +171,18 @@ pub fn outside(
     }
 }
 
-/// A call by rule that neither prints nor needs a new object. It fails where the call's places aren't in the room, and
-/// for every other callee.
+/// A call by rule that doesn't print. It fails where the call's places aren't in the room, and for every other callee.
 pub fn call_by_rule(
     alloc: Global,
     bank: &mut Bank,
+    bounds: &Bounds,
     room: u64,
     callee: &Callee,
     site: CallSite,
     state: &State,
 ) -> Result<Walked, WalkFault>
     requires { IsState bank.old state.now }
-    ensures { IfOk result (λ w. CallsBy room bank.old bank.new state.now callee.now site w) }
+    ensures { IfOk result (λ w. CallsWithin bounds.now room bank.old bank.new state.now callee.now site w) }
 {
     match callee {
         Callee::Identity { index } => {
@@ -195,11 +197,22 @@ pub fn call_by_rule(
             let walked = abort(alloc, bank, site, state)?;
             Ok(walked)
         }
+        Callee::Malloc => {
+            let walked = malloc(alloc, bank, bounds, room, site, state)?;
+            Ok(walked)
+        }
+        Callee::Calloc => {
+            let walked = calloc(alloc, bank, bounds, room, site, state)?;
+            Ok(walked)
+        }
+        Callee::Free => {
+            let walked = free(alloc, bank, site, state)?;
+            Ok(walked)
+        }
         Callee::Outside { answer, fill } => {
             let walked = outside(alloc, bank, room, site, *answer, *fill, state)?;
             Ok(walked)
         }
-        Callee::Body { .. } | Callee::Log { .. } | Callee::Malloc | Callee::Calloc | Callee::Free =>
-            Err(WalkFault::Unwalked),
+        Callee::Body { .. } | Callee::Log { .. } => Err(WalkFault::Unwalked),
     }
 }

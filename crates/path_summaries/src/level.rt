@@ -113,7 +113,7 @@ impl<'a> Calls for Level<'a> {
                 Ok(walked)
             }
             _ => {
-                let walked = call_by_rule(alloc, bank, room, callee, site, state)?;
+                let walked = call_by_rule(alloc, bank, self.bounds, room, callee, site, state)?;
                 Ok(walked)
             }
         }
