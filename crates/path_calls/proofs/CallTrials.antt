@@ -128,7 +128,7 @@ pub record AnswersAs (f : Trial) (site : CallSite) (z : Environment → Held →
 pub record EndsAs (f : Trial) (site : CallSite) (z : Held → Finish) : Type 0 where
   pub is : (e : Environment) (v : Values) (h : Held) → f e v h ≡ Some (Err (finished (z h) (begun site h).done))
 
-nothing_more : (site : CallSite) (h : Held)
+pub nothing_more : (site : CallSite) (h : Held)
     → record h.done { events = (begun site h).done.events ++ []; out = h.done.out } ≡ (begun site h).done
 nothing_more site h = ap (λ l. record h.done { events = l }) (append-nil (begun site h).done.events)
 

@@ -7,3 +7,6 @@ pub mod ReplyLemmas
 pub mod OutsideTrials
 pub mod FillLemmas
 pub mod FillTrials
+pub mod RequestLemmas
+pub mod HeapLemmas
+pub mod HeapCalls

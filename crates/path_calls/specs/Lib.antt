@@ -5,3 +5,4 @@ pub mod Places
 pub mod Replies
 pub mod Fills
 pub mod FillCalls
+pub mod Allocations

@@ -8,6 +8,7 @@ ghost use Rattle.path_calls.specs.Places.{CallsWithin};
 use crate::answering::{answer, argument, finish};
 use crate::beginning::begin;
 use crate::exiting::{MOST_CHOICES, put_exits};
+use crate::heap::{calloc, free, malloc};
 use crate::outside_calls::outside;
 use core_tree::Callee;
 use path_forms::{CallSite, WalkFault};
@@ -106,11 +107,22 @@ pub fn call_by_rule(
             let walked = abort(alloc, bank, site, state)?;
             Ok(walked)
         }
+        Callee::Malloc => {
+            let walked = malloc(alloc, bank, bounds, room, site, state)?;
+            Ok(walked)
+        }
+        Callee::Calloc => {
+            let walked = calloc(alloc, bank, bounds, room, site, state)?;
+            Ok(walked)
+        }
+        Callee::Free => {
+            let walked = free(alloc, bank, site, state)?;
+            Ok(walked)
+        }
         Callee::Outside { answer, fill } => {
             let walked = outside(alloc, bank, bounds, room, site, *answer, *fill, state)?;
             Ok(walked)
         }
-        Callee::Body { .. } | Callee::Log { .. } | Callee::Malloc | Callee::Calloc | Callee::Free =>
-            Err(WalkFault::Unwalked),
+        Callee::Body { .. } | Callee::Log { .. } => Err(WalkFault::Unwalked),
     }
 }

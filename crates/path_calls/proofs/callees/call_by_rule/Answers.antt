@@ -19,3 +19,15 @@ returns-in_ok-walked-in-Abort c =
     rw c.in-Abort.is
     (within_bounds c.args.bounds.now c.args.room c.args.bank.now c.abort.new.bank c.args.state.now callee.Abort c.args.site
     c.in_ok-walked-in-Abort.walked (c.in_ok-walked-in-Abort.ensures c.args.room))
+
+pub returns-in_ok-walked-in-Malloc : goal.returns-in_ok-walked-in-Malloc
+returns-in_ok-walked-in-Malloc c = rw c.in-Malloc.is c.in_ok-walked-in-Malloc.ensures
+
+pub returns-in_ok-walked-in-Calloc : goal.returns-in_ok-walked-in-Calloc
+returns-in_ok-walked-in-Calloc c = rw c.in-Calloc.is c.in_ok-walked-in-Calloc.ensures
+
+pub returns-in_ok-walked-in-Free : goal.returns-in_ok-walked-in-Free
+returns-in_ok-walked-in-Free c =
+    rw c.in-Free.is
+    (within_bounds c.args.bounds.now c.args.room c.args.bank.now c.free.new.bank c.args.state.now callee.Free c.args.site
+    c.in_ok-walked-in-Free.walked (c.in_ok-walked-in-Free.ensures c.args.room))
