@@ -5,4 +5,5 @@ pub mod Sequences
 pub mod Stored
 pub mod Cases
 pub mod Functions
+pub mod Laid
 pub mod Zeroed

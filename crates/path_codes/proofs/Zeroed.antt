@@ -1,5 +1,5 @@
 -- Objects set to 0, and declarations.
-use Rattle.std.proofs.Common.{◌≡◌, ℕ, ◌+◌, ◌^◌, ◌<◌, ◌≤◌, pos, List, [], ◌∷◌, ◌++◌, Bool, true, false, cond, Option, Some, refl, sym, ap, ◌∙◌, arith}
+use Rattle.std.proofs.Common.{◌≡◌, ℕ, ◌+◌, ◌^◌, ◌<◌, ◌≤◌, pos, List, [], ◌++◌, Bool, true, false, Option, Some, refl, sym, ap, ◌∙◌, arith}
 use Rattle.std.specs.Prelude.{Ok}
 use Rattle.plain_data.specs.declared.width.Width.TheVariants.{W64}
 use Rattle.plain_data.specs.Words.{word}
@@ -17,21 +17,19 @@ use Rattle.term_bank.specs.declared.shape.Shape.TheVariants.{Constant, ZeroRange
 use Rattle.term_bank.specs.Memories as wrapping
 use Rattle.term_bank.specs.Terms.{Makes}
 use Rattle.term_bank.specs.Values.{Environment, Worth}
-use Rattle.term_bank.proofs.BankLemmas.{weaken, stays, grows_on}
-use Rattle.mem_terms.proofs.Space.{zero_store}
+use Rattle.term_bank.proofs.BankLemmas.{weaken, grows_on}
+use Rattle.mem_terms.proofs.Space.{lay_store}
 use Rattle.path_states.specs.declared.state.Number.{Number}
 use Rattle.path_states.specs.declared.state.State.{State}
 use Rattle.path_states.specs.declared.state.Walked.{Walked}
-use Rattle.path_states.specs.States.{Held, IsSized, done_in, number_in, onto}
+use Rattle.path_states.specs.States.{Held, number_in}
 use Rattle.path_states.specs.Ways.{Way, Goes, stay, going, ◌>>=◌}
-use Rattle.path_states.proofs.Growth.{state_grown, states_grown, states_joined}
-use Rattle.path_states.proofs.Paths.{goes_none, goes_more, goes_then}
+use Rattle.path_states.proofs.Paths.{goes_then}
 use Rattle.path_numbers.specs.Answers.{Worded}
 use Rattle.path_numbers.proofs.WordSums.{word-pos}
 use Rattle.path_steps.specs.declared.leaf.Leaf.TheVariants as leaf
 use Rattle.path_steps.specs.Leaves.{leaf_way, WalksBy}
-use Rattle.path_steps.specs.Operands.{Pops, top}
-use Rattle.path_steps.proofs.Trials.{done_same}
+use Rattle.path_steps.specs.Operands.{Pops}
 use Rattle.path_arrows.specs.declared.sifting.Sifted.{Sifted}
 use Rattle.path_arrows.specs.Arrows.{bare, by_arrow, Sifts}
 use Rattle.path_forms.specs.declared.frame.Placed.{Placed}
@@ -39,74 +37,43 @@ use Rattle.path_forms.specs.Around.{Around, level_at, env_at, IsPlace}
 use Rattle.path_forms.proofs.Reached.{goes_where}
 use Rattle.path_rooms.specs.Rooms.{settings_room}
 use Rattle.path_codes.specs.declared.below.Coded.{Coded}
-use Rattle.path_codes.specs.Settings.{zeroing, ZeroesOne, ZeroesAll, Zeroes, ZeroesIf, zeroed_arrow, settings_arrow, WalksSettings}
+use Rattle.path_codes.specs.Settings.{laying, Lays, LaysAll, LaysOne, Zeroes, ZeroesIf, zeroed_arrow, settings_arrow, WalksSettings}
 use Rattle.path_codes.specs.Walks.{WalksItem}
+use Rattle.path_codes.proofs.Laid.{lays_one}
 use Rattle.path_codes.proofs.Courses.{arrows_then, arrows_as, splits_close}
 use Rattle.path_codes.proofs.Pieces.{splits_sift}
 use Rattle.path_codes.proofs.Stored.{ended_so}
 
-zero_sized : (a n : ℕ) (s : Store) → IsSized s → IsSized (wrapping.zero_range a n s)
-unfolding wrapping.zero_range wrapping.lay
-zero_sized a n s h = record { sizes = h.sizes }
-
 -- ---- one state
+
+zero_lays : (a n : ℕ) (s : Store) → wrapping.zero_range a n s ≡ wrapping.lay a n (λ _. 0) s
+unfolding wrapping.zero_range
+zero_lays a n s = refl
 
 pub zeroes_one : (a b c d f : List Shape) (s u : State) (y : Number) (from length memory : Node) (size : ℕ) → Pops a b s u y
     → Worded b c W64 from (λ v. word W64 (number_in v y)) → Makes c d (Constant size W64) (Ok length)
     → Makes d f (ZeroRange u.memory.index from.index length.index) (Ok memory)
-    → ZeroesOne a f size s (record u { memory = memory; operands = [] })
-zeroes_one a b c d f s u y from length memory size h i j l =
-    let df = l.grows in
-    let cf = grows_on j.grows df in
-    let bf = grows_on i.grows cf in
-    let is = state_grown bf u h.state in
-    record {
-      steps = λ room. record {
-        grows = grows_on h.grows bf;
-        states = (record { guard = is.guard; memory = l.node; value = is.value; events = is.events; operands = tt }, tt);
-        stands = λ e v m r sized.
-            let md = weaken df m in
-            let zero : ℕ → ℕ → Store → Store = wrapping.zero_range in
-            ap (λ q. cond (v u.guard.index).truth (bare (with_store q (done_in v u)) ∷ []) [])
-            (ap (λ (w : Worth). w.store) (l.value.is e v m)
-            ∙ ap (λ p. zero p (v length.index).word (v u.memory.index).store) (i.is e v (weaken j.grows md))
-            ∙ ap (λ z. zero (word W64 z) (v length.index).word (v u.memory.index).store) (h.is e v (weaken bf m))
-            ∙ ap (λ n. zero (word W64 (top (onto v [] s.operands))) n (v u.memory.index).store)
-            (ap (λ (w : Worth). w.word) (j.value.is e v md)))
-            ∙ ap (λ (q : State). cond (v q.guard.index).truth
-            (bare (with_store (zero (word W64 (top (onto v [] s.operands))) size (v u.memory.index).store) (done_in v u)) ∷ []) []) h.same
-            ∙ ap (λ (q : Done ℕ). cond (v s.guard.index).truth
-            (bare (with_store (zero (word W64 (top (onto v [] s.operands))) size q.store) q) ∷ []) []) (done_same v s u h.same);
-        sized = λ e v m r q i. zero_sized (word W64 (top q.operands)) size q.done.store i;
-      };
-    }
-
-pub zeroes_none : (a : List Shape) (size : ℕ) → ZeroesAll a a size [] []
-zeroes_none a size = record {
-  grows = stays;
-  states = tt;
-  goes = λ room. goes_none room a (zeroing size) (λ e v m r h i. zero_sized (word W64 (top h.operands)) size h.done.store i);
-}
-
-pub zeroes_more : (a b c : List Shape) (size : ℕ) (ss ts : List State) (s t : State) → ZeroesAll a b size ss ts → ZeroesOne b c size s t
-    → ZeroesAll a c size (ss ++ s ∷ []) (ts ++ t ∷ [])
-zeroes_more a b c size ss ts s t h i =
-    let g = (i.steps 0).grows in
-    record {
-      grows = grows_on h.grows g;
-      states = states_joined c ts (t ∷ []) (states_grown g ts h.states) (i.steps 0).states;
-      goes = λ room. goes_more room a b c ss ts (t ∷ []) s (zeroing size) (h.goes room) (i.steps room);
-    }
+    → LaysOne a f size (λ _. 0) s (record u { memory = memory; operands = [] })
+zeroes_one a b c d f s u y from length memory size h i j l = lays_one a b c f s u y from memory size (λ _. 0) h i laid where
+  laid : Lays c f u.memory from memory size (λ _. 0)
+  laid = record {
+    grows = grows_on j.grows l.grows;
+    term = l.node;
+    is = λ e v m.
+        ap (λ (w : Worth). w.store) (l.value.is e v m)
+        ∙ ap (λ (w : Worth). wrapping.zero_range (v from.index).word w.word (v u.memory.index).store) (j.value.is e v (weaken l.grows m))
+        ∙ zero_lays (v from.index).word size (v u.memory.index).store;
+  }
 
 -- ---- the object of a place
 
 pub zeroes : (room object size : ℕ) (a b c : List Shape) (ss ts : List State) (w : Walked) → object < room → size ≤ 4294967296
-    → WalksBy a b ss (leaf.Local object) w → ZeroesAll b c size w.going ts → Zeroes room object size a c ss ts
+    → WalksBy a b ss (leaf.Local object) w → LaysAll b c size (λ _. 0) w.going ts → Zeroes room object size a c ss ts
 zeroes room object size a b c ss ts w inside small h i =
-    let all : Way = λ e v q. going (leaf_way (leaf.Local object) e v q) >>= zeroing size e v in
+    let all : Way = λ e v q. going (leaf_way (leaf.Local object) e v q) >>= laying size (λ _. 0) e v in
     let goes = goes_where room a c ss ts all (by_arrow (λ e d. Some (with_store (stores.zero_range (start (e.base + object)) size d.store) d)))
     (λ e v m r q. same e.base q (low e.base object room r.places inside))
-    (goes_then room a b c ss w.going ts (λ e v q. going (leaf_way (leaf.Local object) e v q)) (zeroing size)
+    (goes_then room a b c ss w.going ts (λ e v q. going (leaf_way (leaf.Local object) e v q)) (laying size (λ _. 0))
     (h.walks room inside).going (i.goes room)) in
     record { grows = goes.grows; states = goes.states; goes = goes }
   where
@@ -120,11 +87,11 @@ zeroes room object size a b c ss ts w inside small h i =
     ends p h = omega (arith, h, small)
 
     same : (base : ℕ) (q : Held) → base + object < 2 ^ 32
-        → Some (bare (with_store (wrapping.zero_range (word W64 (pos (start (base + object)))) size q.done.store) q.done))
+        → Some (bare (with_store (wrapping.lay (word W64 (pos (start (base + object)))) size (λ _. 0) q.done.store) q.done))
         ≡ Some (bare (with_store (stores.zero_range (start (base + object)) size q.done.store) q.done))
     same base q h =
-        ap (λ a. Some (bare (with_store (wrapping.zero_range a size q.done.store) q.done))) (word-pos W64 (start (base + object)) (below (base + object) h))
-        ∙ ap (λ s. Some (bare (with_store s q.done))) (zero_store (start (base + object)) size q.done.store (ends (base + object) h))
+        ap (λ a. Some (bare (with_store (wrapping.lay a size (λ _. 0) q.done.store) q.done))) (word-pos W64 (start (base + object)) (below (base + object) h))
+        ∙ ap (λ s. Some (bare (with_store s q.done))) (lay_store (start (base + object)) size (λ _. 0) q.done.store (ends (base + object) h))
 
 -- ---- where an initializer asks for it
 

@@ -2,16 +2,20 @@
 use Rattle.std.specs.Prelude.{◌≡◌, ℕ, ◌+◌, ◌≤◌, ◌^◌, ℤ, Bool, List, [], ◌∷◌, Some}
 use Rattle.plain_data.specs.declared.width.Width.TheVariants.{W64}
 use Rattle.plain_data.specs.Words.{word}
-use Rattle.c_store.specs.Store.{start, zero_range}
+use Rattle.c_store.specs.Store.{start, lay, zero_range}
 use Rattle.core_tree.specs.declared.code.Setting.{Setting}
 use Rattle.core_tree.specs.declared.types.ValueType.{ValueType}
 use Rattle.core_tree.specs.Numbers.{size_of}
 use Rattle.core_tree.specs.Memory.{stored}
 use Rattle.core_tree.specs.States.{Arrow, running, with_store}
 use Rattle.core_tree.specs.Codes.{sets, sets_all, zeroed_if}
+use Rattle.term_bank.specs.declared.sort.Sort.TheVariants.{Memory}
+use Rattle.term_bank.specs.declared.sort.Node.{Node}
 use Rattle.term_bank.specs.declared.shape.Shape.{Shape}
+use Rattle.term_bank.specs.Banks.{IsBank}
 use Rattle.term_bank.specs.Memories as wrapping
-use Rattle.term_bank.specs.Values.{Environment, Grows}
+use Rattle.term_bank.specs.Terms.{IsTerm}
+use Rattle.term_bank.specs.Values.{Environment, Values, Models, Grows}
 use Rattle.path_states.specs.declared.state.State.{State}
 use Rattle.path_states.specs.States.{AreStates}
 use Rattle.path_states.specs.Ways.{Way, Steps, Goes}
@@ -67,20 +71,45 @@ pub record SettingsOn (x : Around) (frame : List Placed) (room object : ℕ) (st
   pub rooms : next + settings_room x.measures rest ≡ place + settings_room x.measures all
   pub toward : Toward room a b ss ts (settings_arrow x frame object rest next) (settings_arrow x frame object all place)
 
--- ---- objects set to 0
+-- ---- bytes that are laid
+
+-- a byte written so many bytes behind the address that a node is
+pub record WritesByte (a b : List Shape) (m from n : Node) (at byte : ℕ) : Type 0 where
+  pub grows : Grows a b
+  pub bank : IsBank b
+  pub term : IsTerm b Memory n
+  pub is : (e : Environment) (v : Values) → Models b e v
+      → (v n.index).store ≡ wrapping.write 1 (wrapping.behind (v from.index).word at) byte (v m.index).store
+
+-- other bytes from there on, each by its distance
+pub record Lays (a b : List Shape) (m from n : Node) (size : ℕ) (f : ℕ → ℕ) : Type 0 where
+  pub grows : Grows a b
+  pub term : IsTerm b Memory n
+  pub is : (e : Environment) (v : Values) → Models b e v
+      → (v n.index).store ≡ wrapping.lay (v from.index).word size f (v m.index).store
 
 -- from the address on top on
-abbrev pub zeroing : ℕ → Way
-zeroing size e v h =
-    Some (bare (with_store (wrapping.zero_range (word W64 (top h.operands)) size h.done.store) h.done))
+abbrev pub laying : ℕ → (ℕ → ℕ) → Way
+laying size f e v h = Some (bare (with_store (wrapping.lay (word W64 (top h.operands)) size f h.done.store) h.done))
 
-pub record ZeroesOne (a b : List Shape) (size : ℕ) (s t : State) : Type 0 where
-  pub steps : (room : ℕ) → Steps room a b s (t ∷ []) (zeroing size)
+pub record LaysOne (a b : List Shape) (size : ℕ) (f : ℕ → ℕ) (s t : State) : Type 0 where
+  pub steps : (room : ℕ) → Steps room a b s (t ∷ []) (laying size f)
 
-pub record ZeroesAll (a b : List Shape) (size : ℕ) (ss ts : List State) : Type 0 where
+pub record LaysAll (a b : List Shape) (size : ℕ) (f : ℕ → ℕ) (ss ts : List State) : Type 0 where
   pub grows : Grows a b
   pub states : AreStates b ts
-  pub goes : (room : ℕ) → Goes room a b ss ts (zeroing size)
+  pub goes : (room : ℕ) → Goes room a b ss ts (laying size f)
+
+-- in the object of a place behind the base, so many bytes behind its start
+abbrev pub lays : ℕ → ℕ → ℕ → (ℕ → ℕ) → Environment → Arrow ℕ
+lays object bytes size f e d = Some (with_store (lay (start (e.base + object) + bytes) size f d.store) d)
+
+pub record LaysAt (room object bytes size : ℕ) (f : ℕ → ℕ) (a b : List Shape) (ss ts : List State) : Type 0 where
+  pub grows : Grows a b
+  pub states : AreStates b ts
+  pub goes : Goes room a b ss ts (by_arrow (lays object bytes size f))
+
+-- ---- objects set to 0
 
 pub record Zeroes (room object size : ℕ) (a b : List Shape) (ss ts : List State) : Type 0 where
   pub grows : Grows a b

@@ -10,10 +10,12 @@ mod selecting;
 mod settings;
 mod storing;
 mod straight;
+mod texts;
 mod turns;
 mod walking;
 mod zeroing;
 
 pub use below::{Coded, Steps};
 pub use bodies::walk_body;
+pub use texts::lay_text;
 pub use walking::{walk_code, walk_items};

@@ -1,7 +1,8 @@
 //! Automatic objects, initialised where their declarations are reached (C99 6.2.4p6, 6.7.8).
-ghost use Rattle.std.specs.Prelude.{IfOk};
+ghost use Rattle.std.specs.Prelude.{IfOk, List};
 ghost use Rattle.core_tree.specs.declared.code.Setting.TheVariants as s;
 ghost use Rattle.core_tree.specs.Codes as form;
+ghost use Rattle.path_forms.specs.declared.frame.Placed.{Placed as PlacedType};
 ghost use Rattle.path_forms.specs.Calling.{Stays};
 ghost use Rattle.path_states.specs.States.{AreStates};
 ghost use Rattle.path_codes.specs.Settings.{WalksSet, WalksSettings, ZeroesIf};
@@ -9,6 +10,7 @@ ghost use Rattle.path_codes.specs.Walks.{WalksItem};
 
 use crate::below::{Coded, Evaluated, Steps};
 use crate::storing::store;
+use crate::texts::lay;
 use crate::zeroing::zero;
 use core_tree::{Expr, Setting, ValueType};
 use path_arrows::{Sifted, pass, rejoin, sift};
@@ -41,6 +43,39 @@ impl<'a, C: Calls, X> Steps<'a, C, X> {
         let set = store(self.alloc, bank, self.room, object, bytes, stored, on)?;
         let all = rejoin(self.alloc, bank, over, set)?;
         Ok(Coded { states: all, next })
+    }
+
+    /// A text in so many bytes, from so many bytes behind the start of an object on.
+    fn set_text(
+        &self,
+        object: u64,
+        bytes: u64,
+        size: u64,
+        text: &[u8],
+        place: u64,
+        bank: &mut Bank,
+        states: &[State],
+    ) -> Result<Coded, WalkFault>
+        requires { AreStates bank.old states.now }
+        ensures { IfOk result (λ y. (frame : List PlacedType) → WalksSet (C.around self.now.scene.now) frame
+            self.now.room object (s.Text bytes size text.now) bank.old bank.new states.now place y) }
+    {
+        let Sifted { running, others } = sift(self.alloc, states)?;
+        let laid = lay(
+            self.alloc,
+            bank,
+            self.room,
+            object,
+            bytes,
+            size,
+            text,
+            running.as_slice(),
+        )?;
+        let all = rejoin(self.alloc, bank, others, laid)?;
+        Ok(Coded {
+            states: all,
+            next: place,
+        })
     }
 
     /// One setting of the object of a place behind the base.
@@ -76,7 +111,22 @@ impl<'a, C: Calls, X> Steps<'a, C, X> {
                 )?;
                 Ok(set)
             }
-            Setting::Text { .. } => Err(WalkFault::Unwalked),
+            Setting::Text {
+                offset,
+                size,
+                bytes,
+            } => {
+                let set = self.set_text(
+                    object,
+                    *offset,
+                    *size,
+                    bytes.as_slice(),
+                    place,
+                    bank,
+                    states,
+                )?;
+                Ok(set)
+            }
         }
     }
 

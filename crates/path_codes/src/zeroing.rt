@@ -1,7 +1,7 @@
 //! Objects set to 0 (C99 6.7.8p21).
 ghost use Rattle.std.specs.Prelude.{IfOk};
 ghost use Rattle.path_states.specs.States.{IsState, AreStates};
-ghost use Rattle.path_codes.specs.Settings.{ZeroesOne, ZeroesAll, Zeroes};
+ghost use Rattle.path_codes.specs.Settings.{LaysAll, LaysOne, Zeroes};
 
 use mem_terms::zero_range;
 use path_forms::WalkFault;
@@ -14,7 +14,7 @@ use term_bank::{Bank, BankFault};
 
 fn zero_one(alloc: Global, bank: &mut Bank, size: u64, state: State) -> Result<State, BankFault>
     requires { IsState bank.old state }
-    ensures { IfOk result (λ t. ZeroesOne bank.old bank.new size state t) }
+    ensures { IfOk result (λ t. LaysOne bank.old bank.new size (λ _. 0) state t) }
 {
     let mut next = state;
     let operand = pop(bank, &mut next)?;
@@ -34,7 +34,7 @@ fn zero_all(
     states: &[State],
 ) -> Result<Items<State>, BankFault>
     requires { AreStates bank.old states.now }
-    ensures { IfOk result (λ ts. ZeroesAll bank.old bank.new size states.now ts) }
+    ensures { IfOk result (λ ts. LaysAll bank.old bank.new size (λ _. 0) states.now ts) }
 {
     let mut all = Items::new(alloc);
     for state in states {
