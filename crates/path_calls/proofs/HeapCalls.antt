@@ -1,5 +1,5 @@
 -- What calls of the heap's functions make of one state.
-use Rattle.std.proofs.Common.{◌≡◌, ℕ, ◌+◌, ◌*◌, ◌%◌, ◌^◌, ◌<◌, ◌≤◌, ℤ, pos, List, [], ◌∷◌, ◌++◌, Bool, true, false, cond, not, nat_eq, nat_lt}
+use Rattle.std.proofs.Common.{◌≡◌, ℕ, ◌+◌, ◌*◌, ◌^◌, ◌<◌, ℤ, pos, List, [], ◌∷◌, ◌++◌, Bool, true, false, cond, not, nat_eq, nat_lt}
 use Rattle.std.proofs.Common.{Option, Some, None, refl, sym, ap, subst, ◌∙◌, arith}
 use Rattle.std.specs.Prelude.{Result, Ok, Err}
 use Rattle.plain_data.specs.declared.bounds.Bounds.{Bounds}
@@ -14,9 +14,9 @@ use Rattle.core_tree.specs.declared.expr.Callee.{Callee}
 use Rattle.core_tree.specs.declared.expr.Callee.TheVariants as callee
 use Rattle.core_tree.specs.declared.types.ValueType.{ValueType}
 use Rattle.core_tree.specs.declared.types.ValueType.TheVariants as vt
-use Rattle.core_tree.specs.Callees.{called, value_or_zero, answers, freed, heap_object, zeroed_if}
+use Rattle.core_tree.specs.Callees.{value_or_zero, answers, freed, heap_object}
 use Rattle.core_tree.specs.Numbers.{converted_to}
-use Rattle.core_tree.specs.States.{Done, Outcome, along, entered, finished, found, meet, note, returned, with_store, ◌>>=◌}
+use Rattle.core_tree.specs.States.{Done, along, entered, finished, found, note, returned, with_store, ◌>>=◌}
 use Rattle.core_tree.specs.Values.{needed}
 use Rattle.term_bank.specs.declared.shape.Shape.{Shape}
 use Rattle.term_bank.specs.Values.{Environment, Values, Models, Grows}
@@ -24,17 +24,17 @@ use Rattle.term_bank.proofs.BankLemmas.{weaken, grows_on}
 use Rattle.path_states.specs.declared.state.Number.{Number}
 use Rattle.path_states.specs.declared.state.State.{State}
 use Rattle.path_states.specs.declared.state.Walked.{Walked}
-use Rattle.path_states.specs.States.{Held, IsRoomy, IsSized, AllSized, number_in, numbers_in, run_in}
+use Rattle.path_states.specs.States.{Held, IsSized, AllSized, number_in, numbers_in, run_in}
 use Rattle.path_states.specs.Ways.{Trial, Steps, Tries, to_list, going, ending}
 use Rattle.path_numbers.specs.Answers.{Numbered}
 use Rattle.path_steps.specs.Operands.{pushed}
 use Rattle.path_steps.proofs.Trials.{Keeps}
 use Rattle.path_forms.specs.declared.calling.CallSite.{CallSite}
 use Rattle.path_forms.specs.declared.frame.Placed.{Placed}
-use Rattle.path_forms.specs.Around.{Around, level_at, env_at}
+use Rattle.path_forms.specs.Around.{Around, level_at}
 use Rattle.path_forms.specs.Calling.{taken, below, call_way}
 use Rattle.path_calls.specs.declared.requests.Request.{Request}
-use Rattle.path_calls.specs.Allocations.{with_object, is_null, allocated, without, released, misses_value, Requests}
+use Rattle.path_calls.specs.Allocations.{with_object, is_null, allocated, released, misses_value, Requests}
 use Rattle.path_calls.specs.Begun.{Begins, begun, CallsBy}
 use Rattle.path_calls.specs.Places.{CallsWithin}
 use Rattle.path_calls.proofs.CallTrials.{nothing_more}

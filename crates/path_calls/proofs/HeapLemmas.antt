@@ -1,7 +1,7 @@
 -- Objects that calls make and end, as nodes and as runs.
-use Rattle.std.proofs.Common.{◌≡◌, ℕ, ◌+◌, ◌*◌, ◌%◌, ◌^◌, ◌<◌, ◌≤◌, ℤ, pos, List, [], ◌∷◌, ◌++◌, Bool, true, false, cond, not, nat_eq, nat_lt}
-use Rattle.std.proofs.Common.{Option, Some, None, refl, sym, ap, subst, ◌∙◌, arith}
-use Rattle.std.specs.Prelude.{Result, Ok, Err}
+use Rattle.std.proofs.Common.{◌≡◌, ℕ, ◌+◌, ◌%◌, ◌^◌, ◌<◌, ◌≤◌, pos, List, [], ◌∷◌, ◌++◌, Bool, true, false, cond, not, nat_eq, nat_lt}
+use Rattle.std.proofs.Common.{Some, None, refl, ap, subst, ◌∙◌, arith}
+use Rattle.std.specs.Prelude.{Ok, Err}
 use Rattle.std.proofs.lemmas.Bool.Decides.{nat_tests}
 use Rattle.plain_data.specs.declared.run.Finish.TheVariants as finish
 use Rattle.plain_data.specs.declared.run.Undefined.TheVariants as undefined
@@ -13,7 +13,7 @@ use Rattle.c_store.specs.Store.{Store, start, object_of, make, end}
 use Rattle.core_tree.specs.Callees.{zeroed_if}
 use Rattle.core_tree.specs.Numbers.{converted_to}
 use Rattle.core_tree.specs.States.{Done, finished, with_store}
-use Rattle.mem_terms.specs.Truths.{Gives, HasWorth}
+use Rattle.mem_terms.specs.Truths.{Gives}
 use Rattle.mem_terms.proofs.Space.{zero_store}
 use Rattle.term_bank.specs.Memories as wrapping
 use Rattle.term_bank.specs.declared.sort.Sort.TheVariants as sort
@@ -21,19 +21,19 @@ use Rattle.term_bank.specs.declared.sort.Node.{Node}
 use Rattle.term_bank.specs.declared.shape.Shape.{Shape}
 use Rattle.term_bank.specs.declared.shape.Shape.TheVariants.{Constant, WorldWord, Choose, Not, Made, Ended, ZeroRange}
 use Rattle.term_bank.specs.Terms.{Makes}
-use Rattle.term_bank.specs.Values.{Environment, Worth, Values, Models, Grows, of_truth, of_word}
+use Rattle.term_bank.specs.Values.{Environment, Worth, Values, Models, of_truth, of_word}
 use Rattle.term_bank.proofs.BankLemmas.{weaken, grows_on}
 use Rattle.term_bank.proofs.TermLemmas.{term_grown}
 use Rattle.path_states.specs.declared.state.Number.{Number}
 use Rattle.path_states.specs.declared.state.State.{State}
 use Rattle.path_states.specs.declared.state.Walked.{Walked}
-use Rattle.path_states.specs.States.{Held, IsState, IsRoomy, IsSized, AllSized, number_in, run_in, done_in, onto}
+use Rattle.path_states.specs.States.{Held, IsRoomy, IsSized, AllSized, number_in, run_in, done_in, onto}
 use Rattle.path_states.specs.Ways.{going, ending, Tries}
 use Rattle.path_states.proofs.Growth.{onto_pushed}
 use Rattle.path_numbers.specs.Answers.{Numbered, Truthful, Worded}
 use Rattle.path_numbers.proofs.Nodes.{truth_is, word_is}
-use Rattle.path_steps.specs.Exits.{settled_in, Settles}
-use Rattle.path_steps.proofs.Trials.{Keeps, tries_settled}
+use Rattle.path_steps.specs.Exits.{Settles}
+use Rattle.path_steps.proofs.Trials.{tries_settled}
 use Rattle.path_forms.specs.declared.calling.CallSite.{CallSite}
 use Rattle.path_calls.specs.declared.heap.Allocation.{Allocation}
 use Rattle.path_calls.specs.declared.requests.Request.{Request}

@@ -41,12 +41,7 @@ fn word_exceeds(bank: &mut Bank, most: u32, word: Node) -> Result<Node, BankFaul
 }
 
 /// Whether a factor is above a bound, and the other one isn't 0.
-fn factor_exceeds(
-    bank: &mut Bank,
-    most: u32,
-    factor: Node,
-    other: Node,
-) -> Result<Node, BankFault>
+fn factor_exceeds(bank: &mut Bank, most: u32, factor: Node, other: Node) -> Result<Node, BankFault>
     requires factor { IsTerm bank.old (Word W64) factor }
     requires other { IsTerm bank.old (Word W64) other }
     ensures { IfOk result (λ n. Truthful bank.old bank.new n
@@ -82,11 +77,7 @@ fn product_exceeds(
 }
 
 /// So many bytes. It fails for want of memory alone.
-pub(crate) fn request_bytes(
-    bank: &mut Bank,
-    most: u32,
-    count: Number,
-) -> Result<Request, BankFault>
+pub(crate) fn request_bytes(bank: &mut Bank, most: u32, count: Number) -> Result<Request, BankFault>
     requires { IsNumber bank.old count }
     ensures { IfOk result (λ x. Requests bank.old bank.new most x (λ v. address_of (number_in v count))) }
 {

@@ -1,7 +1,7 @@
 use Rattle.std.proofs.Common.{arith}
 use Rattle.term_bank.proofs.BankLemmas.{grows_on}
 use Rattle.term_bank.proofs.TermLemmas.{term_grown}
-use Rattle.path_states.proofs.Growth.{state_grown, number_grown}
+use Rattle.path_states.proofs.Growth.{state_grown}
 use Rattle.path_steps.proofs.MemoryTrials.{with_memory}
 use Rattle.path_calls.proofs.HeapLemmas.{allocate_tries}
 use Rattle.path_calls.proofs.heap.allocate.Goals as goal
