@@ -12,12 +12,7 @@ use plain_data::{Bytes, Items, Shared};
 use std::alloc::{AllocError, Global};
 
 /// A part of an object of this type, so many bytes behind its first, that is set to a value (C99 6.7.8p11, p13).
-pub fn value_setting(
-    tables: &Tables,
-    ctype: &CType,
-    offset: u64,
-    value: Shared<Expr>,
-) -> Setting
+pub fn value_setting(tables: &Tables, ctype: &CType, offset: u64, value: Shared<Expr>) -> Setting
     ensures { result ≡ value_setting_node tables.now ctype.now offset value }
 {
     Setting::Value {

@@ -34,7 +34,12 @@ pub trait Parts {
     ghost numbering: { Self → Numbering };
 
     /// An expression whose value is used.
-    fn value(&self, alloc: Global, expr: &tree::Expr, scope: &mut Scope) -> Result<Valued, AllocError>
+    fn value(
+        &self,
+        alloc: Global,
+        expr: &tree::Expr,
+        scope: &mut Scope,
+    ) -> Result<Valued, AllocError>
         ensures { IfOk result (λ y. spec.IsValued (numbering self.now) y (notes.noted expr.now scope.old) scope.new) };
 
     /// An expression whose value isn't used.

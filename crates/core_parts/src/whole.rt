@@ -62,7 +62,12 @@ fn declared<C: Callees>(
 impl<'a, C: Callees> Parts for Whole<'a, C> {
     ghost numbering = { λ w. C.numbering w.callees.now };
 
-    fn value(&self, alloc: Global, expr: &tree::Expr, scope: &mut Scope) -> Result<Valued, AllocError> {
+    fn value(
+        &self,
+        alloc: Global,
+        expr: &tree::Expr,
+        scope: &mut Scope,
+    ) -> Result<Valued, AllocError> {
         used_value(alloc, self.callees, expr, scope)
     }
 

@@ -73,8 +73,8 @@ pub watched_told : {E : Type 0} (x : Around) (v : Overview) (e : External) (note
 watched_told x v e notes t s r is begins noted h =
     let j = told (externals_of x) (profile_of x) in
     let same : spec.watched_noted v notes.function ≡ watched_in x (outer e empty).function =
-        watched_as j (program_of (externals_of x)) (outer e empty).function v notes.function
-        (overview_is (externals_of x) (profile_of x) v is) (noted_as j e s notes t begins noted) in
+    watched_as j (program_of (externals_of x)) (outer e empty).function v notes.function
+    (overview_is (externals_of x) (profile_of x) v is) (noted_as j e s notes t begins noted) in
     IfOk-weaker r (λ w. w ≡ spec.watched_noted v notes.function) (λ w. w ≡ watched_in x (outer e empty).function)
     (λ w told. told ∙ same) h
 

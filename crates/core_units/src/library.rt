@@ -52,7 +52,9 @@ fn defined_alone(
     let mut scope = Scope::new(alloc);
     let calling = around.calling(watched);
     let parts = Whole { callees: &calling };
-    let found = define(alloc, &parts, specifiers, declarator, body, true, &mut scope)?;
+    let found = define(
+        alloc, &parts, specifiers, declarator, body, true, &mut scope,
+    )?;
     match found {
         Some(definition) => {
             let Definition { function, .. } = definition;
@@ -79,7 +81,8 @@ fn alone(
         specifiers,
         declarator,
         body,
-    } = external else {
+    } = external
+    else {
         return Ok(Items::new(alloc));
     };
     match watched_alone(alloc, around, overview, external)? {

@@ -198,7 +198,11 @@ fn made_of(
 
 /// What is made of all external declarations of the source, by their plans, each in the scope that those before it
 /// leave.
-pub(crate) fn make_each(alloc: Global, around: &Around<'_>, plans: &[Plan]) -> Result<Made, AllocError>
+pub(crate) fn make_each(
+    alloc: Global,
+    around: &Around<'_>,
+    plans: &[Plan],
+) -> Result<Made, AllocError>
     requires around { spec.IsAroundOf around.now }
     requires plans { plans.now ≡ map (spec.plan_in around.now) (spec.outers_of around.now) }
     ensures { IfOk result (λ x. spec.AreMadeIn around.now (spec.outers_of around.now) x) }
