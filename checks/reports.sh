@@ -37,14 +37,16 @@ clear_row() {
     rm -f "$room"/*
 }
 
-# replays WORLD: whether the run of this world of the report prints the log
+# replays WORLD: whether the run of this world of the report, with the row's configuration, prints the log
 replays() {
+    local config=()
+    [ -f "$room/c.json" ] && config=(--config c.json)
     {
         echo 'sherlog world 1'
         sed -n "/^world $1\$/,/^\(world\|end\)/p" "$room/found.out" | grep -v '^world\|^end'
         echo end
     } >"$room/w.txt"
-    (cd "$room" && "$program" replay p.c w.txt 2>found.end | cmp -s - p.log)
+    (cd "$room" && "$program" replay p.c w.txt "${config[@]}" 2>found.end | cmp -s - p.log)
 }
 
 # In the place of worlds whose runs print the log, how many there are.
