@@ -38,6 +38,7 @@ still l = record {
   identity = l.identity;
   size = l.size;
   room = l.room;
+  marks = λ g. [];
   call = λ g env vs base s count. entered s count;
 }
 

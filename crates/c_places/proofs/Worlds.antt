@@ -69,6 +69,7 @@ needing turns identity size room = record {
   identity = identity;
   size = size;
   room = room;
+  marks = λ g. [];
   call = λ g env vs base s count. entered s count;
 }
 

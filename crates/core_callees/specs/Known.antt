@@ -48,6 +48,7 @@ bare_in x world limits = record {
   identity = identity_index x.profile;
   size = λ g. 0;
   room = λ g. 0;
+  marks = λ g. [];
   call = λ g env vs base s count. finished (finish.Left g.at) (entered s count);
 }
 

@@ -10,6 +10,7 @@ use Rattle.c_means.specs.Values as values
 use Rattle.c_means.specs.Objects as objects
 use Rattle.c_means.specs.Parts.{State, Env, Part}
 use Rattle.c_means.specs.Parts as c
+use Rattle.c_means.specs.Marks.{Mark, Enters}
 use Rattle.c_means.specs.Items.{Made}
 use Rattle.c_means.specs.Items as runs
 use Rattle.c_language.specs.declared.scope.Entry.{Entry}
@@ -30,6 +31,9 @@ use Rattle.core_tree.specs.Numbers.{size_of, value_of_bytes, bytes_of_value, con
 use Rattle.core_tree.specs.States.{Output, plain, Done, Outcome, Level}
 use Rattle.core_tree.specs.Values.{Value, value}
 use Rattle.core_tree.specs.Codes.{Item, code}
+use Rattle.core_marks.specs.declared.mark.Mark.{Mark as CoreMark}
+use Rattle.core_marks.specs.Marks.{callee_marks}
+use Rattle.elaborate.specs.Tokens.{all_told}
 
 -- ---- states
 
@@ -54,24 +58,27 @@ as_value (Err d) = Err d
 -- ---- levels
 
 -- What a call by rule does, in a world and bounds, from the objects in force, the values of its arguments, its first
--- place and the state in which it begins; and how many places it takes.
+-- place and the state in which it begins; how many places it takes, and what stands at the callee's name.
 pub record Ruling : Type 0 where
   pub room : ℕ
+  pub marks : List Mark
   pub acts : c.World → c.Limits → Env → List ℤ → ℕ → State → State
 
 -- What a function's calls are: the places of what lives throughout the run, by offset; which argument a function of a
--- name hands on, where it does nothing else; the number of the function whose body a call runs; and what a call by rule
--- does.
+-- name hands on, where it does nothing else; the number of the function whose body a call runs; the name of the function
+-- of a number; and what a call by rule does.
 pub record Numbering : Type 0 where
   pub place : ℕ → ℕ
   pub identity : Name → Option ℕ
   pub body : c.Site → Option ℕ
+  pub name : ℕ → Name
   pub rule : c.Site → Option Ruling
 
 -- a call of the site does what the rule says
 pub record Follows (l : c.Level) (g : c.Site) (r : Ruling) : Type 0 where
   pub size : 0 ≡ l.size g
   pub room : r.room ≡ l.room g
+  pub marks : r.marks ≡ l.marks g
   pub runs : (env : Env) (vs : List ℤ) (base : ℕ) (s : Store) (n : ℕ)
       → r.acts l.world l.limits env vs base (c.entered s n) ≡ l.call g env vs base s n
 
@@ -91,7 +98,13 @@ pub record Like (numbering : Numbering) (l : c.Level) (k : Level Output) : Type 
   pub static_places : l.static ≡ numbering.place
   pub identity : l.identity ≡ numbering.identity
   pub bodies : (g : c.Site) (f : ℕ) → numbering.body g ≡ Some f → Calls l k g f
+  pub entered : (g : c.Site) (f : ℕ) → numbering.body g ≡ Some f → Enters g.at (numbering.name f) ∷ [] ≡ l.marks g
   pub rules : (g : c.Site) (r : Ruling) → numbering.rule g ≡ Some r → Follows l g r
+
+-- ---- what stands at tokens: these marks are those in each level
+
+pub record SameMarks (numbering : Numbering) (ms : List CoreMark) (marks : c.Level → List Mark) : Type 0 where
+  pub are : (l : c.Level) (k : Level Output) → Like numbering l k → all_told numbering.name ms ≡ marks l
 
 -- ---- expressions
 
@@ -170,6 +183,7 @@ pub record IsCallOf (numbering : Numbering) (callee : Callee) (at : ℕ) (t : Va
     Type 0 where
   pub size : (l : c.Level) (k : Level Output) → Like numbering l k → callee_size callee k.measures ≡ l.size (site l)
   pub room : (l : c.Level) (k : Level Output) → Like numbering l k → callee_room callee k.measures ≡ l.room (site l)
+  pub marks : SameMarks numbering (callee_marks at callee) (λ l. l.marks (site l))
   pub runs : (l : c.Level) (k : Level Output) → Like numbering l k → (env : Env) (vs : List ℤ) (base : ℕ) (s : Store)
       (o : Output)
       → called k callee at t env vs base s o ≡ Some (as_done (l.call (site l) env vs base s o.count))
@@ -232,6 +246,7 @@ pub record Numbered (numbering : Function → Numbering) (m : whole.Machine) (k 
 pub record HasRule (m : whole.Machine) (f : Function) (g : c.Site) (r : Ruling) : Type 0 where
   pub size : (below : whole.Below) → 0 ≡ whole.size_by m below (whole.rule_of m g)
   pub room : (below : whole.Below) → r.room ≡ whole.room_by m below g (whole.rule_of m g)
+  pub marks : r.marks ≡ whole.marks_by m f g (whole.rule_of m g)
   pub runs : (turns : ℕ) (below : whole.Below) (env : Env) (vs : List ℤ) (base : ℕ) (s : Store) (n : ℕ)
       → r.acts m.world m.limits env vs base (c.entered s n) ≡ whole.call_by m f turns below (whole.rule_of m g) g env
       vs base s n
@@ -244,4 +259,6 @@ pub record IsMachineOf (numbering : Function → Numbering) (m : whole.Machine) 
   pub places : (f : Function) → whole.places_of m.program ≡ (numbering f).place
   pub identity : (f : Function) → identity_index m.profile ≡ (numbering f).identity
   pub bodies : (f : Function) (g : c.Site) (n : ℕ) → (numbering f).body g ≡ Some n → Numbered numbering m k g n
+  pub entered : (f : Function) (g : c.Site) (n : ℕ) → (numbering f).body g ≡ Some n
+      → Enters g.at ((numbering f).name n) ∷ [] ≡ whole.marks_by m f g (whole.rule_of m g)
   pub rules : (f : Function) (g : c.Site) (r : Ruling) → (numbering f).rule g ≡ Some r → HasRule m f g r
