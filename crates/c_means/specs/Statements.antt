@@ -112,7 +112,7 @@ link name linkage.None = []
 link name linkage.Internal = name ∷ []
 link name linkage.External = name ∷ []
 
--- an object with static storage duration
+-- an object with static storage duration; what is declared elsewhere has no initializer
 abbrev pub lasting : ℕ → Entry → ℕ → Linkage → Bool → Initial → Scope → Item
 lasting at e n l defined x s = record (nothing s) {
   breaches = x.constant;
@@ -120,7 +120,7 @@ lasting at e n l defined x s = record (nothing s) {
   lasting = lasting_object at e n defined x ∷ [];
   links = link e.name l;
   size = λ l. cond defined (1 + x.size l) 0;
-  marks = x.marks;
+  marks = λ l. cond defined (x.marks l) [];
 }
 
 -- by what the name means: only objects act
@@ -379,13 +379,14 @@ switch_runs at x body l env base d =
     let z = converted (switch_kind x) v in
     arrive past_switch (body.run l env (base + x.part.room l) (choose at (chosen body.cases z) z d)))
 
+-- a `default` has no value
+abbrev pub case_mark : ℕ → Option ℤ → List Mark
+case_mark at None = []
+case_mark at (Some z) = Takes at (side.Case z) ∷ []
+
 abbrev pub case_marks : ℕ → List Case → List Mark
 case_marks at [] = []
 case_marks at (x ∷ xs) = case_mark at x.value ++ case_marks at xs
-  where
-    case_mark : ℕ → Option ℤ → List Mark
-    case_mark at None = []
-    case_mark at (Some z) = Takes at (side.Case z) ∷ []
 
 -- each case in order, then none of them
 abbrev pub switch_marks : ℕ → List Case → List Mark
