@@ -237,6 +237,11 @@ unfoldable pub level_of : Machine → ℕ → Function → ℕ → Level
 level_of m zero f turns = level m None f turns
 level_of m (suc n) f turns = level m (Some (level_of m n)) f turns
 
+-- ---- what stands at the tokens of a function, whatever calls it
+
+abbrev pub function_marks : Machine → Function → List Mark
+function_marks m f = f.body.marks (level_of m 0 f m.limits.turns)
+
 -- ---- objects that live throughout the run (C99 6.2.4p3)
 
 -- a definition without length has one element (C99 6.9.2p5); what is only declared may have no size

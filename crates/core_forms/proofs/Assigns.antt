@@ -12,6 +12,7 @@ use Rattle.c_language.specs.declared.expr.UnaryOperator.{UnaryOperator}
 use Rattle.c_language.specs.declared.ctype.IntegerKind.TheVariants as k
 use Rattle.c_language.specs.declared.tables.Tables.{Tables}
 use Rattle.c_language.specs.declared.shown.Told.{Told}
+use Rattle.c_language.specs.Scopes.{Name}
 use Rattle.c_language.specs.Typing.{Typed, type_of, type_in, told_of, used_told}
 use Rattle.c_language.specs.Typing as says
 use Rattle.c_means.specs.Parts.{State, Part}
@@ -57,11 +58,11 @@ module _ (numbering : Numbering) where
   access_same x rooted stored p h i = ap₂ (λ (a : Told) b. access_by a b stored) h i
 
   -- what is written, at its token and at the operator's
-  told_writes : (at a : ℕ) (stored : ValueType) (rooted : Bool)
-      → all_told numbering.name (write_marks at (record { at = a; stored = stored; is_tested = not rooted }))
+  told_writes : (at a : ℕ) (stored : ValueType) (rooted : Bool) (name : ℕ → Name)
+      → all_told name (write_marks at (record { at = a; stored = stored; is_tested = not rooted }))
       ≡ writes_at at a rooted
-  told_writes at a stored true = refl
-  told_writes at a stored false = refl
+  told_writes at a stored true name = refl
+  told_writes at a stored false name = refl
 
   store_marks : (at : ℕ) (stored : ValueType) (n : Node) (f : Expr) (p q : Part) → IsNodeOf numbering n p
       → SameMarks numbering (value_marks f) q.marks
@@ -79,17 +80,17 @@ module _ (numbering : Numbering) where
 
   -- what is read and written again
   told_updates : (at a a' : ℕ) (stored : ValueType) (rooted rooted' : Bool) (ks ks' : List Undefined) → a ≡ a'
-      → rooted ≡ rooted' → ks ≡ ks'
-      → all_told numbering.name (stops at ks ++ write_marks at (record {
+      → rooted ≡ rooted' → ks ≡ ks' → (name : ℕ → Name)
+      → all_told name (stops at ks ++ write_marks at (record {
         at = a;
         stored = stored;
         is_tested = not rooted;
       })) ≡ c_marks.stops at ks' ++ writes_at at a' rooted'
-  told_updates at a a' stored rooted rooted' ks ks' is root same =
-      map-append (told numbering.name) (stops at ks)
+  told_updates at a a' stored rooted rooted' ks ks' is root same name =
+      map-append (told name) (stops at ks)
       (write_marks at (record { at = a; stored = stored; is_tested = not rooted }))
-      ∙ ap₂ (λ xs ys. xs ++ ys) (told_stops numbering.name at ks ∙ ap (c_marks.stops at) same)
-      (told_writes at a stored rooted ∙ ap₂ (writes_at at) is root)
+      ∙ ap₂ (λ xs ys. xs ++ ys) (told_stops name at ks ∙ ap (c_marks.stops at) same)
+      (told_writes at a stored rooted name ∙ ap₂ (writes_at at) is root)
 
   -- what isn't updated is nothing of its own
   unmarked : (b : Bool) (at : ℕ) (ks : List Undefined) (p : Part) (more : List Mark) → b ≡ false

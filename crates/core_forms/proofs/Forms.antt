@@ -562,7 +562,7 @@ module _ (numbering : Numbering) where
           effect = v;
           marks = by_marks numbering
               (trees.marks-And (expr.And at x.value y.value) at x.value y.value refl)
-              (own_then numbering (core_marks.sides at) (c_marks.sides at) refl (marks_then numbering h.marks i.marks));
+              (own_then numbering (core_marks.sides at) (c_marks.sides at) (λ name. refl) (marks_then numbering h.marks i.marks));
           place_marks = λ l. refl;
         };
       })
@@ -584,7 +584,7 @@ module _ (numbering : Numbering) where
           effect = v;
           marks = by_marks numbering
               (trees.marks-Or (expr.Or at x.value y.value) at x.value y.value refl)
-              (own_then numbering (core_marks.sides at) (c_marks.sides at) refl (marks_then numbering h.marks i.marks));
+              (own_then numbering (core_marks.sides at) (c_marks.sides at) (λ name. refl) (marks_then numbering h.marks i.marks));
           place_marks = λ l. refl;
         };
       })
@@ -694,7 +694,7 @@ module _ (numbering : Numbering) where
           marks = by_marks numbering
               (trees.marks-Choose (expr.Choose at w.value (expr.Convert t x.value) (expr.Convert t y.value)) at w.value
               (expr.Convert t x.value) (expr.Convert t y.value) refl)
-              (own_then numbering (core_marks.sides at) (c_marks.sides at) refl (marks_then numbering g.marks (marks_then numbering
+              (own_then numbering (core_marks.sides at) (c_marks.sides at) (λ name. refl) (marks_then numbering g.marks (marks_then numbering
               (by_marks numbering (trees.marks-Convert (expr.Convert t x.value) t x.value refl) h.marks)
               (by_marks numbering (trees.marks-Convert (expr.Convert t y.value) t y.value refl) i.marks))));
           place_marks = λ l. refl;

@@ -5,6 +5,7 @@ use Rattle.plain_data.specs.declared.run.Undefined.TheVariants.{Dereference}
 use Rattle.c_language.specs.declared.class.Class.{Class}
 use Rattle.c_language.specs.declared.class.Class.TheVariants as class
 use Rattle.c_language.specs.declared.shown.Told.{Told}
+use Rattle.c_language.specs.Scopes.{Name}
 use Rattle.c_language.specs.Typing.{Typed, type_of, type_in, told_of, used_told}
 use Rattle.c_language.specs.declared.tables.Tables.{Tables}
 use Rattle.c_means.specs.Parts.{Part}
@@ -71,12 +72,13 @@ loaded_marks : (numbering : Numbering) (stored : ValueType) (at : ℕ) (rooted :
 loaded_marks numbering stored at rooted e marks h =
     let access : Access = record { at = at; stored = stored; is_tested = not rooted } in
     by_marks numbering (trees.marks-Load (expr.Load access e) access e refl)
-    (own_then numbering (core_marks.read_marks access) (reads_at true at rooted) (told_read rooted) h)
+    (own_then numbering (core_marks.read_marks access) (reads_at true at rooted)
+    (λ name. told_read name rooted) h)
   where
-    told_read : (rooted : Bool) → all_told numbering.name (cond (not rooted) (m.Stop at Dereference ∷ []) [])
+    told_read : (name : ℕ → Name) (rooted : Bool) → all_told name (cond (not rooted) (m.Stop at Dereference ∷ []) [])
         ≡ reads_at true at rooted
-    told_read true = refl
-    told_read false = refl
+    told_read name true = refl
+    told_read name false = refl
 
 -- what stands at the tokens of the value of what stands at an address
 read_marks : (numbering : Numbering) (cl : Class) (n at : ℕ) (rooted : Bool) (e : Expr) (marks : c.Level → List Mark)

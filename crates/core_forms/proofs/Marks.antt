@@ -7,6 +7,7 @@ use Rattle.c_language.specs.declared.expr.BinaryOperator.{BinaryOperator}
 use Rattle.c_language.specs.declared.expr.BinaryOperator.TheVariants as o
 use Rattle.c_language.specs.declared.ctype.IntegerKind.{IntegerKind}
 use Rattle.c_language.specs.Integers.{promoted}
+use Rattle.c_language.specs.Scopes.{Name}
 use Rattle.c_means.specs.Parts as c
 use Rattle.c_means.specs.Marks.{Mark, operator_kinds, minus_kinds, stops, unless, writes_at}
 use Rattle.core_tree.specs.declared.expr.Expr.{Expr}
@@ -178,7 +179,7 @@ stepped_marks at answer access q e = trees.marks-Step (expr.Step at q access ans
 
 -- ---- as they are told
 
-pub told_stops : (name : ℕ → List ℕ) (at : ℕ) (ks : List Undefined) → all_told name (core.stops at ks) ≡ stops at ks
+pub told_stops : (name : ℕ → Name) (at : ℕ) (ks : List Undefined) → all_told name (core.stops at ks) ≡ stops at ks
 told_stops name at [] = refl
 told_stops name at (k ∷ ks) = ap (λ ms. told name (m.Stop at k) ∷ ms) (told_stops name at ks)
 
@@ -186,30 +187,31 @@ module _ (numbering : Numbering) where
   -- the same marks by another tree
   pub by_marks : {ms ns : List CoreMark} {marks : c.Level → List Mark} → ns ≡ ms → SameMarks numbering ms marks
       → SameMarks numbering ns marks
-  by_marks is h = record { are = λ l k like. ap (all_told numbering.name) is ∙ h.are l k like }
+  by_marks is h = record { are = λ name l k like named. ap (all_told name) is ∙ h.are name l k like named }
 
   -- the same, as it is told otherwise
   pub as_told : {ms : List CoreMark} {marks more : c.Level → List Mark} → SameMarks numbering ms marks
       → ((l : c.Level) → marks l ≡ more l) → SameMarks numbering ms more
-  as_told h is = record { are = λ l k like. h.are l k like ∙ is l }
+  as_told h is = record { are = λ name l k like named. h.are name l k like named ∙ is l }
 
   pub no_marks : SameMarks numbering [] (λ l. [])
-  no_marks = record { are = λ l k like. refl }
+  no_marks = record { are = λ name l k like named. refl }
 
   -- two parts, one behind the other
   pub marks_then : {ms ns : List CoreMark} {marks more : c.Level → List Mark} → SameMarks numbering ms marks
       → SameMarks numbering ns more → SameMarks numbering (ms ++ ns) (λ l. marks l ++ more l)
   marks_then {ms} {ns} h i = record {
-    are = λ l k like.
-        map-append (told numbering.name) ms ns ∙ ap₂ (λ a b. a ++ b) (h.are l k like) (i.are l k like);
+    are = λ name l k like named.
+        map-append (told name) ms ns
+        ∙ ap₂ (λ a b. a ++ b) (h.are name l k like named) (i.are name l k like named);
   }
 
   -- what a node is itself, and its parts behind it
   pub own_then : {ms : List CoreMark} {marks : c.Level → List Mark} (own : List CoreMark) (own' : List Mark)
-      → all_told numbering.name own ≡ own' → SameMarks numbering ms marks
+      → ((name : ℕ → Name) → all_told name own ≡ own') → SameMarks numbering ms marks
       → SameMarks numbering (own ++ ms) (λ l. own' ++ marks l)
-  own_then own own' is h = marks_then (record { are = λ l k like. is }) h
+  own_then own own' is h = marks_then (record { are = λ name l k like named. is name }) h
 
   pub stops_then : {ms : List CoreMark} {marks : c.Level → List Mark} (at : ℕ) (ks ks' : List Undefined) → ks ≡ ks'
       → SameMarks numbering ms marks → SameMarks numbering (core.stops at ks ++ ms) (λ l. stops at ks' ++ marks l)
-  stops_then at ks ks' is h = own_then (core.stops at ks) (stops at ks') (told_stops numbering.name at ks ∙ ap (stops at) is) h
+  stops_then at ks ks' is h = own_then (core.stops at ks) (stops at ks') (λ name. told_stops name at ks ∙ ap (stops at) is) h

@@ -60,7 +60,6 @@ module _ (numbering : Function → Numbering) (m : whole.Machine) (k : Machine O
       turns = e;
       static_places = h.places f;
       identity = h.identity f;
-      entered = h.entered f;
       rules = λ g r is. let q = h.rules f g r is in record {
         size = q.size None;
         room = q.room None;
@@ -82,7 +81,6 @@ module _ (numbering : Function → Numbering) (m : whole.Machine) (k : Machine O
       turns = e;
       static_places = h.places f;
       identity = h.identity f;
-      entered = h.entered f;
       rules = λ g r is. let q = h.rules f g r is in record {
         size = q.size (Some (whole.level_of m n));
         room = q.room (Some (whole.level_of m n));

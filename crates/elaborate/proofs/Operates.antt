@@ -1,5 +1,5 @@
 -- The operator of the core that is chosen for a binary operator does what that does.
-use Rattle.std.proofs.Common.{◌≡◌, ℕ, ℤ, pos, Bool, cond, [], Option, Some, None, Ok, refl, sym, ap}
+use Rattle.std.proofs.Common.{◌≡◌, ℕ, ℤ, pos, Bool, cond, Option, Some, None, Ok, refl, sym, ap}
 use Rattle.std.proofs.Common.{◌∙◌}
 use Rattle.std.specs.Prelude.{IfSome, is_some, nat_lt, nat_le, neg_ℤ, ◌+ℤ◌, ◌-ℤ◌, ◌*ℤ◌}
 use Rattle.plain_data.specs.declared.run.Undefined.TheVariants as undefined
@@ -43,13 +43,7 @@ numbers_same b r j k m n e at v w d =
     ∙ ap as_found (sym (on_integers any b r e at j k m n v w d))
   where
     any : Numbering
-    any = record {
-      place = λ at. at;
-      identity = λ name. None;
-      body = λ g. None;
-      name = λ n. [];
-      rule = λ g. None;
-    }
+    any = record { place = λ at. at; identity = λ name. None; body = λ g. None; rule = λ g. None }
 
 -- two pointers of one object
 ordered_same : (order : ℕ → ℕ → Bool) (x y : ℕ) (at : ℕ) (d : State) → cond (in_one_object d.store x y)

@@ -65,13 +65,12 @@ pub record Ruling : Type 0 where
   pub acts : c.World → c.Limits → Env → List ℤ → ℕ → State → State
 
 -- What a function's calls are: the places of what lives throughout the run, by offset; which argument a function of a
--- name hands on, where it does nothing else; the number of the function whose body a call runs; the name of the function
--- of a number; and what a call by rule does.
+-- name hands on, where it does nothing else; the number of the function whose body a call runs; and what a call by rule
+-- does.
 pub record Numbering : Type 0 where
   pub place : ℕ → ℕ
   pub identity : Name → Option ℕ
   pub body : c.Site → Option ℕ
-  pub name : ℕ → Name
   pub rule : c.Site → Option Ruling
 
 -- a call of the site does what the rule says
@@ -98,13 +97,19 @@ pub record Like (numbering : Numbering) (l : c.Level) (k : Level Output) : Type 
   pub static_places : l.static ≡ numbering.place
   pub identity : l.identity ≡ numbering.identity
   pub bodies : (g : c.Site) (f : ℕ) → numbering.body g ≡ Some f → Calls l k g f
-  pub entered : (g : c.Site) (f : ℕ) → numbering.body g ≡ Some f → Enters g.at (numbering.name f) ∷ [] ≡ l.marks g
   pub rules : (g : c.Site) (r : Ruling) → numbering.rule g ≡ Some r → Follows l g r
 
--- ---- what stands at tokens: these marks are those in each level
+-- ---- what stands at tokens
 
+-- the functions whose bodies are called have these names, by their numbers
+abbrev pub AreNamed : Numbering → (ℕ → Name) → c.Level → Type 0
+AreNamed numbering name l =
+    (g : c.Site) (f : ℕ) → numbering.body g ≡ Some f → Enters g.at (name f) ∷ [] ≡ l.marks g
+
+-- these marks of the core are those in each level
 pub record SameMarks (numbering : Numbering) (ms : List CoreMark) (marks : c.Level → List Mark) : Type 0 where
-  pub are : (l : c.Level) (k : Level Output) → Like numbering l k → all_told numbering.name ms ≡ marks l
+  pub are : (name : ℕ → Name) (l : c.Level) (k : Level Output) → Like numbering l k → AreNamed numbering name l
+      → all_told name ms ≡ marks l
 
 -- ---- expressions
 
@@ -259,6 +264,4 @@ pub record IsMachineOf (numbering : Function → Numbering) (m : whole.Machine) 
   pub places : (f : Function) → whole.places_of m.program ≡ (numbering f).place
   pub identity : (f : Function) → identity_index m.profile ≡ (numbering f).identity
   pub bodies : (f : Function) (g : c.Site) (n : ℕ) → (numbering f).body g ≡ Some n → Numbered numbering m k g n
-  pub entered : (f : Function) (g : c.Site) (n : ℕ) → (numbering f).body g ≡ Some n
-      → Enters g.at ((numbering f).name n) ∷ [] ≡ whole.marks_by m f g (whole.rule_of m g)
   pub rules : (f : Function) (g : c.Site) (r : Ruling) → (numbering f).rule g ≡ Some r → HasRule m f g r
