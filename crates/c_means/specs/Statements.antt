@@ -379,14 +379,13 @@ switch_runs at x body l env base d =
     let z = converted (switch_kind x) v in
     arrive past_switch (body.run l env (base + x.part.room l) (choose at (chosen body.cases z) z d)))
 
--- a `default` has no value
-abbrev pub case_mark : ℕ → Option ℤ → List Mark
-case_mark at None = []
-case_mark at (Some z) = Takes at (side.Case z) ∷ []
-
 abbrev pub case_marks : ℕ → List Case → List Mark
 case_marks at [] = []
 case_marks at (x ∷ xs) = case_mark at x.value ++ case_marks at xs
+  where
+    case_mark : ℕ → Option ℤ → List Mark
+    case_mark at None = []
+    case_mark at (Some z) = Takes at (side.Case z) ∷ []
 
 -- each case in order, then none of them
 abbrev pub switch_marks : ℕ → List Case → List Mark

@@ -43,7 +43,7 @@ told_cases name at [] = refl
 told_cases name at (x ∷ xs) = by_value x.value (told_cases name at xs) where
   by_value : (v : Option ℤ) → all_told name (core.case_marks at (case_values xs)) ≡ statements.case_marks at xs
       → all_told name (core.case_marks at (value_if v (case_values xs)))
-      ≡ statements.case_mark at v ++ statements.case_marks at xs
+      ≡ statements.case_marks at (record { at = x.at; value = v } ∷ xs)
   by_value None h = h
   by_value (Some z) h = ap (λ ms. Takes at (side.Case z) ∷ ms) h
 
@@ -120,14 +120,6 @@ module _ (numbering : Numbering) where
   repeat_marks at e x t b =
       by_marks numbering (codes.marks-Repeat (tree.Repeat at e x) at e x refl)
       (own_then numbering (core.sides at) (sides at) (λ name. refl) (marks_then numbering t b))
-
-  -- ---- labels
-
-  pub case_marks : (z : ℤ) (e : Expr) (x : Code) {value body : c.Level → List Mark}
-      → SameMarks numbering (value_marks e) value → SameMarks numbering (code_marks x) body
-      → SameMarks numbering (code_marks (tree.Case z e x)) (λ l. value l ++ body l)
-  case_marks z e x v b =
-      by_marks numbering (codes.marks-Case (tree.Case z e x) z e x refl) (marks_then numbering v b)
 
   -- ---- statements without substatements
 
