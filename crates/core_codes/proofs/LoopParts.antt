@@ -1,6 +1,6 @@
 -- The parts of statements: tests, steps and first parts of loops, and declarations, which give no case. What lives
 -- throughout the run is declared by declarations alone.
-use Rattle.std.proofs.Common.{◌≡◌, ℕ, Bool, false, List, [], ◌∷◌, ◌++◌, map, Option, Some, None, refl, sym}
+use Rattle.std.proofs.Common.{◌≡◌, ℕ, Bool, true, false, List, [], ◌∷◌, ◌++◌, map, Option, Some, None, refl, sym}
 use Rattle.std.proofs.Common.{ap₂, subst}
 use Rattle.std.specs.Prelude.{option_map}
 use Rattle.c_language.specs.declared.expr.Expr.{Expr as CExpr}
