@@ -15,3 +15,5 @@ pub mod Needs
 pub mod Runs
 pub mod Programs
 pub mod Sources
+pub mod Constants
+pub mod Entering
