@@ -17,3 +17,4 @@ pub mod Programs
 pub mod Sources
 pub mod Constants
 pub mod Entering
+pub mod EnteringItems
