@@ -117,7 +117,7 @@ read_rows() {
     run_row
 }
 
-for table in words.txt faults.txt form.txt lines.txt reports.txt runs.txt sites.txt; do
+for table in words.txt faults.txt form.txt lines.txt reports.txt runs.txt sites.txt texts.txt; do
     read_rows "$table"
 done
 [ "$failed" -eq 0 ] && echo "reports: $rows rows agree"

@@ -1,7 +1,8 @@
--- The arguments of a format, and the texts of its pieces, by numbers of a walk.
-use Rattle.std.proofs.Common.{◌≡◌, ℕ, zero, suc, ◌+◌, ◌-◌, ◌≤◌, ℤ, negsuc, true, List, [], ◌∷◌, ◌++◌, length, take, drop, Option, Some, None, refl, sym, ap, subst, ◌∙◌, arith, append-nil, append_assoc}
-use Rattle.std.proofs.lemmas.List.{length-take-le, length-drop, drop_at}
+-- The arguments of a format, and the texts of its pieces, by nodes of a walk.
+use Rattle.std.proofs.Common.{◌≡◌, ◌≢◌, ℕ, zero, suc, ◌+◌, ◌-◌, ◌*◌, ◌%◌, ◌^◌, ◌<◌, ◌≤◌, ℤ, pos, negsuc, Bool, true, false, cond, not, List, [], ◌∷◌, ◌++◌, length, take, drop, Option, Some, None, refl, sym, ap, subst, ◌∙◌, arith, append-nil, append_assoc}
+use Rattle.std.proofs.lemmas.List.{length-take-le, length-drop}
 use Rattle.plain_data.specs.Words.{word}
+use Rattle.printf_text.specs.declared.kind.Kind.{Kind}
 use Rattle.printf_text.specs.declared.kind.Kind.TheVariants as kind
 use Rattle.printf_text.specs.declared.piece.Arg.{Arg}
 use Rattle.printf_text.specs.declared.piece.Arg.TheVariants as arg
@@ -13,121 +14,200 @@ use Rattle.printf_text.specs.declared.piece.Piece.{Piece}
 use Rattle.printf_text.specs.declared.piece.Piece.TheVariants.{Literal, Converted}
 use Rattle.printf_text.specs.declared.piece.Size.{Size}
 use Rattle.printf_text.specs.declared.piece.Size.TheVariants as size
-use Rattle.printf_text.specs.Texts.{piece_kinds, size_kinds, form_kind, piece_text, conversion_text}
-use Rattle.printf_text.specs.Texts.{size_of as size_in}
-use Rattle.format_match.specs.Reading.{is_integer}
-use Rattle.c_store.specs.Store.{Store}
-use Rattle.c_means.specs.Calls.{before_args, pointer_places}
+use Rattle.printf_text.specs.Texts.{HasKind, HaveKinds, piece_kinds, size_kinds, form_kind, piece_text, conversion_text}
+use Rattle.c_means.specs.Calls.{before_args, shown_number, text_arg}
 use Rattle.core_tree.specs.declared.types.WordType.{WordType}
-use Rattle.core_tree.specs.Callees.{Spoken, spoken, integer_arg, star_args, behind_star, first_value, formed_arg, arguments_of, says_all, taken_then}
-use Rattle.core_tree.specs.States.{Level, along}
+use Rattle.core_tree.specs.Callees.{says_all, spoken, taken_then}
+use Rattle.core_tree.specs.States.{along}
+use Rattle.term_bank.specs.declared.sort.Node.{Node}
 use Rattle.term_bank.specs.declared.shape.Shape.{Shape}
-use Rattle.term_bank.specs.Values.{Environment, Values, Grows}
-use Rattle.term_bank.proofs.BankLemmas.{weaken, stays, grows_on}
+use Rattle.term_bank.specs.Banks.{IsBank}
+use Rattle.term_bank.specs.Values.{Environment, Values, Models, Grows}
+use Rattle.term_bank.proofs.TermLemmas.{term_grown}
 use Rattle.path_states.specs.declared.state.Number.{Number}
-use Rattle.path_states.specs.States.{AreNumbers, IsNumber, numbers_in, number_in, Held}
+use Rattle.path_states.specs.States.{AreNumbers, IsNumber, number_in, numbers_in, Held}
 use Rattle.path_states.specs.Ways.{◌>>=◌}
-use Rattle.path_states.proofs.Growth.{numbers_grown, numbers_joined}
-use Rattle.path_numbers.specs.Answers.{Worded}
-use Rattle.path_prints.specs.Arguments.{arg_in, args_in, integer_args, Speaks}
-use Rattle.path_prints.specs.Says.{at_position, pieces_way, AreIntegers}
+use Rattle.path_states.proofs.Growth.{number_grown, numbers_grown, numbers_joined}
+use Rattle.path_numbers.proofs.Nodes.{term_below}
+use Rattle.path_prints.specs.declared.arguments.Argument.{Argument}
+use Rattle.path_prints.specs.declared.arguments.Argument.TheVariants as argument
+use Rattle.path_prints.specs.declared.arguments.Spoken.{Spoken}
+use Rattle.path_prints.specs.Arguments.{AreSpoken, spoken_of, spoken_in, word_in, arg_in, args_in, IsArgument, AreArguments, is_of, are_of}
+use Rattle.path_prints.specs.Texts.{text_behind}
+use Rattle.path_prints.specs.Says.{at_position, taken_with, pieces_way, AreEnough}
+use Rattle.path_prints.proofs.TextLemmas.{AreBytes, text_bytes}
+use Rattle.path_prints.proofs.TextTerms.{text_grown}
 
--- ---- arguments in their types
+-- ---- arguments of a call
 
-pub speaks_none : (a : List Shape) (ts : List WordType) (xs before : List Number) → AreNumbers a before → ((v : Values) → spoken ts (numbers_in v xs) ≡ [])
-    → Speaks a a ts xs before before
-speaks_none a ts xs before are none = record {
-  grows = stays;
-  numbers = are;
-  are = λ e v m. sym (ap (λ l. args_in v before ++ integer_args l) (none v) ∙ append-nil (args_in v before));
-}
+pub spoken_same : (v : Values) (ts : List WordType) (xs : List Number) → spoken_in v (spoken_of ts xs) ≡ spoken ts (numbers_in v xs)
+spoken_same v [] xs = refl
+spoken_same v (t ∷ ts) [] = refl
+spoken_same v (t ∷ ts) (x ∷ xs) = ap (λ l. record { word = t; value = number_in v x } ∷ l) (spoken_same v ts xs)
 
-args_pushed : (v : Values) (xs : List Number) (x : Number) → args_in v (xs ++ x ∷ []) ≡ args_in v xs ++ arg_in v x ∷ []
-args_pushed v [] x = refl
-args_pushed v (y ∷ ys) x = ap (λ l. arg_in v y ∷ l) (args_pushed v ys x)
+pub spoken_dropped : (v : Values) (n : ℕ) (xs : List Spoken) → spoken_in v (drop n xs) ≡ drop n (spoken_in v xs)
+spoken_dropped v zero xs = refl
+spoken_dropped v (suc n) [] = refl
+spoken_dropped v (suc n) (x ∷ xs) = spoken_dropped v n xs
 
-pub speaks_more : (a b c : List Shape) (t : WordType) (ts : List WordType) (x y : Number) (xs before after : List Number)
-    → AreNumbers a before → Worded a b t.width y.node (λ v. word t.width (number_in v x)) → y ≡ record { node = y.node; word = t }
-    → Speaks b c ts xs (before ++ y ∷ []) after → Speaks a c (t ∷ ts) (x ∷ xs) before after
-speaks_more a b c t ts x y xs before after are h same i = record {
-  grows = grows_on h.grows i.grows;
-  numbers = i.numbers;
-  are = λ e v m.
-      let last : arg_in v y ≡ integer_arg (record { word = t; value = number_in v x }) =
-      ap (arg_in v) same ∙ ap (λ n. arg.Word n t.width t.is_signed) (h.is e v (weaken i.grows m)) in
-      i.are e v m
-      ∙ ap (λ l. l ++ integer_args (spoken ts (numbers_in v xs))) (args_pushed v before y ∙ ap (λ z. args_in v before ++ z ∷ []) last)
-      ∙ append_assoc (args_in v before) (integer_arg (record { word = t; value = number_in v x }) ∷ []) (integer_args (spoken ts (numbers_in v xs)));
-}
+pub spoken_are : (b : List Shape) (ts : List WordType) (xs : List Number) → AreNumbers b xs → AreSpoken b (spoken_of ts xs)
+spoken_are b [] xs h = tt
+spoken_are b (t ∷ ts) [] h = tt
+spoken_are b (t ∷ ts) (x ∷ xs) h = (h.0, spoken_are b ts xs h.1)
 
-pub pushed_numbers : (a b : List Shape) (w : WordType) (before : List Number) (y : Number) → Grows a b → AreNumbers a before → IsNumber b y
-    → AreNumbers b (before ++ y ∷ [])
-pushed_numbers a b w before y g are is = numbers_joined b before (y ∷ []) (numbers_grown g before are) (is, tt)
+pub spoken_behind : (b : List Shape) (n : ℕ) (xs : List Spoken) → AreSpoken b xs → AreSpoken b (drop n xs)
+spoken_behind b zero xs h = h
+spoken_behind b (suc n) [] h = tt
+spoken_behind b (suc n) (x ∷ xs) h = spoken_behind b n xs h.1
+
+pub spoken_grown : (a b : List Shape) (xs : List Spoken) → Grows a b → AreSpoken a xs → AreSpoken b xs
+spoken_grown a b [] g h = tt
+spoken_grown a b (x ∷ xs) g h = (number_grown g x.number h.0, spoken_grown a b xs g h.1)
 
 -- ---- lists of arguments
 
-pub args_dropped : (v : Values) (n : ℕ) (xs : List Number) → args_in v (drop n xs) ≡ drop n (args_in v xs)
-args_dropped v zero xs = refl
-args_dropped v (suc n) [] = refl
-args_dropped v (suc n) (x ∷ xs) = args_dropped v n xs
+pub argument_grown : (a b : List Shape) (x : Argument) → Grows a b → IsArgument a x → IsArgument b x
+argument_grown a b (argument.Integer x) g h = number_grown g x h
+argument_grown a b (argument.Text x) g h = text_grown a b x g h
+argument_grown a b (argument.Pointer set word) g h = (term_grown a b _ set g h.0, term_grown a b _ word g h.1)
 
-args_taken : (v : Values) (n : ℕ) (xs : List Number) → args_in v (take n xs) ≡ take n (args_in v xs)
-args_taken v zero xs = refl
-args_taken v (suc n) [] = refl
-args_taken v (suc n) (x ∷ xs) = ap (λ l. arg_in v x ∷ l) (args_taken v n xs)
+pub arguments_grown : (a b : List Shape) (xs : List Argument) → Grows a b → AreArguments a xs → AreArguments b xs
+arguments_grown a b [] g h = tt
+arguments_grown a b (x ∷ xs) g h = (argument_grown a b x g h.0, arguments_grown a b xs g h.1)
 
-pub integers_dropped : (n : ℕ) (xs : List Spoken) → integer_args (drop n xs) ≡ drop n (integer_args xs)
-integers_dropped zero xs = refl
-integers_dropped (suc n) [] = refl
-integers_dropped (suc n) (x ∷ xs) = integers_dropped n xs
+pub arguments_joined : (b : List Shape) (xs ys : List Argument) → AreArguments b xs → AreArguments b ys → AreArguments b (xs ++ ys)
+arguments_joined b [] ys h k = k
+arguments_joined b (x ∷ xs) ys h k = (h.0, arguments_joined b xs ys h.1 k)
 
-integers_taken : (n : ℕ) (xs : List Spoken) → integer_args (take n xs) ≡ take n (integer_args xs)
-integers_taken zero xs = refl
-integers_taken (suc n) [] = refl
-integers_taken (suc n) (x ∷ xs) = ap (λ l. integer_arg x ∷ l) (integers_taken n xs)
+pub arguments_behind : (b : List Shape) (n : ℕ) (xs : List Argument) → AreArguments b xs → AreArguments b (drop n xs)
+arguments_behind b zero xs h = h
+arguments_behind b (suc n) [] h = tt
+arguments_behind b (suc n) (x ∷ xs) h = arguments_behind b n xs h.1
 
-pub args_long : (v : Values) (xs : List Number) → length (args_in v xs) ≡ length xs
-args_long v [] = refl
-args_long v (x ∷ xs) = ap suc (args_long v xs)
+pub arguments_before : (b : List Shape) (n : ℕ) (xs : List Argument) → AreArguments b xs → AreArguments b (take n xs)
+arguments_before b zero xs h = tt
+arguments_before b (suc n) [] h = tt
+arguments_before b (suc n) (x ∷ xs) h = (h.0, arguments_before b n xs h.1)
 
-pub integers_long : (xs : List Spoken) → length (integer_args xs) ≡ length xs
-integers_long [] = refl
-integers_long (x ∷ xs) = ap suc (integers_long xs)
+pub arguments_rest : (a b : List Shape) (xs ys : List Argument) (y : Argument) → Grows a b → xs ≡ y ∷ ys → AreArguments a xs → AreArguments b ys
+arguments_rest a b xs ys y g same are = let h : AreArguments a (y ∷ ys) = rw same at are in arguments_grown a b ys g h.1
 
--- ---- what a conversion takes
+pub argument_first : (a : List Shape) (xs ys : List Argument) (y : Argument) → xs ≡ y ∷ ys → AreArguments a xs → IsArgument a y
+argument_first a xs ys y same are = let h : AreArguments a (y ∷ ys) = rw same at are in h.0
 
-pub record TakesBy (w p : Size) (xs : List Spoken) : Type 0 where
-  pub own : (star_args w xs ++ star_args p (behind_star w xs)) ++ integer_arg (first_value (behind_star p (behind_star w xs))) ∷ []
-      ≡ integer_args (take (length (size_kinds w ++ size_kinds p ++ kind.Integer ∷ [])) xs)
-  pub rest : drop 1 (behind_star p (behind_star w xs)) ≡ drop (length (size_kinds w ++ size_kinds p ++ kind.Integer ∷ [])) xs
+-- ---- the parts of arguments that are formed
 
-pub taken_by : (w p : Size) (xs : List Spoken) → length (size_kinds w ++ size_kinds p ++ kind.Integer ∷ []) ≤ length xs → TakesBy w p xs
-taken_by size.Omitted size.Omitted [] h = absurd (omega arith)
-taken_by size.Omitted size.Omitted (x ∷ xs) h = record { own = refl; rest = refl }
-taken_by size.Omitted (size.Written m) [] h = absurd (omega arith)
-taken_by size.Omitted (size.Written m) (x ∷ xs) h = record { own = refl; rest = refl }
-taken_by size.Omitted size.Star [] h = absurd (omega arith)
-taken_by size.Omitted size.Star (x ∷ []) h = absurd (omega arith)
-taken_by size.Omitted size.Star (x ∷ y ∷ xs) h = record { own = refl; rest = refl }
-taken_by (size.Written n) size.Omitted [] h = absurd (omega arith)
-taken_by (size.Written n) size.Omitted (x ∷ xs) h = record { own = refl; rest = refl }
-taken_by (size.Written n) (size.Written m) [] h = absurd (omega arith)
-taken_by (size.Written n) (size.Written m) (x ∷ xs) h = record { own = refl; rest = refl }
-taken_by (size.Written n) size.Star [] h = absurd (omega arith)
-taken_by (size.Written n) size.Star (x ∷ []) h = absurd (omega arith)
-taken_by (size.Written n) size.Star (x ∷ y ∷ xs) h = record { own = refl; rest = refl }
-taken_by size.Star size.Omitted [] h = absurd (omega arith)
-taken_by size.Star size.Omitted (x ∷ []) h = absurd (omega arith)
-taken_by size.Star size.Omitted (x ∷ y ∷ xs) h = record { own = refl; rest = refl }
-taken_by size.Star (size.Written m) [] h = absurd (omega arith)
-taken_by size.Star (size.Written m) (x ∷ []) h = absurd (omega arith)
-taken_by size.Star (size.Written m) (x ∷ y ∷ xs) h = record { own = refl; rest = refl }
-taken_by size.Star size.Star [] h = absurd (omega arith)
-taken_by size.Star size.Star (x ∷ []) h = absurd (omega arith)
-taken_by size.Star size.Star (x ∷ y ∷ []) h = absurd (omega arith)
-taken_by size.Star size.Star (x ∷ y ∷ z ∷ xs) h = record { own = refl; rest = refl }
+pub record Parts (v : Values) (x : Argument) (xs : List Argument) (args : List Arg) : Type 0 where
+  pub one : Arg
+  pub more : List Arg
+  pub first : arg_in v x ≡ Some one
+  pub rest : args_in v xs ≡ Some more
+  pub are : args ≡ one ∷ more
 
-text_front : (flags : Flags) (f : Form) (w p : Size) (args more : List Arg) → length args ≡ length (size_kinds w ++ size_kinds p ++ kind.Integer ∷ [])
+some_list : (x y : List Arg) → ◌≡◌ {A = Option (List Arg)} (Some x) (Some y) → x ≡ y
+some_list x y h = cc
+
+no_list : (y : List Arg) → ◌≡◌ {A = Option (List Arg)} None (Some y) → ⊥
+no_list y h = cc
+
+pub parted : (v : Values) (x : Argument) (xs : List Argument) (args : List Arg) → args_in v (x ∷ xs) ≡ Some args → Parts v x xs args
+parted v x xs args h = by (arg_in v x) refl (args_in v xs) refl h
+  where
+    by : (o : Option Arg) → arg_in v x ≡ o → (r : Option (List Arg)) → args_in v xs ≡ r → before_args [] o r ≡ Some args → Parts v x xs args
+    by None i r j e = absurd (no_list args e)
+    by (Some a) i None j e = absurd (no_list args e)
+    by (Some a) i (Some more) j e = record { one = a; more = more; first = i; rest = j; are = sym (some_list (a ∷ more) args e) }
+
+pub both_parts : (v : Values) (x : Argument) (xs : List Argument) (a : Arg) (more : List Arg) → arg_in v x ≡ Some a → args_in v xs ≡ Some more
+    → args_in v (x ∷ xs) ≡ Some (a ∷ more)
+both_parts v x xs a more h i = ap (λ o. before_args [] o (args_in v xs)) h ∙ ap (before_args [] (Some a)) i
+
+pub args_taken : (v : Values) (n : ℕ) (xs : List Argument) (args : List Arg) → args_in v xs ≡ Some args → args_in v (take n xs) ≡ Some (take n args)
+args_taken v zero xs args h = refl
+args_taken v (suc n) [] args h = h ∙ ap (λ l. Some l) (none_taken args (some_list [] args h))
+  where
+    none_taken : (l : List Arg) → [] ≡ l → l ≡ take (suc n) l
+    none_taken [] e = refl
+    none_taken (y ∷ ys) e = absurd (cc)
+args_taken v (suc n) (x ∷ xs) args h =
+    let p = parted v x xs args h in
+    both_parts v x (take n xs) p.one (take n p.more) p.first (args_taken v n xs p.more p.rest) ∙ ap (λ l. Some (take (suc n) l)) (sym p.are)
+
+pub args_dropped : (v : Values) (n : ℕ) (xs : List Argument) (args : List Arg) → args_in v xs ≡ Some args → args_in v (drop n xs) ≡ Some (drop n args)
+args_dropped v zero xs args h = h
+args_dropped v (suc n) [] args h = h ∙ ap (λ l. Some l) (none_dropped args (some_list [] args h))
+  where
+    none_dropped : (l : List Arg) → [] ≡ l → l ≡ drop (suc n) l
+    none_dropped [] e = refl
+    none_dropped (y ∷ ys) e = absurd (cc)
+args_dropped v (suc n) (x ∷ xs) args h =
+    let p = parted v x xs args h in
+    args_dropped v n xs p.more p.rest ∙ ap (λ l. Some (drop (suc n) l)) (sym p.are)
+
+pub args_long : (v : Values) (xs : List Argument) (args : List Arg) → args_in v xs ≡ Some args → length args ≡ length xs
+args_long v [] args h = ap length (sym (some_list [] args h))
+args_long v (x ∷ xs) args h = let p = parted v x xs args h in ap length p.are ∙ ap suc (args_long v xs p.more p.rest)
+
+-- ---- kinds
+
+some_arg : (x y : Arg) → ◌≡◌ {A = Option Arg} (Some x) (Some y) → x ≡ y
+some_arg x y h = cc
+
+no_arg : (y : Arg) → ◌≡◌ {A = Option Arg} None (Some y) → ⊥
+no_arg y h = cc
+
+text_has_kind : (o : Option (List ℕ)) (a : Arg) → ((t : List ℕ) → o ≡ Some t → AreBytes t) → text_arg o ≡ Some a → HasKind kind.Text a
+unfolding AreBytes
+text_has_kind None a h e = absurd (no_arg a e)
+text_has_kind (Some t) a h e = subst (HasKind kind.Text) (some_arg (arg.Text t) a e) (h t refl)
+
+shown_some : (n : ℕ) → shown_number n ≢ 0
+shown_some zero h = omega arith
+shown_some (suc n) h = omega arith
+
+shown_small : (n : ℕ) → n < 2 ^ 64 → shown_number n < 2 ^ 64
+shown_small zero h = omega arith
+shown_small (suc n) h = h
+
+pointer_has_kind : (c : Bool) (n : ℕ) → n < 2 ^ 64 → HasKind kind.Pointer (cond c (arg.Shown (shown_number n)) arg.Null)
+pointer_has_kind true n h = (shown_some n, shown_small n h)
+pointer_has_kind false n h = tt
+
+has_kind : (b : List Shape) (e : Environment) (v : Values) (k : Kind) (x : Argument) (a : Arg) → IsBank b → Models b e v → IsArgument b x
+    → is_of k x ≡ true → arg_in v x ≡ Some a → HasKind k a
+has_kind b e v kind.Integer (argument.Integer x) a bank m are h i =
+    subst (HasKind kind.Integer) (some_arg (word_in v x) a i) (term_below b x.word.width x.node e v bank are.term m)
+has_kind b e v kind.Integer (argument.Text x) a bank m are h i = absurd (cc)
+has_kind b e v kind.Integer (argument.Pointer set word) a bank m are h i = absurd (cc)
+has_kind b e v kind.Text (argument.Integer x) a bank m are h i = absurd (cc)
+has_kind b e v kind.Text (argument.Text x) a bank m are h i =
+    text_has_kind (text_behind v x 0 x.most) a
+    (text_bytes x.most x.is_cut (v x.memory.index).store (v x.address.index).word 0) i
+has_kind b e v kind.Text (argument.Pointer set word) a bank m are h i = absurd (cc)
+has_kind b e v kind.Pointer (argument.Integer x) a bank m are h i = absurd (cc)
+has_kind b e v kind.Pointer (argument.Text x) a bank m are h i = absurd (cc)
+has_kind b e v kind.Pointer (argument.Pointer set word) a bank m are h i =
+    subst (HasKind kind.Pointer) (some_arg (cond (v set.index).truth (arg.Shown (shown_number (v word.index).word)) arg.Null) a i)
+    (pointer_has_kind (v set.index).truth (v word.index).word (term_below b Rattle.plain_data.specs.declared.width.Width.TheVariants.W64 word e v bank are.1 m))
+
+first_true : (c d : Bool) → cond c d false ≡ true → (c ≡ true) × (d ≡ true)
+first_true true d h = (refl, h)
+first_true false d h = absurd (cc)
+
+pub have_kinds : (b : List Shape) (e : Environment) (v : Values) (ks : List Kind) (xs : List Argument) (args : List Arg) → IsBank b → Models b e v
+    → AreArguments b xs → are_of ks xs ≡ true → args_in v xs ≡ Some args → HaveKinds ks args
+have_kinds b e v [] [] args bank m are h i = subst (HaveKinds []) (some_list [] args i) tt
+have_kinds b e v [] (x ∷ xs) args bank m are h i = absurd (cc)
+have_kinds b e v (k ∷ ks) [] args bank m are h i = absurd (cc)
+have_kinds b e v (k ∷ ks) (x ∷ xs) args bank m are h i =
+    let p = parted v x xs args i in
+    let t = first_true (is_of k x) (are_of ks xs) h in
+    subst (HaveKinds (k ∷ ks)) (sym p.are)
+    (has_kind b e v k x p.one bank m are.0 t.0 p.first, have_kinds b e v ks xs p.more bank m are.1 t.1 p.rest)
+
+-- ---- a piece's text is that of the arguments that it takes
+
+text_front : (flags : Flags) (f : Form) (w p : Size) (args more : List Arg) → length args ≡ length (size_kinds w ++ size_kinds p ++ form_kind f ∷ [])
     → conversion_text (record { flags = flags; width = w; precision = p; form = f }) (args ++ more)
     ≡ conversion_text (record { flags = flags; width = w; precision = p; form = f }) args
 text_front flags f size.Omitted size.Omitted [] more h = absurd (omega arith)
@@ -164,22 +244,14 @@ text_front flags f size.Star size.Star (x ∷ y ∷ []) more h = absurd (omega a
 text_front flags f size.Star size.Star (x ∷ y ∷ z ∷ []) more h = refl
 text_front flags f size.Star size.Star (x ∷ y ∷ z ∷ u ∷ args) more h = absurd (omega arith)
 
-formed_is : (l : Level ℕ) (f : Form) (precision : ℤ) (x : Spoken) (q : ℕ) (s : Store) → is_integer f ≡ true
-    → formed_arg l f precision x q s ≡ Some (integer_arg x)
-formed_is l (form.Signed w) precision x q s h = refl
-formed_is l (form.Unsigned radix w) precision x q s h = refl
-formed_is l form.Char precision x q s h = refl
-formed_is l form.Text precision x q s h = absurd (cc)
-formed_is l form.Pointer precision x q s h = absurd (cc)
+front_of : (p : Piece) (args more : List Arg) → length args ≡ length (piece_kinds p) → piece_text p (args ++ more) ≡ piece_text p args
+front_of (Literal bytes) args more h = refl
+front_of (Converted c) args more h = text_front c.flags c.form c.width c.precision args more h
 
-integer_kind : (f : Form) → is_integer f ≡ true → form_kind f ≡ kind.Integer
-integer_kind (form.Signed w) h = refl
-integer_kind (form.Unsigned radix w) h = refl
-integer_kind form.Char h = refl
-integer_kind form.Text h = absurd (cc)
-integer_kind form.Pointer h = absurd (cc)
-
--- ---- all pieces, by the integers that they take from the front
+take_and_drop : (n : ℕ) (args : List Arg) → args ≡ take n args ++ drop n args
+take_and_drop zero args = refl
+take_and_drop (suc n) [] = refl
+take_and_drop (suc n) (x ∷ args) = ap (λ l. x ∷ l) (take_and_drop n args)
 
 unfoldable pub says_in : List ℕ → List Piece → List Arg → ℕ → Option ℕ
 says_in log [] args o = Some o
@@ -190,76 +262,17 @@ then_same : (x : Option ℕ) (f g : ℕ → Option ℕ) → ((o : ℕ) → f o �
 then_same None f g h = refl
 then_same (Some o) f g h = h o
 
-pub record Forms (l : Level ℕ) (log : List ℕ) (ps : List Piece) (xs : List Spoken) (q : ℕ) (s : Store) : Type 0 where
-  pub args : List Arg
-  pub are : arguments_of l ps xs q s ≡ Some args
-  pub says : (o : ℕ) → says_all (along log) ps args o ≡ says_in log ps (integer_args xs) o
-
-none_less : (n : ℕ) → n - 0 ≡ n
-none_less n = omega arith
-
-formed_literal : (l : Level ℕ) (log : List ℕ) (bytes : List ℕ) (ps : List Piece) (xs : List Spoken) (q : ℕ) (s : Store) → Forms l log ps xs q s
-    → Forms l log (Literal bytes ∷ ps) xs q s
+pub says_same : (log : List ℕ) (ps : List Piece) (args : List Arg) (o : ℕ) → AreEnough ps (length args)
+    → says_all (along log) ps args o ≡ says_in log ps args o
 unfolding says_in
-formed_literal l log bytes ps xs q s r = record {
-  args = r.args;
-  are = r.are;
-  says = λ o. then_same ((along log).take_text bytes o) (says_all (along log) ps r.args) (says_in log ps (integer_args xs)) r.says;
-}
-
-before_both : (front : List Arg) (x : Option Arg) (a : Arg) (y : Option (List Arg)) (more : List Arg) → x ≡ Some a → y ≡ Some more
-    → before_args front x y ≡ Some (front ++ a ∷ more)
-before_both front x a y more h k = rw (h, k) refl
-
-formed_converted : (l : Level ℕ) (log : List ℕ) (flags : Flags) (w p : Size) (f : Form) (ps : List Piece) (xs : List Spoken) (q : ℕ) (s : Store)
-    → is_integer f ≡ true → TakesBy w p xs → length (size_kinds w ++ size_kinds p ++ kind.Integer ∷ []) ≤ length xs
-    → Forms l log ps (drop 1 (behind_star p (behind_star w xs))) (q + pointer_places f) s
-    → Forms l log (Converted (record { flags = flags; width = w; precision = p; form = f }) ∷ ps) xs q s
-unfolding says_in
-formed_converted l log flags w p f ps xs q s h t enough r =
-    let c : Conversion = record { flags = flags; width = w; precision = p; form = f } in
-    let n = length (size_kinds w ++ size_kinds p ++ kind.Integer ∷ []) in
-    let front = star_args w xs ++ star_args p (behind_star w xs) in
-    let a = integer_arg (first_value (behind_star p (behind_star w xs))) in
-    let own : List Arg = integer_args (take n xs) in
-    let parted : front ++ a ∷ r.args ≡ own ++ r.args = sym (append_assoc front (a ∷ []) r.args) ∙ ap (λ l. l ++ r.args) t.own in
-    let long : length own ≡ n = integers_long (take n xs) ∙ length-take-le n xs enough in
-    let same : own ≡ take n (integer_args xs) = integers_taken n xs in
-    let kind_is : form_kind f ≡ kind.Integer = integer_kind f h in
-    record {
-      args = front ++ a ∷ r.args;
-      are = before_both front
-          (formed_arg l f (size_in (negsuc 0) p (star_args p (behind_star w xs))) (first_value (behind_star p (behind_star w xs))) q s) a
-          (arguments_of l ps (drop 1 (behind_star p (behind_star w xs))) (q + pointer_places f) s) r.args
-          (formed_is l f (size_in (negsuc 0) p (star_args p (behind_star w xs))) (first_value (behind_star p (behind_star w xs))) q s h) r.are;
-      says = λ o.
-          rw kind_is
-          (ap (λ args. taken_then ((along log).take_text (conversion_text c args) o) (says_all (along log) ps (drop n args))) parted
-          ∙ ap (λ text. taken_then ((along log).take_text text o) (says_all (along log) ps (drop n (own ++ r.args))))
-          (text_front flags f w p own r.args long)
-          ∙ ap (λ args. taken_then ((along log).take_text (conversion_text c args) o) (says_all (along log) ps (drop n (own ++ r.args)))) same
-          ∙ then_same ((along log).take_text (conversion_text c (take n (integer_args xs))) o) (says_all (along log) ps (drop n (own ++ r.args)))
-          (says_in log ps (drop n (integer_args xs)))
-          (λ k.
-          ap (λ args. says_all (along log) ps args k) (drop_at own r.args n long) ∙ r.says k
-          ∙ ap (λ args. says_in log ps args k) (ap integer_args t.rest ∙ integers_dropped n xs)));
-    }
-
-pub formed_all : (l : Level ℕ) (log : List ℕ) (ps : List Piece) (xs : List Spoken) (q : ℕ) (s : Store) → AreIntegers ps (length xs)
-    → Forms l log ps xs q s
-unfolding says_in
-formed_all l log [] xs q s h = record { args = []; are = refl; says = λ o. refl }
-formed_all l log (Literal bytes ∷ ps) xs q s h = formed_literal l log bytes ps xs q s (formed_all l log ps xs q s (subst (AreIntegers ps) (none_less (length xs)) h.2))
-formed_all l log (Converted c ∷ ps) xs q s h =
-    let kind_is : form_kind c.form ≡ kind.Integer = integer_kind c.form h.0 in
-    let enough : length (size_kinds c.width ++ size_kinds c.precision ++ kind.Integer ∷ []) ≤ length xs = rw kind_is at h.1 in
-    let t = taken_by c.width c.precision xs enough in
-    let left : length xs - length (piece_kinds (Converted c)) ≡ length (drop 1 (behind_star c.precision (behind_star c.width xs))) =
-    ap (λ k. length xs - length (size_kinds c.width ++ size_kinds c.precision ++ k ∷ [])) kind_is
-    ∙ sym (ap length t.rest ∙ length-drop (length (size_kinds c.width ++ size_kinds c.precision ++ kind.Integer ∷ [])) xs) in
-    formed_converted l log c.flags c.width c.precision c.form ps xs q s h.0 t enough
-    (formed_all l log ps (drop 1 (behind_star c.precision (behind_star c.width xs))) (q + pointer_places c.form) s
-    (subst (AreIntegers ps) left h.2))
+says_same log [] args o h = refl
+says_same log (p ∷ ps) args o h =
+    let n = length (piece_kinds p) in
+    let front : piece_text p args ≡ piece_text p (take n args) =
+    ap (piece_text p) (take_and_drop n args) ∙ front_of p (take n args) (drop n args) (length-take-le n args h.0) in
+    ap (λ text. taken_then ((along log).take_text text o) (says_all (along log) ps (drop n args))) front
+    ∙ then_same ((along log).take_text (piece_text p (take n args)) o) (says_all (along log) ps (drop n args)) (says_in log ps (drop n args))
+    (λ k. says_same log ps (drop n args) k (subst (AreEnough ps) (sym (length-drop n args)) h.1))
 
 -- ---- the same, of a run
 
@@ -267,26 +280,25 @@ positioned_again : (h : Held) (o : ℕ) (x : Option ℕ) → at_position (record
 positioned_again h o None = refl
 positioned_again h o (Some k) = refl
 
-pub pieces_say : (log : List ℕ) (ps : List Piece) (xs : List Number) (e : Environment) (v : Values) (h : Held)
-    → pieces_way log ps xs e v h ≡ at_position h (says_in log ps (args_in v xs) h.done.out)
+pub pieces_say : (log : List ℕ) (ps : List Piece) (xs : List Argument) (args : List Arg) (e : Environment) (v : Values) (h : Held)
+    → args_in v xs ≡ Some args → pieces_way log ps xs e v h ≡ at_position h (says_in log ps args h.done.out)
 unfolding says_in
-pieces_say log [] xs e v h = refl
-pieces_say log (p ∷ ps) xs e v h =
-    ap (λ args. at_position h ((along log).take_text (piece_text p args) h.done.out) >>= pieces_way log ps (drop (length (piece_kinds p)) xs) e v)
-    (args_taken v (length (piece_kinds p)) xs)
-    ∙ by ((along log).take_text (piece_text p (take (length (piece_kinds p)) (args_in v xs))) h.done.out)
-    (λ k. pieces_say log ps (drop (length (piece_kinds p)) xs) e v k)
+pieces_say log [] xs args e v h is = refl
+pieces_say log (p ∷ ps) xs args e v h is =
+    let n = length (piece_kinds p) in
+    ap (λ o. taken_with log p o h >>= pieces_way log ps (drop n xs) e v) (args_taken v n xs args is)
+    ∙ by ((along log).take_text (piece_text p (take (length (piece_kinds p)) args)) h.done.out)
+    (λ k. pieces_say log ps (drop n xs) (drop n args) e v k (args_dropped v n xs args is))
   where
     by : (x : Option ℕ)
         → ((k : Held) → pieces_way log ps (drop (length (piece_kinds p)) xs) e v k
-        ≡ at_position k (says_in log ps (args_in v (drop (length (piece_kinds p)) xs)) k.done.out))
+        ≡ at_position k (says_in log ps (drop (length (piece_kinds p)) args) k.done.out))
         → at_position h x >>= pieces_way log ps (drop (length (piece_kinds p)) xs) e v
-        ≡ at_position h (taken_then x (says_in log ps (drop (length (piece_kinds p)) (args_in v xs))))
+        ≡ at_position h (taken_then x (says_in log ps (drop (length (piece_kinds p)) args)))
     by None r = refl
     by (Some o) r =
         r (record h { done = record h.done { out = o } })
-        ∙ positioned_again h o (says_in log ps (args_in v (drop (length (piece_kinds p)) xs)) o)
-        ∙ ap (λ args. at_position h (says_in log ps args o)) (args_dropped v (length (piece_kinds p)) xs)
+        ∙ positioned_again h o (says_in log ps (drop (length (piece_kinds p)) args) o)
 
 -- ---- numbers in grown banks
 

@@ -1,7 +1,11 @@
-pub mod SplitLemmas
-pub mod SayLemmas
+pub mod TextLemmas
+pub mod TextTerms
 pub mod ArgumentLemmas
+pub mod FormLemmas
 pub mod ConditionLemmas
-pub mod WatchLemmas
-pub mod PrintLemmas
 pub mod LogLemmas
+pub mod PrintLemmas
+pub mod SayLemmas
+pub mod SplitLemmas
+pub mod WatchLemmas
+pub mod PartLemmas

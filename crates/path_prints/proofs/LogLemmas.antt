@@ -1,6 +1,7 @@
--- A log call these a whole.
-use Rattle.std.proofs.Common.{◌≡◌, ℕ, zero, suc, ◌+◌, ◌-◌, ℤ, pos, List, [], ◌∷◌, ◌++◌, length, drop, Bool, true, false, cond, Option, Some, None, refl, sym, ap, subst, ◌∙◌}
-use Rattle.std.specs.Prelude.{Ok, Err}
+-- A log call as a whole.
+use Rattle.std.proofs.Common.{◌≡◌, ℕ, zero, suc, ◌+◌, ◌-◌, ℤ, pos, List, [], ◌∷◌, ◌++◌, length, drop, Bool, true, false, cond, not, Option, Some, None, refl, sym, ap, subst, ◌∙◌, append-nil}
+use Rattle.std.specs.Prelude.{Result, Ok, Err}
+use Rattle.std.specs.Option.{is_some}
 use Rattle.plain_data.specs.declared.run.Finish.TheVariants as finish
 use Rattle.plain_data.specs.declared.run.Undefined.TheVariants as undefined
 use Rattle.c_means.specs.declared.kind.Kind.TheVariants as k
@@ -13,11 +14,13 @@ use Rattle.core_tree.specs.declared.types.WordType.{WordType}
 use Rattle.core_tree.specs.Callees.{Spoken, spoken, called, prints, printed, says_all, seen_all, arguments_of, answers_int, print_noted}
 use Rattle.core_tree.specs.Numbers.{int, wrapped, converted_to}
 use Rattle.core_tree.specs.States.{Done, along, meets, entered, finished}
+use Rattle.term_bank.specs.declared.sort.Node.{Node}
 use Rattle.term_bank.specs.declared.shape.Shape.{Shape}
 use Rattle.term_bank.specs.Values.{Environment, Values, Models, Grows}
 use Rattle.term_bank.proofs.BankLemmas.{weaken, grows_on}
 use Rattle.path_states.specs.declared.state.Number.{Number}
 use Rattle.path_states.specs.declared.state.State.{State}
+use Rattle.path_states.specs.declared.state.Walked.{Walked}
 use Rattle.path_states.specs.States.{Held, IsRoomy, IsSized, AllSized, run_in, standing, onto, numbers_in}
 use Rattle.path_states.specs.Ways.{to_list, ◌>>=◌, Way, Trial, going, ending, Steps, Goes, Tries}
 use Rattle.path_states.proofs.Growth.{states_grown}
@@ -30,11 +33,14 @@ use Rattle.path_forms.specs.Calling.{taken, below, call_way}
 use Rattle.path_forms.specs.Reaching.{passing}
 use Rattle.path_calls.specs.Begun.{Begins, begun}
 use Rattle.path_calls.proofs.CallTrials.{call_answers, call_ends, call_leaves}
-use Rattle.path_prints.specs.Arguments.{args_in, integer_args, Speaks}
-use Rattle.path_prints.specs.Says.{at_position, pieces_way, AreIntegers, SaysAll}
+use Rattle.path_numbers.specs.Answers.{Truthful}
+use Rattle.path_prints.specs.declared.arguments.Argument.{Argument}
+use Rattle.path_prints.specs.Arguments.{args_in}
+use Rattle.path_prints.specs.Formed.{FormsCall, PartsFormed, stopped_at}
+use Rattle.path_prints.specs.Says.{at_position, pieces_way, AreEnough, SaysAll}
 use Rattle.path_prints.specs.Prints.{print_events, print_way, PrintsBy}
 use Rattle.path_prints.specs.Watches.{SeesAll}
-use Rattle.path_prints.proofs.ArgumentLemmas.{says_in, Forms, formed_all, pieces_say, args_dropped, integers_dropped, args_long, integers_long}
+use Rattle.path_prints.proofs.ArgumentLemmas.{says_in, says_same, pieces_say, args_long}
 
 -- ---- states one behind the other
 
@@ -74,7 +80,7 @@ one_goes room a b s ts f h = record {
   sized = h.sized;
 }
 
--- states that go on by a trial which ends no run of theirs
+-- states that go on by a trial
 when_going : (g : Bool) (x y : Option Held) → x ≡ y → cond g (to_list x) [] ≡ cond g (to_list y) []
 when_going g x y h = ap (λ o. cond g (to_list o) []) h
 
@@ -86,29 +92,65 @@ ending_passing : (o : Option Held) → None ≡ ending (passing o)
 ending_passing None = refl
 ending_passing (Some h) = refl
 
-pub tries_passing : (room : ℕ) (a b : List Shape) (s : State) (ts : List State) (f : Way) (g : Trial) → Steps room a b s ts f
-    → ((e : Environment) (v : Values) → Models b e v → IsRoomy room e → g e v (run_in v s) ≡ passing (f e v (run_in v s)))
-    → Keeps g → Tries room a b s (record { going = ts; ended = [] }) g
-tries_passing room a b s ts f g h same keep = record {
-  going = record {
-    grows = h.grows;
-    states = h.states;
-    stands = λ e v m r k.
-        h.stands e v m r k
-        ∙ when_going (v s.guard.index).truth (f e v (run_in v s)) (going (g e v (run_in v s)))
-        (going_passing (f e v (run_in v s)) ∙ ap going (sym (same e v m r)));
-    sized = λ e v m r d k. (keep.keeps e v d k).0;
-  };
-  ended = record {
-    grows = h.grows;
-    states = tt;
-    stands = λ e v m r k.
-        nothing_so (v s.guard.index).truth
-        ∙ when_going (v s.guard.index).truth None (ending (g e v (run_in v s)))
-        (ending_passing (f e v (run_in v s)) ∙ ap ending (sym (same e v m r)));
-    sized = λ e v m r d k. (keep.keeps e v d k).1;
-  };
-}
+-- where the arguments are formed the run goes on, else it stops at the token
+abbrev tried_with : ℕ → Option (List Arg) → Held → Option Held → Option (Result Held (Done ℕ))
+tried_with at None h r = Some (Err (finished (finish.Stopped undefined.Dereference at) h.done))
+tried_with at (Some args) h r = passing r
+
+abbrev formed_run : Option (List Arg) → Held → Option Held
+formed_run o h = cond (is_some o) (Some h) None
+
+going_tried : (at : ℕ) (o : Option (List Arg)) (h : Held) (f g : Held → Option Held)
+    → (formed_run o h >>= f) >>= g ≡ going (tried_with at o h (f h >>= g))
+going_tried at None h f g = refl
+going_tried at (Some args) h f g = going_passing (f h >>= g)
+
+ending_tried : (at : ℕ) (o : Option (List Arg)) (h : Held) (r : Option Held) (g t : Bool) → t ≡ is_some o
+    → cond (cond g (not t) false) (record { operands = []; done = finished (finish.Stopped undefined.Dereference at) h.done } ∷ []) []
+    ≡ cond g (to_list (ending (tried_with at o h r))) []
+ending_tried at o h r false t same = refl
+ending_tried at None h r true t same =
+    ap (λ b. cond (not b) (record { operands = []; done = finished (finish.Stopped undefined.Dereference at) h.done } ∷ []) []) same
+ending_tried at (Some args) h r true t same =
+    ap (λ b. cond (not b) (record { operands = []; done = finished (finish.Stopped undefined.Dereference at) h.done } ∷ []) []) same
+    ∙ ap to_list (ending_passing r)
+
+where_so : (g : Bool) (ts : List Held) (x y : Option Held) → ts ≡ cond g (to_list x) [] → (g ≡ true → x ≡ y) → ts ≡ cond g (to_list y) []
+where_so true ts x y h k = h ∙ ap to_list (k refl)
+where_so false ts x y h k = h
+
+formed_sized : (o : Option (List Arg)) (h : Held) → IsSized h.done.store → AllSized (formed_run o h)
+formed_sized None h k = tt
+formed_sized (Some args) h k = k
+
+parted_so : (g t : Bool) (o : Option (List Arg)) (q h : Held) → t ≡ is_some o → q ≡ h
+    → cond (cond g t false) (q ∷ []) [] ≡ cond g (to_list (formed_run o h)) []
+parted_so false t o q h same is = refl
+parted_so true t None q h same is = ap (λ b. cond b (q ∷ []) []) same
+parted_so true t (Some args) q h same is = ap (λ b. cond b (q ∷ []) []) same ∙ ap (λ x. x ∷ []) is
+
+truth_behind : (a b c : List Shape) (truth : Node) (own : List Argument) → Grows a b → Truthful b c truth (λ v. is_some (args_in v own))
+    → Truthful a c truth (λ v. is_some (args_in v own))
+truth_behind a b c truth own g h = record { grows = grows_on g h.grows; bank = h.bank; term = h.term; is = h.is }
+
+-- the state at which a call begins, where its arguments are formed
+pub parts_go : (room : ℕ) (a b c d : List Shape) (s t : State) (site : CallSite) (xs : List Number) (own : List Argument) (truth : Node) (w : Walked)
+    → Begins a b s t site xs → Grows b c → Truthful b c truth (λ v. is_some (args_in v own)) → PartsFormed c d site.at t truth w
+    → Goes room a d (s ∷ []) w.going (λ e v h. formed_run (args_in v own) (begun site h))
+parts_go room a b c d s t site xs own truth w h g i j =
+    let f : Way = λ e v x. formed_run (args_in v own) (begun site x) in
+    let ad = grows_on h.grows (grows_on g j.grows) in
+    goes_more room a a d [] [] w.going s f (goes_none room a f (λ e v m r x k. formed_sized (args_in v own) (begun site x) k))
+    (record {
+      grows = ad;
+      states = j.going;
+      stands = λ e v m r k.
+          let mc = weaken j.grows m in let mb = weaken g mc in
+          j.goes e v m
+          ∙ ap (λ n. cond (cond (v n.index).truth (v truth.index).truth false) (run_in v t ∷ []) []) h.guard
+          ∙ parted_so (v s.guard.index).truth (v truth.index).truth (args_in v own) (run_in v t) (begun site (run_in v s)) (i.is e v mc) (h.run e v mb);
+      sized = λ e v m r x k. formed_sized (args_in v own) (begun site x) k;
+    })
 
 -- ---- what the core does
 
@@ -181,34 +223,32 @@ module _ (x : Around) (frame : List Placed) (ps : List Piece) (before : ℕ) (ty
       call_ends x frame (callee.Log ps before types watched) site e v h (finish.Stopped undefined.Dereference site.at) [] h.done.out
       (log_called ∙ ap (λ these. prints (along x.log) site.at site.answer ps shown_values these (entered (along x.log) h.done.store h.done.out)) is)
 
-  -- a call whose integers stand in numbers
-  log_passes : (v : Values) (own shown : List Number) (from : ℕ) → args_in v own ≡ integer_args pieces_args → AreIntegers ps (length own)
+  -- a call whose arguments stand in nodes
+  log_tries : (v : Values) (own : List Argument) (shown : List Number) (from : ℕ)
+      → args_in v own ≡ arguments_of (level_at x e) ps pieces_args (e.base + site.place + 4) h.done.store → AreEnough ps (length own)
       → from ≡ h.done.out → numbers_in v shown ≡ shown_values
       → call_way x frame (callee.Log ps before types watched) site e v h
-      ≡ passing (pieces_way x.log ps own e v (begun site h) >>= print_way site.at site.answer from shown e v)
-  log_passes v own shown from same integers start values =
-      let long : length own ≡ length pieces_args = sym (args_long v own) ∙ ap length same ∙ integers_long pieces_args in
-      let r = formed_all (level_at x e) x.log ps pieces_args (e.base + site.place + 4) h.done.store (subst (AreIntegers ps) long integers) in
-      by r (says_in x.log ps (args_in v own) h.done.out) refl
+      ≡ tried_with site.at (args_in v own) (begun site h) (pieces_way x.log ps own e v (begun site h) >>= print_way site.at site.answer from shown e v)
+    log_tries v own shown from same enough start values = whole (args_in v own) refl
     where
-      said : (r : Forms (level_at x e) x.log ps pieces_args (e.base + site.place + 4) h.done.store)
-          → says_all (along x.log) ps r.args h.done.out ≡ says_in x.log ps (args_in v own) h.done.out
-      said r = r.says h.done.out ∙ ap (λ these. says_in x.log ps these h.done.out) (sym same)
-
-      taken_so : (o : Option ℕ) → says_in x.log ps (args_in v own) h.done.out ≡ o
+      taken_so : (args : List Arg) → args_in v own ≡ Some args → (o : Option ℕ) → says_in x.log ps args h.done.out ≡ o
           → at_position (begun site h) o >>= print_way site.at site.answer from shown e v
           ≡ pieces_way x.log ps own e v (begun site h) >>= print_way site.at site.answer from shown e v
-      taken_so o is =
-          ap (λ q. at_position (begun site h) q >>= print_way site.at site.answer from shown e v) (sym is)
-          ∙ ap (λ q. q >>= print_way site.at site.answer from shown e v) (sym (pieces_say x.log ps own e v (begun site h)))
+      taken_so args is o said =
+          ap (λ q. at_position (begun site h) q >>= print_way site.at site.answer from shown e v) (sym said)
+          ∙ ap (λ q. q >>= print_way site.at site.answer from shown e v) (sym (pieces_say x.log ps own args e v (begun site h) is))
 
-      by : (r : Forms (level_at x e) x.log ps pieces_args (e.base + site.place + 4) h.done.store) (o : Option ℕ)
-          → says_in x.log ps (args_in v own) h.done.out ≡ o
+      says : (args : List Arg) → args_in v own ≡ Some args → (o : Option ℕ) → says_in x.log ps args h.done.out ≡ o
+          → says_all (along x.log) ps args h.done.out ≡ o
+      says args is o said = says_same x.log ps args h.done.out (subst (AreEnough ps) (sym (args_long v own args is)) enough) ∙ said
+
+      by : (args : List Arg) → args_in v own ≡ Some args → (o : Option ℕ) → says_in x.log ps args h.done.out ≡ o
           → call_way x frame (callee.Log ps before types watched) site e v h
           ≡ passing (pieces_way x.log ps own e v (begun site h) >>= print_way site.at site.answer from shown e v)
-      by r None is = log_leaves v r.args r.are (said r ∙ is) ∙ ap passing (taken_so None is)
-      by r (Some o) is =
-          log_answers v r.args o r.are (said r ∙ is)
+      by args is None said =
+          log_leaves v args (sym same ∙ is) (says args is None said) ∙ ap passing (taken_so args is None said)
+      by args is (Some o) said =
+          log_answers v args o (sym same ∙ is) (says args is (Some o) said)
           ∙ ap (λ j. Some (Ok (record {
             operands = converted_to site.answer (wrapped int (pos (o - j))) ∷ below site.count h.operands;
             done = record h.done { events = (begun site h).done.events ++ print_events site.at j (o - j) shown_values; out = o };
@@ -217,7 +257,16 @@ module _ (x : Around) (frame : List Placed) (ps : List Piece) (before : ℕ) (ty
             operands = converted_to site.answer (wrapped int (pos (o - from))) ∷ below site.count h.operands;
             done = record h.done { events = (begun site h).done.events ++ print_events site.at from (o - from) l; out = o };
           }))) (sym values)
-          ∙ ap passing (taken_so (Some o) is)
+          ∙ ap passing (taken_so args is (Some o) said)
+
+      whole : (o : Option (List Arg)) → args_in v own ≡ o
+          → call_way x frame (callee.Log ps before types watched) site e v h
+          ≡ tried_with site.at o (begun site h) (pieces_way x.log ps own e v (begun site h) >>= print_way site.at site.answer from shown e v)
+      whole None is =
+          log_stops v (sym same ∙ is)
+          ∙ ap (λ l. Some (Err (finished (finish.Stopped undefined.Dereference site.at) (record h.done { events = l }))))
+          (append-nil (begun site h).done.events)
+      whole (Some args) is = by args is (says_in x.log ps args h.done.out) refl
 
   log_keeps_by : (v : Values) → IsSized h.done.store
       → AllSized (going (call_way x frame (callee.Log ps before types watched) site e v h))
@@ -245,34 +294,96 @@ log_keeps x frame ps before types watched site = record {
 
 -- ---- the whole
 
-pub prints_format : (x : Around) (room : ℕ) (a b c d f g : List Shape) (log : List ℕ) (frame : List Placed) (ps : List Piece) (before : ℕ)
-    (types : List WordType) (watched : List Watched) (site : CallSite) (s t : State) (arguments spoken_ones own shown : List Number)
-    (from : ℕ) (us ts : List State) → x.log ≡ log → Begins a b s t site arguments → Speaks b c types arguments [] spoken_ones
-    → SeesAll c d frame room t.memory watched [] shown → from ≡ t.position → own ≡ drop before spoken_ones
-    → SaysAll d f log ps own (t ∷ []) us → ((q : ℕ) → Goes q f g us ts (print_way site.at site.answer from shown))
-    → PrintsBy x room a g s frame ps before types watched site (record { going = ts; ended = [] })
+abbrev by_pieces : List ℕ → List Piece → List Argument → CallSite → ℕ → List Number → Way
+by_pieces log ps own site from shown e v h =
+    (formed_run (args_in v own) (begun site h) >>= pieces_way log ps own e v) >>= print_way site.at site.answer from shown e v
+
+pub prints_format : (x : Around) (room : ℕ) (a b c d f g i j : List Shape) (log : List ℕ) (frame : List Placed) (ps : List Piece) (before : ℕ)
+    (types : List WordType) (watched : List Watched) (site : CallSite) (s t : State) (arguments shown : List Number) (own : List Argument)
+    (truth : Node) (from : ℕ) (w : Walked) (us ts : List State) → x.log ≡ log → Begins a b s t site arguments
+    → FormsCall room b c t.memory ps before types arguments site.place own → SeesAll c d frame room t.memory watched [] shown → from ≡ t.position
+    → Truthful d f truth (λ v. is_some (args_in v own)) → PartsFormed f g site.at t truth w
+    → SaysAll g i log ps own w.going us → ((q : ℕ) → Goes q i j us ts (print_way site.at site.answer from shown))
+    → PrintsBy x room a j s frame ps before types watched site (record { going = ts; ended = w.ended })
 unfolding pieces_args shown_values
-prints_format x room a b c d f g log frame ps before types watched site s t arguments spoken_ones own shown from us ts at hb hs hw start front ha hp =
-    record {
-      tries =
-          let bd = grows_on hs.grows hw.grows in
-          let first = goes_grown room a b d (s ∷ []) (t ∷ []) (λ e v h. Some (begun site h)) bd (begins_goes room a b s t site arguments hb) in
-          let two = goes_then room a d f (s ∷ []) (t ∷ []) us (λ e v h. Some (begun site h)) (pieces_way log ps own) first (ha.goes room) in
-          let all = goes_then room a f g (s ∷ []) us ts (λ e v h. pieces_way log ps own e v (begun site h))
-          (print_way site.at site.answer from shown) two (hp room) in
-          tries_passing room a g s ts (λ e v h. pieces_way log ps own e v (begun site h) >>= print_way site.at site.answer from shown e v)
-          (call_way x frame (callee.Log ps before types watched) site)
-          (one_goes room a g s ts (λ e v h. pieces_way log ps own e v (begun site h) >>= print_way site.at site.answer from shown e v) all)
-          (λ e v m r.
-          let mf = weaken (hp 0).grows m in let md = weaken ha.grows mf in let mc = weaken hw.grows md in let mb = weaken hs.grows mc in
-          let run = hb.run e v mb in
-          log_passes x frame ps before types watched site e (run_in v s) v own shown from
-          (ap (args_in v) front ∙ args_dropped v before spoken_ones ∙ ap (drop before) (hs.are e v mc)
-          ∙ ap (λ l. drop before (integer_args (spoken types l))) (hb.arguments e v mb)
-          ∙ sym (integers_dropped before (spoken types (taken site.count (onto v [] s.operands)))))
-          ha.integers (start ∙ hb.position)
-          (hw.are e v md r
-          ∙ ap (λ (q : Held). seen_all (env_at frame e) q.done.store watched) run)
-          ∙ ap (λ l. passing (pieces_way l ps own e v (begun site (run_in v s)) >>= print_way site.at site.answer from shown e v)) at)
-          (log_keeps x frame ps before types watched site);
+prints_format x room a b c d f g i j log frame ps before types watched site s t arguments shown own truth from w us ts at hb hf hw start ht hd ha hp =
+    record { tries = record { going = goes; ended = stops } }
+  where
+    bd : Grows b d
+    bd = grows_on hf.grows hw.grows
+
+    gj : Grows g j
+    gj = grows_on ha.grows (hp 0).grows
+
+    keep : Keeps (call_way x frame (callee.Log ps before types watched) site)
+    keep = log_keeps x frame ps before types watched site
+
+    first : Goes room a g (s ∷ []) w.going (λ e v h. formed_run (args_in v own) (begun site h))
+    first = parts_go room a b f g s t site arguments own truth w hb (grows_on bd ht.grows) (truth_behind b d f truth own bd ht) hd
+
+    two : Goes room a i (s ∷ []) us (λ e v h. formed_run (args_in v own) (begun site h) >>= pieces_way log ps own e v)
+    two = goes_then room a g i (s ∷ []) w.going us (λ e v h. formed_run (args_in v own) (begun site h)) (pieces_way log ps own) first (ha.goes room)
+
+    all : Goes room a j (s ∷ []) ts (by_pieces log ps own site from shown)
+    all =
+        goes_then room a i j (s ∷ []) us ts (λ e v h. formed_run (args_in v own) (begun site h) >>= pieces_way log ps own e v)
+        (print_way site.at site.answer from shown) two (hp room)
+
+    -- what the call does is what was walked
+    same : (e : Environment) (v : Values) → Models j e v → IsRoomy room e → IsSized (run_in v s).done.store
+        → call_way x frame (callee.Log ps before types watched) site e v (run_in v s)
+        ≡ tried_with site.at (args_in v own) (begun site (run_in v s))
+        (pieces_way log ps own e v (begun site (run_in v s)) >>= print_way site.at site.answer from shown e v)
+    same e v m r k =
+        let mg = weaken gj m in let mf = weaken hd.grows mg in let md = weaken ht.grows mf in let mc = weaken hw.grows md in
+        let mb = weaken hf.grows mc in
+        let run = hb.run e v mb in
+        let store : (v t.memory.index).store ≡ (run_in v s).done.store = ap (λ (q : Held). q.done.store) run in
+        let formed = hf.formed x e v mc r (subst IsSized (sym store) k) in
+        log_tries x frame ps before types watched site e (run_in v s) v own shown from
+        (formed
+        ∙ ap (λ l. arguments_of (level_at x e) ps (drop before (spoken types l)) (e.base + site.place + 4) (v t.memory.index).store)
+        (hb.arguments e v mb)
+        ∙ ap (arguments_of (level_at x e) ps (drop before (spoken types (taken site.count (onto v [] s.operands)))) (e.base + site.place + 4)) store)
+        ha.enough (start ∙ hb.position)
+        (hw.are e v md r ∙ ap (λ (q : Held). seen_all (env_at frame e) q.done.store watched) run)
+        ∙ ap (λ l. tried_with site.at (args_in v own) (begun site (run_in v s))
+        (pieces_way l ps own e v (begun site (run_in v s)) >>= print_way site.at site.answer from shown e v)) at
+
+    goes : Steps room a j s ts (λ e v h. going (call_way x frame (callee.Log ps before types watched) site e v h))
+    goes =
+        let one = one_goes room a j s ts (by_pieces log ps own site from shown) all in
+        record {
+          grows = one.grows;
+          states = one.states;
+          stands = λ e v m r k.
+              where_so (v s.guard.index).truth (standing v ts) (by_pieces log ps own site from shown e v (run_in v s)) (going (call_way x frame (callee.Log ps before types watched) site e v (run_in v s))) (one.stands e v m r k)
+              (λ is.
+              going_tried site.at (args_in v own) (begun site (run_in v s)) (pieces_way log ps own e v) (print_way site.at site.answer from shown e v)
+              ∙ ap going (sym (same e v m r (k is))));
+          sized = λ e v m r d q. (keep.keeps e v d q).0;
+        }
+
+    stops : Steps room a j s w.ended (λ e v h. ending (call_way x frame (callee.Log ps before types watched) site e v h))
+    stops = record {
+      grows = all.grows;
+      states = states_grown gj w.ended hd.ended;
+      stands = λ e v m r k.
+          let mg = weaken gj m in let mf = weaken hd.grows mg in let md = weaken ht.grows mf in
+          let mb = weaken bd md in
+          where_so (v s.guard.index).truth (standing v w.ended)
+          (ending (tried_with site.at (args_in v own) (begun site (run_in v s))
+          (pieces_way log ps own e v (begun site (run_in v s)) >>= print_way site.at site.answer from shown e v)))
+          (ending (call_way x frame (callee.Log ps before types watched) site e v (run_in v s)))
+          (hd.stops e v mg
+          ∙ ap (λ n. cond (cond (v n.index).truth (not (v truth.index).truth) false) (stopped_at site.at v t ∷ []) []) hb.guard
+          ∙ ap (λ (q : Held). cond (cond (v s.guard.index).truth (not (v truth.index).truth) false) (record {
+            operands = [];
+            done = finished (finish.Stopped undefined.Dereference site.at) q.done;
+          } ∷ []) []) (hb.run e v mb)
+          ∙ ending_tried site.at (args_in v own) (begun site (run_in v s))
+          (pieces_way log ps own e v (begun site (run_in v s)) >>= print_way site.at site.answer from shown e v)
+          (v s.guard.index).truth (v truth.index).truth (ht.is e v mf))
+          (λ is. ap ending (sym (same e v m r (k is))));
+      sized = λ e v m r d q. (keep.keeps e v d q).1;
     }

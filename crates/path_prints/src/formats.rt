@@ -1,46 +1,15 @@
 //! Single pieces of a format.
 ghost use Rattle.std.specs.Prelude.{◌≡◌, ◌∷◌, ◌≤◌, [], length, IfOk};
 ghost use Rattle.format_match.specs.Splits.{SplitsExactly};
-ghost use Rattle.printf_text.specs.Texts.{piece_kinds, size_kinds};
-ghost use Rattle.path_prints.specs.Says.{takes_integers as takes_integers_in};
+ghost use Rattle.printf_text.specs.Texts.{piece_kinds};
+ghost use Rattle.path_prints.specs.Arguments.{is_of as is_of_kind, are_of as are_of_kinds};
 
+use crate::arguments::Argument;
 use format_match::{SplitList, splits};
 use path_forms::WalkFault;
 use plain_data::Bytes;
-use printf_text::{Form, Piece, Pieces, Size};
+use printf_text::{Kind, Kinds, Piece, Pieces, kinds};
 use std::alloc::{AllocError, Global};
-
-/// Whether a piece is bytes that stand for themselves, or converts an integer.
-pub(crate) fn takes_integers(piece: &Piece) -> bool
-    ensures { result ≡ takes_integers_in piece.now }
-{
-    match piece {
-        Piece::Literal(_) => true,
-        Piece::Converted(c) => match c.form {
-            Form::Signed(_) | Form::Unsigned(_, _) | Form::Char => true,
-            Form::Text | Form::Pointer => false,
-        },
-    }
-}
-
-fn stars(size: Size) -> usize
-    ensures { result ≡ length (size_kinds size) }
-{
-    match size {
-        Size::Omitted | Size::Written(_) => 0,
-        Size::Star => 1,
-    }
-}
-
-/// How many arguments a piece takes.
-pub(crate) fn wanted(piece: &Piece) -> usize
-    ensures { result ≡ length (piece_kinds piece.now) }
-{
-    match piece {
-        Piece::Literal(_) => 0,
-        Piece::Converted(c) => stars(c.width) + stars(c.precision) + 1,
-    }
-}
 
 /// A format of one piece.
 fn alone(alloc: Global, piece: &Piece) -> Result<Pieces, AllocError>
@@ -53,6 +22,39 @@ fn alone(alloc: Global, piece: &Piece) -> Result<Pieces, AllocError>
     let mut pieces = Pieces::new(alloc);
     pieces.push(copy)?;
     Ok(pieces)
+}
+
+/// The kinds of what a piece takes. It fails for want of memory alone.
+pub(crate) fn kinds_of(alloc: Global, piece: &Piece) -> Result<Kinds, AllocError>
+    ensures { IfOk result (λ ks. ks ≡ piece_kinds piece.now) }
+{
+    let pieces = alone(alloc, piece)?;
+    let all = kinds(alloc, &pieces)?;
+    Ok(all)
+}
+
+/// Whether an argument is of a kind.
+fn is_of(kind: Kind, argument: &Argument) -> bool
+    ensures { result ≡ is_of_kind kind argument.now }
+{
+    match kind {
+        Kind::Integer => matches!(argument, Argument::Integer(_)),
+        Kind::Text => matches!(argument, Argument::Text(_)),
+        Kind::Pointer => matches!(argument, Argument::Pointer { .. }),
+    }
+}
+
+/// Whether there is one argument of each kind.
+pub(crate) fn are_of(kinds: &[Kind], arguments: &[Argument]) -> bool
+    ensures { result ≡ are_of_kinds kinds.now arguments.now }
+{
+    let Some((kind, others)) = kinds.split_first() else {
+        return arguments.is_empty();
+    };
+    let Some((argument, more)) = arguments.split_first() else {
+        return false;
+    };
+    is_of(*kind, argument) && are_of(others, more)
 }
 
 /// All ways in which a piece spells the log from a position on. It fails for want of memory alone.

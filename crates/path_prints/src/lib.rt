@@ -4,8 +4,10 @@
 mod arguments;
 mod conditions;
 mod formats;
+mod parting;
 mod printing;
 mod says;
+mod texts;
 mod watching;
 
 pub use printing::log_call;

@@ -1,7 +1,7 @@
 //! Log calls.
-ghost use Rattle.std.specs.Prelude.{◌≡◌, ℕ, pos, IfOk};
+ghost use Rattle.std.specs.Prelude.{◌≡◌, ◌+◌, ℕ, pos, IfOk};
 ghost use Rattle.term_bank.specs.Terms.{IsTerm};
-ghost use Rattle.term_bank.specs.declared.sort.Sort.TheVariants.{Events};
+ghost use Rattle.term_bank.specs.declared.sort.Sort.TheVariants.{Events, Memory};
 ghost use Rattle.core_tree.specs.Numbers.{int, wrapped as wrapped_to, converted_to};
 ghost use Rattle.path_states.specs.States.{IsState, AreStates, AreNumbers};
 ghost use Rattle.path_states.specs.Ways.{Steps, Goes, Tries};
@@ -9,8 +9,11 @@ ghost use Rattle.path_numbers.specs.Answers.{Numbered};
 ghost use Rattle.path_forms.specs.Around.{Around};
 ghost use Rattle.path_forms.specs.Calling.{call_way};
 ghost use Rattle.path_prints.specs.Prints.{Gathers, NotesPrint, print_way, PrintsBy};
+ghost use Rattle.path_prints.specs.Formed.{FormsCall};
 
-use crate::arguments::{behind, speak};
+use crate::arguments::{Argument, behind, form_all, speak};
+use crate::conditions::are_formed;
+use crate::parting::part_formed;
 use crate::says::say_all;
 use crate::watching::see_all;
 use core_tree::{Callee, ValueType, Watched, WordType};
@@ -22,6 +25,9 @@ use plain_data::Items;
 use printf_text::Piece;
 use std::alloc::Global;
 use term_bank::{Bank, BankFault, Node};
+
+/// How many places a log call has before those of its `%p`.
+const PLACES: u64 = 4;
 
 /// Numbers as one node.
 fn gathered(bank: &mut Bank, numbers: &[Number]) -> Result<Node, BankFault>
@@ -113,6 +119,42 @@ fn end_prints(
     Ok(all)
 }
 
+/// The place of the first `%p` of a log call at a place. It fails for more places than 64 bits count.
+fn first_place(place: u64) -> Result<u64, WalkFault>
+    ensures { IfOk result (λ first. first ≡ place + 4) }
+{
+    match place.checked_add(PLACES) {
+        Some(first) => Ok(first),
+        None => Err(WalkFault::TooFar),
+    }
+}
+
+/// What the pieces of a log call take, whose places begin so many behind the base.
+fn formed(
+    alloc: Global,
+    bank: &mut Bank,
+    room: u64,
+    memory: Node,
+    pieces: &[Piece],
+    before: u64,
+    types: &[WordType],
+    arguments: &[Number],
+    place: u64,
+) -> Result<Items<Argument>, WalkFault>
+    requires memory { IsTerm bank.old Memory memory }
+    requires arguments { AreNumbers bank.old arguments.now }
+    ensures { IfOk result (λ xs. FormsCall room bank.old bank.new memory pieces.now before types.now arguments.now place
+        xs) }
+{
+    let first = first_place(place)?;
+    let mut spoken = Items::new(alloc);
+    speak(types, arguments, &mut spoken)?;
+    let own = behind(spoken.as_slice(), before);
+    let mut out = Items::new(alloc);
+    form_all(bank, room, memory, pieces, own, first, &mut out)?;
+    Ok(out)
+}
+
 /// A log call by its parts.
 fn print_format(
     alloc: Global,
@@ -133,23 +175,22 @@ fn print_format(
 {
     let mut now = state.copy(alloc)?;
     let arguments = begin(alloc, bank, site, &mut now)?;
-    let mut spoken = Items::new(alloc);
-    speak(bank, types, arguments.as_slice(), &mut spoken)?;
+    let own = formed(alloc, bank, room, now.memory, pieces, before, types, arguments.as_slice(), site.place)?;
     let mut seen = Items::new(alloc);
     see_all(bank, frame, room, now.memory, watched, &mut seen)?;
     let from = now.position;
-    let first = alone(alloc, now)?;
-    let own = behind(spoken.as_slice(), before);
-    let said = say_all(alloc, bank, log, pieces, own, first)?;
+    let truth = are_formed(bank, own.as_slice())?;
+    let parted = part_formed(alloc, bank, site.at, &now, truth)?;
+    let said = say_all(alloc, bank, log, pieces, own.as_slice(), parted.going)?;
     let going = end_prints(alloc, bank, site, from, seen.as_slice(), said.as_slice())?;
-    let ended = Items::new(alloc);
-    Ok(Walked { going, ended })
+    Ok(Walked { going, ended: parted.ended })
 }
 
 /// What a log call along a log makes of a state, in a function whose objects are known and whose places behind the base
-/// are so many: the states in which the log has the text that is printed, each at the position behind it. It fails
-/// where the format converts a text or a pointer, where an argument is missing, where a variable that is shown isn't a
-/// scalar or its object isn't known, where the state is behind the log's end, and for every other callee.
+/// are so many: the states in which the log has the text that is printed, each at the position behind it, and one that
+/// stops where a byte of a text is of no live object. It fails where a text's end isn't known, where a place isn't in the
+/// room, where an argument is missing, where a variable that is shown isn't a scalar or its object isn't known, where the
+/// state is behind the log's end, and for every other callee.
 pub fn log_call(
     alloc: Global,
     bank: &mut Bank,

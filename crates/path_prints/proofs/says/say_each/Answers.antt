@@ -1,6 +1,7 @@
 use Rattle.std.proofs.lemmas.List.{take_all}
-use Rattle.path_states.proofs.Growth.{state_grown, numbers_grown}
+use Rattle.path_states.proofs.Growth.{state_grown}
 use Rattle.path_states.proofs.Paths.{item_of, more_of}
+use Rattle.path_prints.proofs.ArgumentLemmas.{arguments_grown}
 use Rattle.path_prints.proofs.SayLemmas.{says_each_more, says_joined}
 use Rattle.path_prints.proofs.says.say_each.Goals as goal
 
@@ -10,7 +11,7 @@ say_on-requires-clause-state c =
     (item_of _ c.loop-state.state-index c.args.states.now c.state-item.result c.requires.states c.loop-state-test.true c.state-item.is)
 
 pub say_on-requires-clause-arguments : goal.say_on-requires-clause-arguments
-say_on-requires-clause-arguments c = numbers_grown (c.loop-state.invariant.goes 0).grows c.args.arguments.now c.requires.arguments
+say_on-requires-clause-arguments c = arguments_grown _ _ c.args.arguments.now (c.loop-state.invariant.goes 0).grows c.requires.arguments
 
 pub loop-state-preserved : goal.loop-state-preserved
 loop-state-preserved c =
