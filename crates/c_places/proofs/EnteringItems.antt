@@ -205,7 +205,8 @@ module _ (P : Mark → Type 0) (l : Level) (form : ByForm P) where
   means_enter : (at : ℕ) (e : Entry) (m : Means) (defined : Bool) (x : Initial) (s : Scope) → InitialEnters x →
       ItemEnters P l (declared_means at e m defined x s)
   means_enter at e (means.Object t duration.Automatic k) defined x s h = record { marks = h.marks }
-  means_enter at e (means.Object t duration.Static k) defined x s h = record { marks = h.marks }
+  means_enter at e (means.Object t duration.Static k) true x s h = record { marks = h.marks }
+  means_enter at e (means.Object t duration.Static k) false x s h = record { marks = λ a. All-nil P }
   means_enter at e (means.Function t k) defined x s h = record { marks = λ a. All-nil P }
   means_enter at e (means.Typedef t) defined x s h = nothing_enters s
   means_enter at e (means.Constant z) defined x s h = nothing_enters s
