@@ -101,7 +101,7 @@ class Program:
         elif kind == 6:
             self.put(f"{self.pick(self.names)[1]} {self.pick(['=', '+=', '^=', '-='])} {self.value(2)};")
         elif kind == 7:
-            then = self.pick(['return 3;', 'return 0;', 'printf("out\\n");'])
+            then = self.pick(['return 3;', 'return 0;', 'printf("out\\n");', f'exit({self.value(1)});'])
             self.put(f'if ({self.condition(1)}) {then}')
         elif height == 0:
             self.print()
@@ -140,6 +140,7 @@ class Program:
 
     def text(self):
         self.put('int printf(const char *, ...);')
+        self.put('void exit(int);')
         self.put('int ext(void);')
         self.put('unsigned char ask(void);')
         self.function('static int helper(int n)', 2)

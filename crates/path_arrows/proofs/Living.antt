@@ -175,7 +175,7 @@ as_sized d e same h =
     subst P (sym same) h
 
 with_memory : (b : List Shape) (s : State) (n : Node) → IsState b s → IsTerm b Memory n → IsState b (record s { memory = n; operands = [] })
-with_memory b s n is h = record { guard = is.guard; memory = h; value = is.value; events = is.events; operands = tt }
+with_memory b s n is h = record { guard = is.guard; kind = is.kind; memory = h; value = is.value; events = is.events; operands = tt }
 
 module _ (room : ℕ) (log : List ℕ) (xs : List Object) (fit : Fit room xs) where
   birth_sized : (e : Environment) (d : Done ℕ) → IsSized d.store → AllSized (bared (Some (born (along log) (made_at e.base xs) d)))

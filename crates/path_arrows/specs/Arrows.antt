@@ -1,10 +1,11 @@
 -- What arrows of the core make of runs between two steps of code: such a run has no operands.
 use Rattle.std.specs.Prelude.{◌≡◌, ℕ, ℤ, List, [], ◌∷◌, ◌++◌, Bool, true, false, Option, Some, None}
-use Rattle.c_means.specs.declared.kind.Kind.{Kind}
 use Rattle.c_means.specs.declared.kind.Kind.TheVariants as k
 use Rattle.core_tree.specs.States.{Done, Arrow, where_running, running, become}
 use Rattle.term_bank.specs.declared.shape.Shape.{Shape}
 use Rattle.term_bank.specs.Values.{Environment, Values, Grows}
+use Rattle.path_states.specs.declared.kinds.StateKind.{StateKind}
+use Rattle.path_states.specs.declared.kinds.StateKind.TheVariants.{Known, Exited}
 use Rattle.path_states.specs.declared.state.State.{State}
 use Rattle.path_states.specs.States.{Held, AreStates}
 use Rattle.path_states.specs.Ways.{Way, Goes}
@@ -24,8 +25,9 @@ by_arrow f e v h = bared (f e h.done)
 
 -- ---- runs that are running, and the others
 
-abbrev pub is_running : Kind → Bool
-is_running kind = where_running kind true false
+abbrev pub is_running : StateKind → Bool
+is_running (Known kind) = where_running kind true false
+is_running (Exited status) = false
 
 -- those that are running stay as they are
 abbrev pub while_running : Way

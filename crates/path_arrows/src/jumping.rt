@@ -9,7 +9,7 @@ ghost use Rattle.path_states.specs.Ways.{Goes, Steps};
 ghost use Rattle.path_arrows.specs.Arrows.{by_arrow, returning};
 
 use c_means::Kind;
-use path_states::{State, copy_kind};
+use path_states::{State, StateKind, copy_kind};
 use path_steps::pop;
 use plain_data::{Finish, Items};
 use std::alloc::{AllocError, Global};
@@ -38,7 +38,7 @@ pub fn jump(alloc: Global, kind: &Kind, states: &[State]) -> Result<Items<State>
     for state in states {
         let kind = copy_kind(kind)?;
         let mut next = state.copy(alloc)?;
-        next.kind = kind;
+        next.kind = StateKind::Known(kind);
         next.operands = Items::new(alloc);
         all.push(next)?;
     }
@@ -61,7 +61,7 @@ fn give_one(alloc: Global, bank: &mut Bank, state: &State) -> Result<State, Bank
 {
     let mut next = state.copy(alloc)?;
     let value = pop(bank, &mut next)?;
-    next.kind = Kind::Returning;
+    next.kind = StateKind::Known(Kind::Returning);
     next.value = Some(value);
     next.operands = Items::new(alloc);
     Ok(next)

@@ -7,11 +7,11 @@ ghost use Rattle.term_bank.specs.declared.shape.Shape.{Shape as ShapeType};
 ghost use Rattle.path_states.specs.States.{AreStates};
 ghost use Rattle.path_states.specs.Ways.{Goes};
 ghost use Rattle.path_arrows.specs.Arrows.{by_arrow};
-ghost use Rattle.path_arrows.specs.Points.{at_point};
+ghost use Rattle.path_arrows.specs.Points.{at_point, state_kind_at};
 
 use c_language::Name;
 use c_means::Kind;
-use path_states::State;
+use path_states::{State, StateKind};
 use plain_data::Items;
 use std::alloc::{AllocError, Global};
 
@@ -198,6 +198,19 @@ fn kind_at(point: &Point, kind: &Kind) -> Result<Kind, AllocError>
     }
 }
 
+/// What a state's kind is behind a point. It fails for want of memory alone.
+fn state_kind_behind(point: &Point, kind: &StateKind) -> Result<StateKind, AllocError>
+    ensures { IfOk result (λ k. k ≡ state_kind_at point.now kind.now) }
+{
+    match kind {
+        StateKind::Known(known) => {
+            let kind = kind_at(point, known)?;
+            Ok(StateKind::Known(kind))
+        }
+        StateKind::Exited(status) => Ok(StateKind::Exited(*status)),
+    }
+}
+
 /// The states behind a point, which have no operands. It fails for want of memory alone.
 pub fn arrive(alloc: Global, point: &Point, states: &[State]) -> Result<Items<State>, AllocError>
     ensures { IfOk result (λ ts. (room : ℕ) (a : List ShapeType) → AreStates a states.now
@@ -205,7 +218,7 @@ pub fn arrive(alloc: Global, point: &Point, states: &[State]) -> Result<Items<St
 {
     let mut all = Items::new(alloc);
     for state in states {
-        let kind = kind_at(point, &state.kind)?;
+        let kind = state_kind_behind(point, &state.kind)?;
         let mut next = state.copy(alloc)?;
         next.kind = kind;
         next.operands = Items::new(alloc);

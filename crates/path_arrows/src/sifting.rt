@@ -1,12 +1,13 @@
 //! Runs that are running, and those on their way.
-ghost use Rattle.std.specs.Prelude.{◌≡◌, ◌++◌, ℕ, List, IfOk, OnOk};
+ghost use Rattle.std.specs.Prelude.{◌≡◌, ◌++◌, ℕ, List, true, false, IfOk, OnOk};
+ghost use Rattle.core_tree.specs.States.{where_running};
 ghost use Rattle.term_bank.specs.declared.shape.Shape.{Shape as ShapeType};
 ghost use Rattle.path_states.specs.States.{AreStates};
 ghost use Rattle.path_states.specs.Ways.{Goes, stay};
 ghost use Rattle.path_arrows.specs.Arrows.{is_running as runs, sorted, Sifts};
 
 use c_means::Kind;
-use path_states::{State, join};
+use path_states::{State, StateKind, join};
 use plain_data::Items;
 use std::alloc::{AllocError, Global};
 use term_bank::{Bank, BankFault};
@@ -18,8 +19,8 @@ pub struct Sifted {
     pub others: Items<State>,
 }
 
-fn is_running(kind: &Kind) -> bool
-    ensures { result ≡ runs kind.now }
+fn runs_on(kind: &Kind) -> bool
+    ensures { result ≡ where_running kind.now true false }
 {
     match kind {
         Kind::Running => true,
@@ -30,6 +31,15 @@ fn is_running(kind: &Kind) -> bool
         Kind::Choosing { .. } => false,
         Kind::Defaulting => false,
         Kind::Ended(_) => false,
+    }
+}
+
+fn is_running(kind: &StateKind) -> bool
+    ensures { result ≡ runs kind.now }
+{
+    match kind {
+        StateKind::Known(known) => runs_on(known),
+        StateKind::Exited(_) => false,
     }
 }
 

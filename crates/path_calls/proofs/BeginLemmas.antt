@@ -57,6 +57,7 @@ noted_state a b s t at is h =
     let grown = state_grown h.happened.grows s is in
     subst (λ (u : State). IsState b u) (sym h.is) (record {
       guard = grown.guard;
+      kind = grown.kind;
       memory = grown.memory;
       value = grown.value;
       events = h.happened.term;

@@ -18,6 +18,7 @@ use Rattle.term_bank.specs.declared.shape.Shape.{Shape}
 use Rattle.term_bank.specs.Values.{Environment, Values, Models, Grows}
 use Rattle.term_bank.proofs.BankLemmas.{weaken, stays, grows_on}
 use Rattle.path_states.specs.declared.state.Number.{Number}
+use Rattle.path_states.specs.declared.kinds.StateKind.TheVariants.{Known, Exited}
 use Rattle.path_states.specs.declared.state.State.{State}
 use Rattle.path_states.specs.declared.state.Walked.{Walked}
 use Rattle.path_states.specs.States.{Held, IsState, IsRoomy, AreStates, run_in, done_in, standing, onto, number_in, numbers_in}
@@ -31,7 +32,6 @@ use Rattle.path_forms.specs.declared.frame.Placed.{Placed}
 use Rattle.path_forms.specs.Around.{Around, level_at, env_at}
 use Rattle.path_forms.specs.Calling.{taken, below, call_way}
 use Rattle.path_calls.specs.Begun.{Begins, begun, AnswersBy, CallsBy}
-use Rattle.path_calls.specs.Exits.{ExitsBy}
 use Rattle.path_calls.specs.Outside.{AsksAt}
 
 -- ---- one state that goes on, or ends
@@ -255,26 +255,30 @@ number_calls room a b c d s t site xs x w within h n j = record {
 }
 
 pub abort_calls : (a b : List Shape) (s t : State) (site : CallSite) (xs : List Number) (w : Walked) → Begins a b s t site xs
-    → w ≡ record { going = []; ended = record t { kind = k.Ended finish.Abort; operands = [] } ∷ [] }
+    → w ≡ record { going = []; ended = record t { kind = Known (k.Ended finish.Abort); operands = [] } ∷ [] }
     → (room : ℕ) → CallsBy room a b s callee.Abort site w
 abort_calls a b s t site xs w h is room = record {
   tries = λ y frame.
       rw is
-      (ended_by room a b b s t site xs (record t { kind = k.Ended finish.Abort; operands = [] } ∷ []) (call_way y frame callee.Abort site)
+      (ended_by room a b b s t site xs (record t { kind = Known (k.Ended finish.Abort); operands = [] } ∷ []) (call_way y frame callee.Abort site)
       (λ q. finish.Abort) (λ v. finish.Abort) h stays
-      (record { guard = h.state.guard; memory = h.state.memory; value = h.state.value; events = h.state.events; operands = tt }, tt)
+      (record { guard = h.state.guard; kind = tt; memory = h.state.memory; value = h.state.value; events = h.state.events; operands = tt }, tt)
       (λ e v m. refl) (λ e v m. refl) (abort_as y frame site));
 }
 
-pub exit_calls : (a b c d : List Shape) (s t : State) (site : CallSite) (xs : List Number) (x : Number) (es : List State) → Begins a b s t site xs
-    → Numbered b c x (λ v. value_or_zero (numbers_in v xs) 0) → ExitsBy c d t t.guard x [] es
-    → (room : ℕ) → CallsBy room a d s callee.Exit site (record { going = []; ended = es })
-exit_calls a b c d s t site xs x es h n j room = record {
-  tries = λ y frame.
-      ended_by room a b d s t site xs es (call_way y frame callee.Exit site) (λ q. finish.Exit (value_or_zero (taken site.count q.operands) 0))
-      (λ v. finish.Exit (number_in v x)) h (grows_on n.grows j.grows) j.states (λ e v m. j.stand e v m)
-      (λ e v m.
-      let mc = weaken j.grows m in
-      ap (λ z. finish.Exit z) (n.is e v mc ∙ ap (λ l. value_or_zero l 0) (h.arguments e v (weaken n.grows mc))))
-      (exit_as y frame site);
-}
+pub exit_calls : (a b c : List Shape) (s t : State) (site : CallSite) (xs : List Number) (x : Number) (w : Walked) → Begins a b s t site xs
+    → Numbered b c x (λ v. value_or_zero (numbers_in v xs) 0)
+    → w ≡ record { going = []; ended = record t { kind = Exited x; operands = [] } ∷ [] }
+    → (room : ℕ) → CallsBy room a c s callee.Exit site w
+exit_calls a b c s t site xs x w h n is room =
+    let now = state_grown n.grows t h.state in
+    record {
+      tries = λ y frame.
+          rw is
+          (ended_by room a b c s t site xs (record t { kind = Exited x; operands = [] } ∷ []) (call_way y frame callee.Exit site)
+          (λ q. finish.Exit (value_or_zero (taken site.count q.operands) 0)) (λ v. finish.Exit (number_in v x)) h n.grows
+          (record { guard = now.guard; kind = n.number; memory = now.memory; value = now.value; events = now.events; operands = tt }, tt)
+          (λ e v m. refl)
+          (λ e v m. ap (λ z. finish.Exit z) (n.is e v m ∙ ap (λ l. value_or_zero l 0) (h.arguments e v (weaken n.grows m))))
+          (exit_as y frame site));
+    }

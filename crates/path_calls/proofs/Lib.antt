@@ -1,6 +1,5 @@
 pub mod BeginLemmas
 pub mod CallTrials
-pub mod ExitLemmas
 pub mod OutsideLemmas
 pub mod PlaceLemmas
 pub mod ReplyLemmas

@@ -138,7 +138,7 @@ store_sized most (answer.Pointer never_null x) w q s small h = by (nat_eq w 0 &&
 -- ---- states
 
 pub with_memory : (b : List Shape) (s : State) (n : Node) → IsState b s → IsTerm b Memory n → IsState b (record s { memory = n })
-with_memory b s n is h = record { guard = is.guard; memory = h; value = is.value; events = is.events; operands = is.operands }
+with_memory b s n is h = record { guard = is.guard; kind = is.kind; memory = h; value = is.value; events = is.events; operands = is.operands }
 
 pub store_begun : (site : CallSite) (h k : Held) → k ≡ begun site h → k.done.store ≡ h.done.store
 store_begun site h k is = ap (λ (q : Held). q.done.store) is

@@ -1,6 +1,5 @@
 pub mod Begun
 pub mod Outside
-pub mod Exits
 pub mod Places
 pub mod Replies
 pub mod Fills

@@ -1,16 +1,14 @@
 //! Arguments and answers of calls, and the ends of runs.
 ghost use Rattle.std.specs.Prelude.{◌≡◌, ◌∷◌, [], IfOk};
-ghost use Rattle.c_means.specs.declared.kind.Kind.TheVariants as k;
 ghost use Rattle.core_tree.specs.Callees.{value_or_zero};
 ghost use Rattle.term_bank.specs.Banks.{IsBank};
 ghost use Rattle.path_states.specs.States.{IsNumber, AreNumbers, numbers_in};
 ghost use Rattle.path_numbers.specs.Answers.{Numbered};
 ghost use Rattle.path_calls.specs.Begun.{AnswersBy};
 
-use c_means::Kind;
 use core_tree::ValueType;
 use path_numbers::{constant, converted};
-use path_states::{Number, State, Walked, settled};
+use path_states::{Number, State, StateKind, Walked, settled};
 use plain_data::{Finish, Items};
 use std::alloc::{AllocError, Global};
 use term_bank::{Bank, BankFault};
@@ -58,16 +56,16 @@ pub fn answer(
     Ok(walked)
 }
 
-/// The run ends.
-pub(crate) fn finish(alloc: Global, finish: Finish, state: State) -> Result<Walked, AllocError>
+/// The run ends as the kind says.
+pub(crate) fn end(alloc: Global, kind: StateKind, state: State) -> Result<Walked, AllocError>
     ensures { IfOk result (λ w. w ≡ record {
       going = [];
-      ended = record state { kind = k.Ended finish; operands = [] } ∷ [];
+      ended = record state { kind = kind; operands = [] } ∷ [];
     }) }
 {
     let mut walked = settled(alloc);
     let mut state = state;
-    state.kind = Kind::Ended(finish);
+    state.kind = kind;
     state.operands = Items::new(alloc);
     walked.ended.push(state)?;
     Ok(walked)

@@ -5,14 +5,14 @@ ghost use Rattle.path_states.specs.States.{IsState};
 ghost use Rattle.path_calls.specs.Begun.{CallsBy};
 ghost use Rattle.path_calls.specs.Places.{CallsWithin};
 
-use crate::answering::{answer, argument, finish};
+use crate::answering::{answer, argument, end};
 use crate::beginning::begin;
-use crate::exiting::{MOST_CHOICES, put_exits};
 use crate::heap::{calloc, free, malloc};
 use crate::outside_calls::outside;
+use c_means::Kind;
 use core_tree::Callee;
 use path_forms::{CallSite, WalkFault};
-use path_states::{State, Walked, settled};
+use path_states::{State, StateKind, Walked};
 use plain_data::{Bounds, Finish};
 use std::alloc::Global;
 use term_bank::{Bank, BankFault};
@@ -51,33 +51,25 @@ pub fn abort(
     let mut now = state.copy(alloc)?;
     let arguments = begin(alloc, bank, site, &mut now)?;
     let _ = arguments;
-    let walked = finish(alloc, Finish::Abort, now)?;
+    let walked = end(alloc, StateKind::Known(Kind::Ended(Finish::Abort)), now)?;
     Ok(walked)
 }
 
-/// The run ends by `exit` with its first argument as the status (C99 7.20.4.3). It fails where the status isn't known.
+/// The run ends by `exit` with its first argument as the status (C99 7.20.4.3), which may be any number of the world. It
+/// fails for want of memory alone.
 pub fn exit(
     alloc: Global,
     bank: &mut Bank,
     site: CallSite,
     state: &State,
-) -> Result<Walked, WalkFault>
+) -> Result<Walked, BankFault>
     requires { IsState bank.old state.now }
     ensures { IfOk result (λ w. (room : ℕ) → CallsBy room bank.old bank.new state.now c.Exit site w) }
 {
     let mut now = state.copy(alloc)?;
     let arguments = begin(alloc, bank, site, &mut now)?;
     let status = argument(bank, &arguments, 0)?;
-    let mut walked = settled(alloc);
-    put_exits(
-        alloc,
-        bank,
-        &now,
-        now.guard,
-        status,
-        MOST_CHOICES,
-        &mut walked.ended,
-    )?;
+    let walked = end(alloc, StateKind::Exited(status), now)?;
     Ok(walked)
 }
 

@@ -5,7 +5,6 @@
 mod answering;
 mod beginning;
 mod callees;
-mod exiting;
 mod fills;
 mod heap;
 mod outside_calls;

@@ -121,6 +121,7 @@ module _ (a b : List Shape) (s t : State) (guard : Node) (kind : Kind) (at : ℕ
       let now = state_grown h.happened.grows s is in
       subst (λ (u : State). IsState b u) (sym h.is) (record {
         guard = term_grown a b _ guard h.happened.grows g;
+        kind = tt;
         memory = now.memory;
         value = now.value;
         events = h.happened.term;
@@ -138,7 +139,7 @@ pub guarded_state : (a b : List Shape) (s : State) (n : Node) → Grows a b → 
     → IsState b (record s { guard = n })
 guarded_state a b s n g is h =
     let now = state_grown g s is in
-    record { guard = h; memory = now.memory; value = now.value; events = now.events; operands = now.operands }
+    record { guard = h; kind = now.kind; memory = now.memory; value = now.value; events = now.events; operands = now.operands }
 
 one_more : (v : Values) (before : List State) (t : State) (h : Held) → run_in v t ≡ h
     → standing v (before ++ t ∷ []) ≡ standing v before ++ cond (v t.guard.index).truth (h ∷ []) []

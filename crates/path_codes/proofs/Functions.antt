@@ -25,6 +25,7 @@ use Rattle.term_bank.specs.Values.{Environment, Worth, Values}
 use Rattle.term_bank.proofs.BankLemmas.{weaken, stays, grows_on}
 use Rattle.term_bank.proofs.TermLemmas.{term_grown}
 use Rattle.path_states.specs.declared.state.Number.{Number}
+use Rattle.path_states.specs.declared.kinds.StateKind.TheVariants.{Known}
 use Rattle.path_states.specs.declared.state.State.{State}
 use Rattle.path_states.specs.States.{Held, IsState, AreStates, AreNumbers, run_in, done_in, number_in, numbers_in}
 use Rattle.path_states.specs.Ways.{Way, Steps, Goes, ◌>>=◌, stay}
@@ -79,7 +80,7 @@ module _ (room : ℕ) (a : List Shape) (x : Number) where
   pub holds_one : (s : State) → IsState a s → AreNumbers a (x ∷ []) → Steps room a a s (record s { operands = x ∷ [] } ∷ []) (holding x)
   holds_one s is are = record {
     grows = stays;
-    states = (record { guard = is.guard; memory = is.memory; value = is.value; events = is.events; operands = are }, tt);
+    states = (record { guard = is.guard; kind = is.kind; memory = is.memory; value = is.value; events = is.events; operands = are }, tt);
     stands = λ e v m r i. refl;
     sized = λ e v m r h i. i;
   }
@@ -128,7 +129,7 @@ passes_more room p ps x xs offset next a b c ss set ts one i j =
 abbrev pub entry : Node → Node → Node → ℕ → State
 entry guard events memory position = record {
   guard = guard;
-  kind = k.Running;
+  kind = Known k.Running;
   value = None;
   position = position;
   memory = memory;
@@ -219,6 +220,7 @@ pub entry_state : (a b c : List Shape) (guard events memory : Node) (position : 
 entry_state a b c guard events memory position is h j = (
   record {
     guard = term_grown b c _ guard j.grows h.node;
+    kind = tt;
     memory = term_grown a c _ memory (grows_on h.grows j.grows) is;
     value = tt;
     events = j.node;

@@ -215,7 +215,7 @@ lays_one a b c d s u y from memory size f h i l =
     record {
       steps = λ room. record {
         grows = grows_on h.grows bd;
-        states = (record { guard = is.guard; memory = l.term; value = is.value; events = is.events; operands = tt }, tt);
+        states = (record { guard = is.guard; kind = is.kind; memory = l.term; value = is.value; events = is.events; operands = tt }, tt);
         stands = λ e v m r sized.
             let above = word W64 (top (onto v [] s.operands)) in
             ap (λ q. cond (v u.guard.index).truth (bare (with_store q (done_in v u)) ∷ []) [])

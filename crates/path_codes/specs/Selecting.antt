@@ -14,6 +14,7 @@ use Rattle.term_bank.specs.declared.shape.Shape.{Shape}
 use Rattle.term_bank.specs.Terms.{IsTerm}
 use Rattle.term_bank.specs.Values.{Environment, Values, Models, Grows}
 use Rattle.path_states.specs.declared.state.Number.{Number}
+use Rattle.path_states.specs.declared.kinds.StateKind.TheVariants.{Known}
 use Rattle.path_states.specs.declared.state.State.{State}
 use Rattle.path_states.specs.States.{IsNumber, IsState, AreStates, number_in, done_in, standing}
 use Rattle.path_states.specs.Ways.{Steps, Goes, Happened}
@@ -29,7 +30,7 @@ pub record Tells (a b : List Shape) (n : Node) (t : WordType) (x : Number) (z : 
 
 -- the state where this guard is true, on its way to a case, with a side of the `switch` noted
 pub record IsOnItsWay (a b : List Shape) (s : State) (guard : Node) (kind : Kind) (at : ℕ) (side : Side) (t : State) : Type 0 where
-  pub is : t ≡ record s { guard = guard; kind = kind; events = t.events; operands = [] }
+  pub is : t ≡ record s { guard = guard; kind = Known kind; events = t.events; operands = [] }
   pub happened : Happened a b s.events t.events (record { what = happening.Branch at side; printed = s.position })
 
 -- a run looks for the case of a number, and that is noted; along a log, its position is how many bytes were printed

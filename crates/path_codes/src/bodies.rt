@@ -17,7 +17,7 @@ use core_tree::{Function, Parameter, ValueType};
 use path_arrows::{Object, Point, arrive, bear, bury, pass};
 use path_forms::{Calls, Placed, WalkFault};
 use path_rooms::{check_fit, sum, with_objects};
-use path_states::{Number, State, alone, join};
+use path_states::{Number, State, StateKind, alone, join};
 use plain_data::{Items, Width};
 use std::alloc::{AllocError, Global};
 use term_bank::{Bank, Node};
@@ -200,7 +200,7 @@ pub fn walk_body<C: Calls>(
     let events = bank.no_events()?;
     let entry = State {
         guard,
-        kind: Kind::Running,
+        kind: StateKind::Known(Kind::Running),
         value: None,
         position,
         memory,

@@ -12,7 +12,7 @@ use c_means::Kind;
 use core_tree::{Arithmetic, WordType};
 use path_forms::WalkFault;
 use path_numbers::{constant, truth, worked, wrapped};
-use path_states::{Number, State, halve};
+use path_states::{Number, State, StateKind, halve};
 use path_steps::pop;
 use plain_data::{Items, Side, Width};
 use std::alloc::Global;
@@ -84,7 +84,7 @@ fn chosen(
 {
     let mut next = state.copy(alloc)?;
     next.guard = guard;
-    next.kind = kind;
+    next.kind = StateKind::Known(kind);
     next.operands = Items::new(alloc);
     let events = bank.branch_event(state.events, state.position as u64, at, side)?;
     next.events = events;

@@ -11,7 +11,7 @@ use crate::frame::Placed;
 use c_means::Kind;
 use core_tree::Callee;
 use mem_terms::initial;
-use path_states::{State, Walked, join, settled};
+use path_states::{State, StateKind, Walked, join, settled};
 use plain_data::Items;
 use std::alloc::Global;
 use std::mem::replace;
@@ -26,7 +26,7 @@ fn nobody(alloc: Global, bank: &mut Bank) -> Result<State, BankFault>
     let events = bank.no_events()?;
     Ok(State {
         guard,
-        kind: Kind::Running,
+        kind: StateKind::Known(Kind::Running),
         value: None,
         position: 0,
         memory,

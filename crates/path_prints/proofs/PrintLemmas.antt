@@ -87,6 +87,7 @@ printed_state : (b : List Shape) (s : State) (events : Node) (last : Number) →
     → AreNumbers b (last ∷ []) → IsState b (record s { events = events; operands = s.operands ++ last ∷ [] })
 printed_state b s events last is h k = record {
   guard = is.guard;
+  kind = is.kind;
   memory = is.memory;
   value = is.value;
   events = h;

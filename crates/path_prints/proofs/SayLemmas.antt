@@ -96,7 +96,7 @@ puts_split a b c s w xs met guard before after is are h i same =
     record {
       grows = g;
       states = rw same (states_joined c before (t ∷ []) (states_grown g before are)
-          (record { guard = i.node; memory = grown.memory; value = grown.value; events = grown.events; operands = grown.operands }, tt));
+          (record { guard = i.node; kind = grown.kind; memory = grown.memory; value = grown.value; events = grown.events; operands = grown.operands }, tt));
       stand = λ e v m.
           ap (standing v) same ∙ standing_joined v before (t ∷ [])
           ∙ ap (λ l. standing v before ++ l)

@@ -19,10 +19,10 @@ use Rattle.term_bank.proofs.BankLemmas.{weaken, stays, grows_on}
 use Rattle.term_bank.proofs.TermLemmas.{term_grown}
 use Rattle.path_states.specs.declared.state.Number.{Number}
 use Rattle.path_states.specs.declared.state.State.{State}
-use Rattle.path_states.specs.States.{Held, IsNumber, AreNumbers, number_in, maybe_number, onto, run_in}
+use Rattle.path_states.specs.States.{Held, IsNumber, AreNumbers, IsStateKind, number_in, maybe_number, onto, kind_in, run_in}
 use Rattle.path_states.specs.Ways.{Halves}
 use Rattle.path_states.specs.Merges.{AlikeNumbers, Alike, ChosenOne, ChosenMaybe, ChosenAll, Merges}
-use Rattle.path_states.proofs.Growth.{numbers_grown, maybe_grown, numbers_joined, onto_pushed}
+use Rattle.path_states.proofs.Growth.{numbers_grown, maybe_grown, kind_grown, numbers_joined, onto_pushed}
 
 -- ---- numbers
 
@@ -164,7 +164,7 @@ run_chosen false s t value store events operands k o hv hs he ho = rw (hv, hs, h
 
 pub merged : (a b c d f k : List Shape) (s t : State) (guard : Node) (value : Option Number) (memory : Node)
     (operands : List Number) (events : Node) → Alike s t
-    → Grows a b → IsTerm b Truth guard → IsWorth b (Connect connective.Or s.guard.index t.guard.index) guard
+    → IsStateKind a s.kind → Grows a b → IsTerm b Truth guard → IsWorth b (Connect connective.Or s.guard.index t.guard.index) guard
     → ChosenMaybe b c s.guard s.value t.value value
     → Grows c d → IsTerm d Memory memory → IsWorth d (Choose Memory s.guard.index s.memory.index t.memory.index) memory
     → ChosenAll d f s.guard s.operands t.operands operands
@@ -178,13 +178,14 @@ pub merged : (a b c d f k : List Shape) (s t : State) (guard : Node) (value : Op
       events = events;
       operands = operands;
     })
-merged a b c d f k s t guard value memory operands events alike gb tg ig hv gd tm im ho ge te ie =
+merged a b c d f k s t guard value memory operands events alike kind gb tg ig hv gd tm im ho ge te ie =
     let gk = grows_on hv.grows (grows_on gd (grows_on ho.grows ge)) in
     let dk = grows_on ho.grows ge in
     record {
       grows = grows_on gb gk;
       state = record {
         guard = term_grown b k _ guard gk tg;
+        kind = kind_grown (grows_on gb gk) s.kind kind;
         memory = term_grown d k _ memory dk tm;
         value = maybe_grown (grows_on gd dk) value hv.number;
         events = te;
@@ -193,7 +194,7 @@ merged a b c d f k s t guard value memory operands events alike gb tg ig hv gd t
       guard = λ e v m. ap (λ (w : Worth). w.truth) (ig.is e v (weaken gk m));
       is = λ e v m.
           run_chosen (v s.guard.index).truth (run_in v s) (run_in v t) (maybe_number v value) (v memory.index).store (v events.index).events
-          (onto v [] operands) alike.kind alike.position
+          (onto v [] operands) (ap (kind_in v) alike.kind) alike.position
           (hv.is e v (weaken (grows_on gd dk) m))
           (store_chosen (v s.guard.index).truth (v s.memory.index) (v t.memory.index) (v memory.index) (im.is e v (weaken dk m)))
           (events_chosen (v s.guard.index).truth (v s.events.index) (v t.events.index) (v events.index) (ie.is e v m))

@@ -3,9 +3,11 @@ use Rattle.std.proofs.Common.{◌≡◌, ℤ, List, [], ◌∷◌, ◌++◌, tru
 use Rattle.term_bank.specs.declared.shape.Shape.{Shape}
 use Rattle.term_bank.specs.Values.{Values, Grows}
 use Rattle.term_bank.proofs.TermLemmas.{term_grown}
+use Rattle.path_states.specs.declared.kinds.StateKind.{StateKind}
+use Rattle.path_states.specs.declared.kinds.StateKind.TheVariants.{Known, Exited}
 use Rattle.path_states.specs.declared.state.Number.{Number}
 use Rattle.path_states.specs.declared.state.State.{State}
-use Rattle.path_states.specs.States.{IsNumber, AreNumbers, IsMaybeNumber, IsState, AreStates, number_in, onto, run_in, standing}
+use Rattle.path_states.specs.States.{IsNumber, AreNumbers, IsMaybeNumber, IsStateKind, IsState, AreStates, number_in, onto, run_in, standing}
 
 module _ {a b : List Shape} (g : Grows a b) where
   pub number_grown : (x : Number) → IsNumber a x → IsNumber b x
@@ -19,9 +21,14 @@ module _ {a b : List Shape} (g : Grows a b) where
   maybe_grown None h = tt
   maybe_grown (Some x) h = number_grown x h
 
+  pub kind_grown : (k : StateKind) → IsStateKind a k → IsStateKind b k
+  kind_grown (Known k) h = tt
+  kind_grown (Exited x) h = number_grown x h
+
   pub state_grown : (s : State) → IsState a s → IsState b s
   state_grown s h = record {
     guard = term_grown a b _ s.guard g h.guard;
+    kind = kind_grown s.kind h.kind;
     memory = term_grown a b _ s.memory g h.memory;
     value = maybe_grown s.value h.value;
     events = term_grown a b _ s.events g h.events;

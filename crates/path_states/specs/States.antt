@@ -1,7 +1,10 @@
 -- What states made of terms say of runs along a log.
 use Rattle.std.specs.Prelude.{◌≡◌, ◌+◌, ◌≤◌, ◌<◌, ◌^◌, ℕ, ℤ, List, [], ◌∷◌, cond, Option, Some, None}
+use Rattle.plain_data.specs.declared.run.Finish.TheVariants as finish
 use Rattle.c_store.specs.declared.object.Object.{Object}
 use Rattle.c_store.specs.Store.{Store}
+use Rattle.c_means.specs.declared.kind.Kind.{Kind}
+use Rattle.c_means.specs.declared.kind.Kind.TheVariants as kind
 use Rattle.core_tree.specs.Numbers.{value_of_word}
 use Rattle.core_tree.specs.States.{Done}
 use Rattle.term_bank.specs.declared.sort.Sort.TheVariants.{Truth, Word, Memory, Events}
@@ -9,6 +12,8 @@ use Rattle.term_bank.specs.declared.sort.Node.{Node}
 use Rattle.term_bank.specs.declared.shape.Shape.{Shape}
 use Rattle.term_bank.specs.Terms.{IsTerm}
 use Rattle.term_bank.specs.Values.{Environment, Values}
+use Rattle.path_states.specs.declared.kinds.StateKind.{StateKind}
+use Rattle.path_states.specs.declared.kinds.StateKind.TheVariants.{Known, Exited}
 use Rattle.path_states.specs.declared.state.Number.{Number}
 use Rattle.path_states.specs.declared.state.State.{State}
 
@@ -38,9 +43,13 @@ pub record Held : Type 0 where
   pub operands : List ℤ
   pub done : Done ℕ
 
+abbrev pub kind_in : Values → StateKind → Kind
+kind_in v (Known k) = k
+kind_in v (Exited status) = kind.Ended (finish.Exit (number_in v status))
+
 abbrev pub done_in : Values → State → Done ℕ
 done_in v s = record {
-  kind = s.kind;
+  kind = kind_in v s.kind;
   value = maybe_number v s.value;
   store = (v s.memory.index).store;
   events = (v s.events.index).events;
@@ -69,9 +78,14 @@ abbrev pub IsMaybeNumber : List Shape → Option Number → Type 0
 IsMaybeNumber b None = Unit {0}
 IsMaybeNumber b (Some x) = IsNumber b x
 
+abbrev pub IsStateKind : List Shape → StateKind → Type 0
+IsStateKind b (Known k) = Unit {0}
+IsStateKind b (Exited status) = IsNumber b status
+
 -- the state's nodes stand in the bank, each under its sort
 pub record IsState (b : List Shape) (s : State) : Type 0 where
   pub guard : IsTerm b Truth s.guard
+  pub kind : IsStateKind b s.kind
   pub memory : IsTerm b Memory s.memory
   pub value : IsMaybeNumber b s.value
   pub events : IsTerm b Events s.events

@@ -6,7 +6,7 @@ ghost use Rattle.path_states.specs.Ways.{Goes, stay};
 ghost use Rattle.path_states.specs.Merges.{AlikeNumbers, AlikeMaybe, Alike, ChosenOne, ChosenMaybe, ChosenAll, Merges};
 ghost use Rattle.path_states.specs.declared.state.State.{State as StateType};
 
-use crate::kinds::{copy_kind, is_same_kind};
+use crate::kinds::{copy_state_kind, is_same_kind};
 use crate::state::{Number, State};
 use core_tree::WordType;
 use plain_data::Items;
@@ -85,7 +85,7 @@ fn merge(alloc: Global, bank: &mut Bank, first: &State, second: &State) -> Resul
     ensures { IfOk result (λ m. Merges bank.old bank.new first.now second.now m) }
 {
     let condition = first.guard;
-    let kind = copy_kind(&first.kind)?;
+    let kind = copy_state_kind(&first.kind)?;
     let guard = bank.connect(Connective::Or, condition, second.guard)?;
     let value = chosen_maybe(bank, condition, first.value, second.value)?;
     let memory = bank.choose(Sort::Memory, condition, first.memory, second.memory)?;

@@ -8,5 +8,5 @@ mod state;
 
 pub use guards::{Sides, halve};
 pub use joining::join;
-pub use kinds::copy_kind;
+pub use kinds::{StateKind, copy_kind, copy_state_kind};
 pub use state::{Number, State, Walked, alone, settled};

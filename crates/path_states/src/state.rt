@@ -1,7 +1,6 @@
 ghost use Rattle.std.specs.Prelude.{◌≡◌, ◌∷◌, [], IfOk};
 
-use crate::kinds::copy_kind;
-use c_means::Kind;
+use crate::kinds::{StateKind, copy_state_kind};
 use core_tree::WordType;
 use plain_data::Items;
 use std::alloc::{AllocError, Global};
@@ -19,7 +18,7 @@ pub struct Number {
 #[derive(Drop)]
 pub struct State {
     pub guard: Node,
-    pub kind: Kind,
+    pub kind: StateKind,
     pub value: Option<Number>,
     pub position: usize,
     pub memory: Node,
@@ -39,7 +38,7 @@ impl State {
     pub fn copy(&self, alloc: Global) -> Result<State, AllocError>
         ensures { IfOk result (λ s. s ≡ self.now) }
     {
-        let kind = copy_kind(&self.kind)?;
+        let kind = copy_state_kind(&self.kind)?;
         let operands = Items::from_slice(alloc, self.operands.as_slice())?;
         Ok(State {
             guard: self.guard,

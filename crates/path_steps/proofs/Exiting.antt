@@ -12,6 +12,7 @@ use Rattle.term_bank.specs.Terms.{IsTerm}
 use Rattle.term_bank.specs.Values.{Values, Grows}
 use Rattle.term_bank.proofs.BankLemmas.{weaken, stays, grows_on}
 use Rattle.term_bank.proofs.TermLemmas.{term_grown}
+use Rattle.path_states.specs.declared.kinds.StateKind.TheVariants.{Known}
 use Rattle.path_states.specs.declared.state.State.{State}
 use Rattle.path_states.specs.States.{Held, IsState, AreStates, run_in, done_in, standing, onto, number_in}
 use Rattle.path_states.specs.Ways.{to_list, going, ending, Halves}
@@ -37,15 +38,15 @@ leaves_none a s g ts h are = record {
 
 pub leaves_some : (a b : List Shape) (s : State) (g one two : Node) (x : Exit) (ts : List State) → IsState a s → AreStates a ts
     → Halves a b g x.truth one two
-    → Leaves a b s g two (Some x) ts (ts ++ record s { guard = one; kind = k.Ended x.finish; operands = [] } ∷ [])
+    → Leaves a b s g two (Some x) ts (ts ++ record s { guard = one; kind = Known (k.Ended x.finish); operands = [] } ∷ [])
 leaves_some a b s g one two x ts is are h =
-    let t : State = record s { guard = one; kind = k.Ended x.finish; operands = [] } in
+    let t : State = record s { guard = one; kind = Known (k.Ended x.finish); operands = [] } in
     let grown = state_grown h.grows s is in
     record {
       grows = h.grows;
       guard = h.no_term;
       states = states_joined b ts (t ∷ []) (states_grown h.grows ts are)
-          (record { guard = h.yes_term; memory = grown.memory; value = grown.value; events = grown.events; operands = tt }, tt);
+          (record { guard = h.yes_term; kind = tt; memory = grown.memory; value = grown.value; events = grown.events; operands = tt }, tt);
       guard_is = λ e v m. h.no_is e v m;
       ended = λ e v m.
           standing_joined v ts (t ∷ [])
@@ -125,7 +126,7 @@ settles a b c s next x y w g es fs is h i =
     let grown = state_grown (grows_on h.grows i.grows) next is in
     record {
       grows = grows_on h.grows i.grows;
-      going_states = (record { guard = i.guard; memory = grown.memory; value = grown.value; events = grown.events; operands = grown.operands }, tt);
+      going_states = (record { guard = i.guard; kind = grown.kind; memory = grown.memory; value = grown.value; events = grown.events; operands = grown.operands }, tt);
       ended_states = i.states;
       going_is = λ e v m. goes_by v s next s.guard x y w (h.guard_is e v (weaken i.grows m)) (v g.index).truth (i.guard_is e v m);
       ended_is = λ e v m.

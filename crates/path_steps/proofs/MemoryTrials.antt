@@ -134,6 +134,7 @@ pub with_memory : (b : List Shape) (s : State) (x : Number) (m : Node) → IsSta
     → IsState b (record s { operands = s.operands ++ x ∷ []; memory = m })
 with_memory b s x m is h k = record {
   guard = is.guard;
+  kind = is.kind;
   memory = k;
   value = is.value;
   events = is.events;

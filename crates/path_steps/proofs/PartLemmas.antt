@@ -27,7 +27,7 @@ use Rattle.path_steps.proofs.Trials.{done_same}
 module _ (a b : List Shape) (s t : State) (guard : Node) (at : ℕ) (k : Side) (h : IsSided a b s guard at k t) where
   sided_state : IsState b s → IsTerm b sort.Truth guard → IsState b t
   sided_state is g = subst (λ (u : State). IsState b u) (sym h.is)
-      (record { guard = g; memory = is.memory; value = is.value; events = h.happened.term; operands = is.operands })
+      (record { guard = g; kind = is.kind; memory = is.memory; value = is.value; events = h.happened.term; operands = is.operands })
 
   sided_guard : (v : Values) → (v t.guard.index).truth ≡ (v guard.index).truth
   sided_guard v = ap (λ (u : State). (v u.guard.index).truth) h.is

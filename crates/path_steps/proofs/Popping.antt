@@ -19,7 +19,7 @@ popped b s xs x is e =
     let k = numbers_front b xs x (rw e at is.operands) in
     record {
       grows = stays;
-      state = record { guard = is.guard; memory = is.memory; value = is.value; events = is.events; operands = k.0 };
+      state = record { guard = is.guard; kind = is.kind; memory = is.memory; value = is.value; events = is.events; operands = k.0 };
       number = k.1;
       same = refl;
       is = λ env v m. sym (ap top (ap (onto v []) e ∙ onto_pushed v [] xs x));
@@ -32,7 +32,7 @@ popped_none a b s xs x is e f h =
     let grown = state_grown h.grows s is in
     record {
       grows = h.grows;
-      state = record { guard = grown.guard; memory = grown.memory; value = grown.value; events = grown.events; operands = rw f tt };
+      state = record { guard = grown.guard; kind = grown.kind; memory = grown.memory; value = grown.value; events = grown.events; operands = rw f tt };
       number = h.number;
       same = refl;
       is = λ env v m. h.is env v m ∙ sym (ap top (ap (onto v []) e));

@@ -40,6 +40,7 @@ pub with_operand : (b : List Shape) (s : State) (xs : List Number) (x : Number) 
     → IsState b (record s { operands = xs ++ x ∷ [] })
 with_operand b s xs x is h = record {
   guard = is.guard;
+  kind = is.kind;
   memory = is.memory;
   value = is.value;
   events = is.events;

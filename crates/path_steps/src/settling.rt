@@ -6,7 +6,7 @@ ghost use Rattle.path_steps.specs.Exits.{IsMaybeExit, Leaves, Settles, exit_at};
 
 use c_means::Kind;
 use path_numbers::Fault;
-use path_states::{State, Walked, alone, halve};
+use path_states::{State, StateKind, Walked, alone, halve};
 use plain_data::{Finish, Items};
 use std::alloc::Global;
 use term_bank::{Bank, BankFault, Node};
@@ -52,7 +52,7 @@ fn leave(
     let sides = halve(bank, guard, exit.truth)?;
     let mut left = state.copy(alloc)?;
     left.guard = sides.yes;
-    left.kind = Kind::Ended(exit.finish);
+    left.kind = StateKind::Known(Kind::Ended(exit.finish));
     left.operands = Items::new(alloc);
     ended.push(left)?;
     Ok(sides.no)

@@ -18,6 +18,7 @@ use Rattle.term_bank.specs.declared.shape.Shape.{Shape}
 use Rattle.term_bank.specs.Values.{Environment, Values}
 use Rattle.term_bank.proofs.BankLemmas.{stays}
 use Rattle.path_states.specs.declared.state.Number.{Number}
+use Rattle.path_states.specs.declared.kinds.StateKind.TheVariants.{Known}
 use Rattle.path_states.specs.declared.state.State.{State}
 use Rattle.path_states.specs.declared.state.Walked.{Walked}
 use Rattle.path_states.specs.States.{Held, IsState, IsRoomy, IsSized, AllSized, run_in}
@@ -201,10 +202,10 @@ left_is site zs h =
     ap (λ (l : List Event). Some (Err (record (left_run site h) { events = l }))) (append-nil (begun site h).done.events)
 
 abbrev pub left_state : State → CallSite → State
-left_state u site = record u { kind = k.Ended (finish.Left site.at); operands = [] }
+left_state u site = record u { kind = Known (k.Ended (finish.Left site.at)); operands = [] }
 
 left_state_is : (b : List Shape) (u : State) (site : CallSite) → IsState b u → IsState b (left_state u site)
-left_state_is b u site is = record { guard = is.guard; memory = is.memory; value = is.value; events = is.events; operands = tt }
+left_state_is b u site is = record { guard = is.guard; kind = tt; memory = is.memory; value = is.value; events = is.events; operands = tt }
 
 pub beyond_tries : (a b : List Shape) (s u : State) (site : CallSite) (xs : List Number) (x : Around) (frame : List Placed) (room f : ℕ)
     → Begins a b s u site xs → ((e : Environment) → x.calls e ≡ None)

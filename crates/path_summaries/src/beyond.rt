@@ -11,7 +11,7 @@ ghost use Rattle.path_forms.specs.Calling.{call_way};
 use c_means::Kind;
 use path_calls::begin;
 use path_forms::{CallSite, WalkFault};
-use path_states::{State, Walked, alone, settled};
+use path_states::{State, StateKind, Walked, alone, settled};
 use plain_data::{Finish, Items};
 use std::alloc::Global;
 use term_bank::Bank;
@@ -31,7 +31,7 @@ pub(crate) fn beyond(
     let mut now = state.copy(alloc)?;
     let arguments = begin(alloc, bank, site, &mut now)?;
     let _ = arguments;
-    now.kind = Kind::Ended(Finish::Left { at: site.at });
+    now.kind = StateKind::Known(Kind::Ended(Finish::Left { at: site.at }));
     now.operands = Items::new(alloc);
     let ended = alone(alloc, now)?;
     Ok(Walked {

@@ -135,26 +135,43 @@ returned_same fact.Exited x y = (λ h. h, λ h. h)
 returned_same fact.Aborted x y = (λ h. absurd (cc), λ h. absurd (cc))
 returned_same (fact.StopOf kind) x y = (λ h. h, λ h. h)
 
+exited_same : (f : Fact) (x y : _) → EndsSo f (finish.Exit x) ↔ EndsSo f (finish.Exit y)
+exited_same (fact.Branch at side) x y = (λ h. h, λ h. h)
+exited_same (fact.BranchIn at side line) x y = (λ h. h, λ h. h)
+exited_same (fact.Call at) x y = (λ h. h, λ h. h)
+exited_same (fact.CallIn at line) x y = (λ h. h, λ h. h)
+exited_same (fact.Print at line) x y = (λ h. h, λ h. h)
+exited_same (fact.StopAt kind at) x y = (λ h. absurd (cc), λ h. absurd (cc))
+exited_same fact.Returned x y = (λ h. h, λ h. h)
+exited_same fact.Exited x y = (λ h. h, λ h. h)
+exited_same fact.Aborted x y = (λ h. absurd (cc), λ h. absurd (cc))
+exited_same (fact.StopOf kind) x y = (λ h. h, λ h. h)
+
 moved : (P : Finish → Type 0) (f g : Finish) → f ≡ g → P f ↔ P g
 moved P f g e = (λ h. subst P e h, λ h. subst P (sym e) h)
 
--- what doesn't ask for the value that `main` returns is so of both
-same_ends : (P : Finish → Type 0) → ((x y : _) → P (finish.Return x) ↔ P (finish.Return y)) → (f g : Finish) → SameEnd f g → P f ↔ P g
-same_ends P h (finish.Return x) (finish.Return y) e = h x y
-same_ends P h (finish.Return x) (finish.Exit y) e = moved P (finish.Return x) (finish.Exit y) e
-same_ends P h (finish.Return x) finish.Abort e = moved P (finish.Return x) finish.Abort e
-same_ends P h (finish.Return x) (finish.Stopped kind at) e = moved P (finish.Return x) (finish.Stopped kind at) e
-same_ends P h (finish.Return x) (finish.Left at) e = moved P (finish.Return x) (finish.Left at) e
-same_ends P h (finish.Exit x) g e = moved P (finish.Exit x) g e
-same_ends P h finish.Abort g e = moved P finish.Abort g e
-same_ends P h (finish.Stopped kind at) g e = moved P (finish.Stopped kind at) g e
-same_ends P h (finish.Left at) g e = moved P (finish.Left at) g e
+-- what doesn't ask for the value that `main` returns, nor for the status of `exit`, is so of both
+same_ends : (P : Finish → Type 0) → ((x y : _) → P (finish.Return x) ↔ P (finish.Return y)) → ((x y : _) → P (finish.Exit x) ↔ P (finish.Exit y))
+    → (f g : Finish) → SameEnd f g → P f ↔ P g
+same_ends P h i (finish.Return x) (finish.Return y) e = h x y
+same_ends P h i (finish.Return x) (finish.Exit y) e = moved P (finish.Return x) (finish.Exit y) e
+same_ends P h i (finish.Return x) finish.Abort e = moved P (finish.Return x) finish.Abort e
+same_ends P h i (finish.Return x) (finish.Stopped kind at) e = moved P (finish.Return x) (finish.Stopped kind at) e
+same_ends P h i (finish.Return x) (finish.Left at) e = moved P (finish.Return x) (finish.Left at) e
+same_ends P h i (finish.Exit x) (finish.Return y) e = moved P (finish.Exit x) (finish.Return y) e
+same_ends P h i (finish.Exit x) (finish.Exit y) e = i x y
+same_ends P h i (finish.Exit x) finish.Abort e = moved P (finish.Exit x) finish.Abort e
+same_ends P h i (finish.Exit x) (finish.Stopped kind at) e = moved P (finish.Exit x) (finish.Stopped kind at) e
+same_ends P h i (finish.Exit x) (finish.Left at) e = moved P (finish.Exit x) (finish.Left at) e
+same_ends P h i finish.Abort g e = moved P finish.Abort g e
+same_ends P h i (finish.Stopped kind at) g e = moved P (finish.Stopped kind at) g e
+same_ends P h i (finish.Left at) g e = moved P (finish.Left at) g e
 
 pub ends_alike : (a : Fact) (f g : Finish) → SameEnd f g → EndsSo a f ↔ EndsSo a g
-ends_alike a f g e = same_ends (EndsSo a) (returned_same a) f g e
+ends_alike a f g e = same_ends (EndsSo a) (returned_same a) (exited_same a) f g e
 
 pub stays_alike : (f g : Finish) → SameEnd f g → StaysIn f ↔ StaysIn g
-stays_alike f g e = same_ends StaysIn (λ x y. (λ h. h, λ h. h)) f g e
+stays_alike f g e = same_ends StaysIn (λ x y. (λ h. h, λ h. h)) (λ x y. (λ h. h, λ h. h)) f g e
 
 -- ---- both ways, one behind the other
 

@@ -1,3 +1,5 @@
+pub mod ArgumentLaws
+pub mod ArgumentTerms
 pub mod Started
 pub mod Readied
 pub mod Entered

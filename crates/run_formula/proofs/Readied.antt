@@ -25,6 +25,7 @@ use Rattle.term_bank.specs.Bindings.{bound, IsBinding}
 use Rattle.term_bank.specs.Values.{Environment, Values, Models, Worth}
 use Rattle.term_bank.proofs.BankLemmas.{weaken, grows_on}
 use Rattle.term_bank.proofs.TermLemmas.{node_of, term_grown}
+use Rattle.path_states.specs.declared.kinds.StateKind.TheVariants.{Known}
 use Rattle.path_states.specs.declared.state.State.{State}
 use Rattle.path_states.specs.States.{Held, IsSized, IsRoomy, AllSized, standing}
 use Rattle.path_states.specs.Ways.{Goes, to_list}
@@ -88,7 +89,7 @@ sets_more x room a b c ss ts us xs s h i = record {
 
 pub begun_one : (log : List ℕ) (a b c d : List Shape) (guard memory events : Node) (s : State) → s ≡ record {
   guard = guard;
-  kind = k.Running;
+  kind = Known k.Running;
   value = None;
   position = 0;
   memory = memory;
@@ -103,6 +104,7 @@ begun_one log a b c d guard memory events s is hg hm he =
       states = (
         record {
           guard = term_grown b d _ guard bd hg.node;
+          kind = tt;
           memory = term_grown c d _ memory he.grows hm.node;
           value = tt;
           events = he.node;

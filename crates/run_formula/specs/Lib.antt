@@ -1,3 +1,4 @@
+pub mod Arguments
 pub mod Watched
 pub mod Sighted
 pub mod Starts

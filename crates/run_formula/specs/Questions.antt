@@ -52,9 +52,10 @@ EndsSo fact.Aborted f = f ≡ finish.Abort
 EndsSo (fact.StopOf kind) f = StopsBy kind f
 EndsSo _ f = ⊥
 
--- two ends that are the same, but for the value that `main` returns
+-- two ends that are the same, but for the value that `main` returns or the status of `exit`
 abbrev pub SameEnd : Finish → Finish → Type 0
 SameEnd (finish.Return x) (finish.Return y) = Unit {0}
+SameEnd (finish.Exit x) (finish.Exit y) = Unit {0}
 SameEnd f g = f ≡ g
 
 -- ---- runs

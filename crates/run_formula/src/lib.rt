@@ -2,6 +2,7 @@
 //! bounds, and on which each fact holds.
 #![tactic(auto)]
 
+mod arguments;
 mod asking;
 mod banks;
 mod entering;

@@ -2,9 +2,12 @@
 ghost use Rattle.std.specs.Prelude.{◌≡◌, ◌↔◌, ℤ, Option, true};
 ghost use Rattle.log_text.specs.Shown.{StaysIn};
 ghost use Rattle.c_means.specs.Runs.{finish_of as end_of};
+ghost use Rattle.term_bank.specs.Values.{Values as ValuesType};
+ghost use Rattle.path_states.specs.States.{kind_in};
 ghost use Rattle.run_formula.specs.Questions.{EndsSo, SameEnd};
 
 use c_means::Kind;
+use path_states::StateKind;
 use plain_data::{Fact, Finish};
 use run_facts::{aborts, exits, returns, stops_at, stops_by};
 
@@ -19,13 +22,23 @@ pub enum Question {
     Holds(Fact),
 }
 
-/// The end of a run of this kind; a run that has not ended returns from `main`, with whatever value.
-pub(crate) fn finish_of(kind: &Kind) -> Finish
+fn known_finish(kind: &Kind) -> Finish
     ensures { (value : Option ℤ) → SameEnd result (end_of kind.now value) }
 {
     match kind {
         Kind::Ended(finish) => *finish,
         _ => Finish::Return(0),
+    }
+}
+
+/// The end of a run of this kind; a run that has not ended returns from `main`, with whatever value, and `exit` is with
+/// whatever status.
+pub(crate) fn finish_of(kind: &StateKind) -> Finish
+    ensures { (v : ValuesType) (value : Option ℤ) → SameEnd result (end_of (kind_in v kind.now) value) }
+{
+    match kind {
+        StateKind::Known(known) => known_finish(known),
+        StateKind::Exited(_) => Finish::Exit(0),
     }
 }
 

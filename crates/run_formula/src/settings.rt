@@ -12,7 +12,7 @@ use core_tree::{Callee, Core, LastingSetting};
 use path_arrows::pass;
 use path_codes::Steps;
 use path_forms::{CallSite, Calls, Placed, WalkFault};
-use path_states::{State, Walked, alone};
+use path_states::{State, StateKind, Walked, alone};
 use plain_data::{Bounds, Items, Width};
 use std::alloc::Global;
 use summary_compose::put_in;
@@ -107,7 +107,7 @@ fn begin(alloc: Global, bank: &mut Bank) -> Result<Items<State>, BankFault>
     let events = bank.no_events()?;
     let first = State {
         guard,
-        kind: Kind::Running,
+        kind: StateKind::Known(Kind::Running),
         value: None,
         position: 0,
         memory,

@@ -1,12 +1,13 @@
 //! The memory in which a run begins (C99 5.1.2, 6.2.4p3): what lives throughout it was made.
 ghost use Rattle.std.specs.Prelude.{◌≡◌, ◌<◌, ◌^◌, IfOk};
-ghost use Rattle.c_store.specs.Store.{start};
+ghost use Rattle.c_store.specs.Store.{make, start};
 ghost use Rattle.core_tree.specs.Programs.{filled_with};
 ghost use Rattle.term_bank.specs.Terms.{IsTerm};
 ghost use Rattle.term_bank.specs.declared.sort.Sort.TheVariants.{Memory};
 ghost use Rattle.run_formula.specs.Starts.{Becomes, Begins, made_in, made_all};
 
 use crate::texts::{lay_text, zero_object};
+use c_store::ObjectKind;
 use core_tree::{Contents, LastingObject};
 use mem_terms::{initial, made};
 use path_forms::WalkFault;
@@ -32,6 +33,24 @@ fn fill(
     }
 }
 
+/// The memory in which an object of so many bytes was made at a place. It fails for want of memory alone.
+pub(crate) fn make_at(
+    bank: &mut Bank,
+    memory: Node,
+    kind: ObjectKind,
+    place: u64,
+    size: u32,
+) -> Result<Node, BankFault>
+    requires { IsTerm bank.old Memory memory }
+    ensures { IfOk result (λ n. Becomes bank.old bank.new memory n
+        (make place (record { kind = kind; size = size }))) }
+{
+    let number = bank.word(place, Width::W64)?;
+    let bytes = bank.word(size as u64, Width::W64)?;
+    let node = made(bank, memory, kind, number, bytes)?;
+    Ok(node)
+}
+
 /// The memory in which an object that lives throughout the run was made. It fails for want of memory, and where the
 /// object's place has no number below 2^32.
 fn make_object(bank: &mut Bank, memory: Node, object: &LastingObject) -> Result<Node, WalkFault>
@@ -41,9 +60,7 @@ fn make_object(bank: &mut Bank, memory: Node, object: &LastingObject) -> Result<
     if object.place >= 0x1_0000_0000 {
         return Err(WalkFault::Unplaced);
     }
-    let number = bank.word(object.place, Width::W64)?;
-    let size = bank.word(object.size as u64, Width::W64)?;
-    let made = made(bank, memory, object.kind, number, size)?;
+    let made = make_at(bank, memory, object.kind, object.place, object.size)?;
     let node = fill(bank, made, object.place, object.size, &object.contents)?;
     Ok(node)
 }

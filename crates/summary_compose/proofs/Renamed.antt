@@ -2,6 +2,8 @@
 use Rattle.std.proofs.Common.{◌≡◌, ℤ, List, [], ◌∷◌, ◌++◌, Option, Some, None, refl, sym, ap, ◌∙◌}
 use Rattle.std.specs.Prelude.{map}
 use Rattle.std.specs.Option.{option_map}
+use Rattle.plain_data.specs.declared.run.Finish.TheVariants as finish
+use Rattle.c_means.specs.declared.kind.Kind.TheVariants as kind
 use Rattle.term_bank.specs.declared.binding.Binding.{Binding}
 use Rattle.term_bank.specs.declared.shape.Shape.{Shape}
 use Rattle.term_bank.specs.declared.sort.Sort.{Sort}
@@ -10,10 +12,12 @@ use Rattle.term_bank.specs.Bindings.{HasImage, bound}
 use Rattle.term_bank.specs.Terms.{IsTerm}
 use Rattle.term_bank.specs.Values.{Environment, Values, Models}
 use Rattle.term_bank.proofs.TermLemmas.{term_of}
+use Rattle.path_states.specs.declared.kinds.StateKind.{StateKind}
+use Rattle.path_states.specs.declared.kinds.StateKind.TheVariants.{Known, Exited}
 use Rattle.path_states.specs.declared.state.Number.{Number}
 use Rattle.path_states.specs.declared.state.State.{State}
-use Rattle.path_states.specs.States.{AreNumbers, IsMaybeNumber, IsState, AreStates, number_in, maybe_number, onto, run_in, standing}
-use Rattle.summary_compose.specs.Renaming.{each_of, number_node, maybe_node, state_nodes, other_number, other_state, Pictures}
+use Rattle.path_states.specs.States.{AreNumbers, IsMaybeNumber, IsStateKind, IsState, AreStates, number_in, maybe_number, kind_in, onto, run_in, standing}
+use Rattle.summary_compose.specs.Renaming.{each_of, number_node, maybe_node, kind_node, state_nodes, other_number, other_kind, other_state, Pictures}
 use Rattle.summary_compose.proofs.Lists.{all_front, all_back}
 
 module _ (old new : List Shape) (put : Binding) (f : Node → Node) where
@@ -41,13 +45,19 @@ module _ (old new : List Shape) (put : Binding) (f : Node → Node) where
     same_maybe None h = refl
     same_maybe (Some x) h = ap (λ z. Some z) (same_number x h.0)
 
+    same_kind : (k : StateKind) → Has (kind_node k) → kind_in v (other_kind f k) ≡ kind_in w k
+    same_kind (Known known) h = refl
+    same_kind (Exited status) h = ap (λ z. kind.Ended (finish.Exit z)) (same_number status h.0)
+
     pub same_run : (s : State) → Has (state_nodes s) → run_in v (other_state f s) ≡ run_in w s
     same_run s h =
         let value : List Node = maybe_node s.value in
         let operands : List Node = each_of number_node s.operands in
+        let behind = all_back P (kind_node s.kind) (value ++ operands) h.1.1.1 in
         rw (
-          same_onto [] s.operands (all_back P value operands h.1.1.1),
-          same_maybe s.value (all_front P value operands h.1.1.1),
+          same_onto [] s.operands (all_back P value operands behind),
+          same_maybe s.value (all_front P value operands behind),
+          same_kind s.kind (all_front P (kind_node s.kind) (value ++ operands) h.1.1.1),
           same_node s.events h.1.1.0,
           same_node s.memory h.1.0,
         ) refl
@@ -77,16 +87,22 @@ module _ (old new : List Shape) (put : Binding) (f : Node → Node) where
   is_maybe None h k = tt
   is_maybe (Some x) h k = record { term = other_term _ x.node h.term k.0 }
 
+  is_kind : (k : StateKind) → IsStateKind old k → Has (kind_node k) → IsStateKind new (other_kind f k)
+  is_kind (Known known) h k = tt
+  is_kind (Exited status) h k = record { term = other_term _ status.node h.term k.0 }
+
   is_state : (s : State) → IsState old s → Has (state_nodes s) → IsState new (other_state f s)
   is_state s h k =
       let value : List Node = maybe_node s.value in
       let operands : List Node = each_of number_node s.operands in
+      let behind = all_back P (kind_node s.kind) (value ++ operands) k.1.1.1 in
       record {
         guard = other_term _ s.guard h.guard k.0;
+        kind = is_kind s.kind h.kind (all_front P (kind_node s.kind) (value ++ operands) k.1.1.1);
         memory = other_term _ s.memory h.memory k.1.0;
-        value = is_maybe s.value h.value (all_front P value operands k.1.1.1);
+        value = is_maybe s.value h.value (all_front P value operands behind);
         events = other_term _ s.events h.events k.1.1.0;
-        operands = are_numbers s.operands h.operands (all_back P value operands k.1.1.1);
+        operands = are_numbers s.operands h.operands (all_back P value operands behind);
       }
 
   pub are_states : (ss : List State) → AreStates old ss → Has (each_of state_nodes ss) → AreStates new (map (other_state f) ss)

@@ -6,7 +6,6 @@ use Rattle.plain_data.specs.declared.run.Finish.{Finish}
 use Rattle.plain_data.specs.declared.run.Finish.TheVariants as finish
 use Rattle.plain_data.specs.declared.run.Happening.TheVariants as happening
 use Rattle.plain_data.specs.declared.run.Undefined.TheVariants.{MissingValue}
-use Rattle.c_means.specs.declared.kind.Kind.{Kind}
 use Rattle.c_means.specs.declared.kind.Kind.TheVariants as k
 use Rattle.core_tree.specs.declared.types.ValueType.{ValueType}
 use Rattle.core_tree.specs.declared.types.ValueType.TheVariants as vt
@@ -20,17 +19,19 @@ use Rattle.term_bank.specs.Terms.{Makes}
 use Rattle.term_bank.specs.Values.{Environment, Worth, Values, Models, Grows}
 use Rattle.term_bank.proofs.BankLemmas.{weaken, stays, grows_on}
 use Rattle.term_bank.proofs.TermLemmas.{term_grown}
+use Rattle.path_states.specs.declared.kinds.StateKind.{StateKind}
+use Rattle.path_states.specs.declared.kinds.StateKind.TheVariants.{Known, Exited}
 use Rattle.path_states.specs.declared.state.Number.{Number}
 use Rattle.path_states.specs.declared.state.State.{State}
 use Rattle.path_states.specs.declared.state.Walked.{Walked}
-use Rattle.path_states.specs.States.{Held, IsNumber, IsMaybeNumber, IsState}
-use Rattle.path_states.specs.States.{number_in, maybe_number, onto, done_in, run_in, standing}
+use Rattle.path_states.specs.States.{Held, IsNumber, IsMaybeNumber, IsStateKind, IsState}
+use Rattle.path_states.specs.States.{number_in, maybe_number, onto, kind_in, done_in, run_in, standing}
 use Rattle.path_states.specs.Ways.{going, ending, to_list}
-use Rattle.path_states.proofs.Growth.{state_grown, states_grown, states_joined, standing_joined, numbers_joined, onto_pushed}
+use Rattle.path_states.proofs.Growth.{kind_grown, state_grown, states_grown, states_joined, standing_joined, numbers_joined, onto_pushed}
 use Rattle.path_numbers.specs.Answers.{Numbered}
 use Rattle.path_steps.specs.Operands.{pushed}
 use Rattle.path_forms.specs.declared.calling.CallSite.{CallSite}
-use Rattle.summary_compose.specs.Composing.{answered, goes_on, ends_there, Continues, Gives, GoesOn, Resumes, must_give, gives_any, needed_by}
+use Rattle.summary_compose.specs.Composing.{answered, goes_on, ends_there, Continues, Ends, Gives, GoesOn, Resumes, must_give, gives_any, needed_by}
 use Rattle.summary_compose.specs.Renaming.{each_of}
 use Rattle.summary_compose.proofs.Lists.{each_joined}
 
@@ -53,6 +54,7 @@ continued a b c d site caller end guard called events h k mg mc me =
       grows = ad;
       state = record {
         guard = term_grown b d _ guard bd mg.node;
+        kind = one.kind;
         memory = other.memory;
         value = one.value;
         events = me.node;
@@ -75,6 +77,7 @@ nothing_so false = refl
 with_number : (b : List Shape) (s : State) (x : Number) → IsState b s → IsNumber b x → IsState b (record s { operands = s.operands ++ x ∷ [] })
 with_number b s x is h = record {
   guard = is.guard;
+  kind = is.kind;
   memory = is.memory;
   value = is.value;
   events = is.events;
@@ -121,11 +124,11 @@ pub gives_zero : (a b : List Shape) (site : CallSite) (z : Option Number) (x : N
 gives_zero a b site z x s w is h needed at same =
     rw (same, at) (gives_value a b site None s x is h.grows h.number (λ e v m. zero_found v site x s needed (h.is e v m)))
 
-abbrev pub ended_by : Kind → State → State
+abbrev pub ended_by : StateKind → State → State
 ended_by kind s = record s { kind = kind; operands = [] }
 
-ended_state : (b : List Shape) (kind : Kind) (s : State) → IsState b s → IsState b (ended_by kind s)
-ended_state b kind s is = record { guard = is.guard; memory = is.memory; value = is.value; events = is.events; operands = tt }
+ended_state : (b : List Shape) (kind : StateKind) (s : State) → IsStateKind b kind → IsState b s → IsState b (ended_by kind s)
+ended_state b kind s h is = record { guard = is.guard; kind = h; memory = is.memory; value = is.value; events = is.events; operands = tt }
 
 missing_needed : (used : Bool) (at : ℕ) (t : ValueType) (zs : List ℤ) (d : Done ℕ) → gives_any t && used ≡ true
     → pushed zs (needed used at t None d) ≡ Some (Err (record d { kind = k.Ended (finish.Stopped MissingValue at) }))
@@ -142,14 +145,14 @@ missing_needed true at (vt.Block bytes) zs d h = refl
 
 -- without one that is needed
 gives_none : (a : List Shape) (site : CallSite) (s : State) → IsState a s → must_give site ≡ true
-    → Gives a a site None s (record { going = []; ended = ended_by (k.Ended (finish.Stopped MissingValue site.at)) s ∷ [] })
+    → Gives a a site None s (record { going = []; ended = ended_by (Known (k.Ended (finish.Stopped MissingValue site.at))) s ∷ [] })
 gives_none a site s is h =
     let means : (v : Values) → needed_by site None (run_in v s) ≡ Some (Err (record (done_in v s) { kind = k.Ended (finish.Stopped MissingValue site.at) })) =
     λ v. missing_needed site.is_used site.at site.answer (onto v [] s.operands) (done_in v s) h in
     record {
       grows = stays;
       going_states = tt;
-      ended_states = (ended_state a (k.Ended (finish.Stopped MissingValue site.at)) s is, tt);
+      ended_states = (ended_state a (Known (k.Ended (finish.Stopped MissingValue site.at))) s tt is, tt);
       going = λ e v m. nothing_so (v s.guard.index).truth ∙ ap (λ o. cond (v s.guard.index).truth (to_list (going o)) []) (sym (means v));
       ended = λ e v m. ap (λ o. cond (v s.guard.index).truth (to_list (ending o)) []) (sym (means v));
     }
@@ -157,7 +160,7 @@ gives_none a site s is h =
 -- ---- one end
 
 pub gives_missing : (a : List Shape) (site : CallSite) (z : Option Number) (s : State) (w : Walked) → IsState a s → must_give site ≡ true
-    → z ≡ None → w ≡ record { going = []; ended = ended_by (k.Ended (finish.Stopped MissingValue site.at)) s ∷ [] } → Gives a a site z s w
+    → z ≡ None → w ≡ record { going = []; ended = ended_by (Known (k.Ended (finish.Stopped MissingValue site.at))) s ∷ [] } → Gives a a site z s w
 gives_missing a site z s w is h at same = rw (same, at) (gives_none a site s is h)
 
 both_guards : {A : Type 0} (g h : Bool) (xs : List A) (q : Bool) → q ≡ cond g h false → cond q xs [] ≡ cond g (cond h xs [] ++ []) []
@@ -175,25 +178,25 @@ by_both : (f : Held → List Held) (g h q : Bool) (r : Held) (xs ys : List Held)
 by_both f g h q r xs ys is at same =
     at ∙ ap (λ l. cond q l []) same ∙ both_guards g h (f r) q is ∙ ap (λ l. cond g l []) (sym (each_one f h r))
 
-pub resumes_ended : (a b : List Shape) (site : CallSite) (caller end t : State) (f : Finish) → end.kind ≡ k.Ended f
+pub resumes_ended : (a b : List Shape) (site : CallSite) (caller end t : State) → IsStateKind a end.kind → Ends end.kind
     → Continues a b site caller end t
-    → Resumes a b site caller (end ∷ []) (record { going = []; ended = ended_by (k.Ended f) t ∷ [] })
-resumes_ended a b site caller end t f is h =
+    → Resumes a b site caller (end ∷ []) (record { going = []; ended = ended_by end.kind t ∷ [] })
+resumes_ended a b site caller end t stands is h =
     let ends : (e : Environment) (v : Values) → Models b e v → answered site (run_in v caller) (run_in v end)
-    ≡ Some (Err (record (done_in v t) { kind = k.Ended f })) =
-    λ e v m. ap (λ q. pushed (onto v [] caller.operands) (returned_in (along []) (note (along []) (happening.Call site.at) (done_in v caller)) (done_in v end) q
-    >>= (λ w. needed site.is_used site.at site.answer w.0 w.1))) is
-    ∙ ap (λ (d : Done ℕ). Some (Err (record d { kind = k.Ended f }))) (sym (h.is e v m)) in
+    ≡ Some (Err (record (done_in v t) { kind = kind_in v end.kind })) =
+    λ e v m. ap (λ o. pushed (onto v [] caller.operands) (o >>= (λ w. needed site.is_used site.at site.answer w.0 w.1)))
+    (is.over v (note (along []) (happening.Call site.at) (done_in v caller)) (done_in v end))
+    ∙ ap (λ (d : Done ℕ). Some (Err (record d { kind = kind_in v end.kind }))) (sym (h.is e v m)) in
     record {
       grows = h.grows;
       going_states = tt;
-      ended_states = (ended_state b (k.Ended f) t h.state, tt);
+      ended_states = (ended_state b end.kind t (kind_grown h.grows end.kind stands) h.state, tt);
       going = λ e v m.
           by_both (goes_on site (run_in v caller)) (v caller.guard.index).truth (v end.guard.index).truth (v t.guard.index).truth (run_in v end) [] []
           (h.guard e v m) (nothing_so (v t.guard.index).truth) (ap (λ o. to_list (going o)) (sym (ends e v m)));
       ended = λ e v m.
           by_both (ends_there site (run_in v caller)) (v caller.guard.index).truth (v end.guard.index).truth (v t.guard.index).truth (run_in v end)
-          (standing v (ended_by (k.Ended f) t ∷ [])) (run_in v (ended_by (k.Ended f) t) ∷ [])
+          (standing v (ended_by end.kind t ∷ [])) (run_in v (ended_by end.kind t) ∷ [])
           (h.guard e v m) refl (ap (λ o. to_list (ending o)) (sym (ends e v m)));
     }
 
@@ -203,7 +206,7 @@ resumes_given a b c site caller end t w on h g =
     let is : (e : Environment) (v : Values) → Models c e v → answered site (run_in v caller) (run_in v end)
     ≡ needed_by site (maybe_number v end.value) (run_in v t) =
     λ e v m. ap (λ o. pushed (onto v [] caller.operands) (o >>= (λ w. needed site.is_used site.at site.answer w.0 w.1)))
-    (on.on (note (along []) (happening.Call site.at) (done_in v caller)) (done_in v end))
+    (on.on v (note (along []) (happening.Call site.at) (done_in v caller)) (done_in v end))
     ∙ ap (λ (d : Done ℕ). pushed (onto v [] caller.operands) (needed site.is_used site.at site.answer (maybe_number v end.value) d))
     (sym (h.is e v (weaken g.grows m)))
     ∙ ap (λ l. pushed (onto v [] l) (needed site.is_used site.at site.answer (maybe_number v end.value) (done_in v t))) (sym h.operands) in

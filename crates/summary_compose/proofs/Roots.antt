@@ -10,10 +10,12 @@ use Rattle.term_bank.specs.Bindings.{HasImage}
 use Rattle.term_bank.specs.Images.{Images, AreImages, Puts, image_at}
 use Rattle.term_bank.specs.Shapes.{Each, IsNode}
 use Rattle.term_bank.proofs.TermLemmas.{node_of}
+use Rattle.path_states.specs.declared.kinds.StateKind.{StateKind}
+use Rattle.path_states.specs.declared.kinds.StateKind.TheVariants.{Known, Exited}
 use Rattle.path_states.specs.declared.state.Number.{Number}
 use Rattle.path_states.specs.declared.state.State.{State}
-use Rattle.path_states.specs.States.{AreNumbers, IsMaybeNumber, IsState, AreStates}
-use Rattle.summary_compose.specs.Renaming.{each_of, number_node, maybe_node, state_nodes, Pictures}
+use Rattle.path_states.specs.States.{AreNumbers, IsMaybeNumber, IsStateKind, IsState, AreStates}
+use Rattle.summary_compose.specs.Renaming.{each_of, number_node, maybe_node, kind_node, state_nodes, Pictures}
 
 -- ---- the nodes stand in the bank
 
@@ -29,6 +31,10 @@ maybe_roots : (b : List Shape) (x : Option Number) → IsMaybeNumber b x → Eac
 maybe_roots b None h = tt
 maybe_roots b (Some x) h = (node_of b _ x.node h.term, tt)
 
+kind_roots : (b : List Shape) (k : StateKind) → IsStateKind b k → Each (IsNode b) (kind_node k)
+kind_roots b (Known kind) h = tt
+kind_roots b (Exited status) h = (node_of b _ status.node h.term, tt)
+
 state_roots : (b : List Shape) (s : State) → IsState b s → Each (IsNode b) (state_nodes s)
 state_roots b s h = (
   node_of b _ s.guard h.guard,
@@ -36,8 +42,9 @@ state_roots b s h = (
     node_of b _ s.memory h.memory,
     (
       node_of b _ s.events h.events,
-      all_joined (IsNode b) (maybe_node s.value) (each_of number_node s.operands) (maybe_roots b s.value h.value)
-          (number_roots b s.operands h.operands),
+      all_joined (IsNode b) (kind_node s.kind) (maybe_node s.value ++ each_of number_node s.operands) (kind_roots b s.kind h.kind)
+          (all_joined (IsNode b) (maybe_node s.value) (each_of number_node s.operands) (maybe_roots b s.value h.value)
+          (number_roots b s.operands h.operands)),
     ),
   ),
 )

@@ -1,7 +1,6 @@
 -- The caller's states behind a call, by the ends of the callee.
-use Rattle.std.specs.Prelude.{◌≡◌, ℕ, ℤ, List, [], ◌∷◌, ◌++◌, length, cond, Bool, true, false, ◌&&◌, Option, Result}
+use Rattle.std.specs.Prelude.{◌≡◌, ℕ, ℤ, List, [], ◌∷◌, ◌++◌, length, cond, Bool, true, false, ◌&&◌, Option, Some, Result, Err}
 use Rattle.plain_data.specs.declared.run.Happening.TheVariants as happening
-use Rattle.c_means.specs.declared.kind.Kind.{Kind}
 use Rattle.core_tree.specs.declared.types.ValueType.{ValueType}
 use Rattle.core_tree.specs.declared.types.ValueType.TheVariants as vt
 use Rattle.core_tree.specs.Numbers.{converted_to}
@@ -13,10 +12,11 @@ use Rattle.term_bank.specs.Bindings.{bound}
 use Rattle.term_bank.specs.declared.sort.Node.{Node}
 use Rattle.term_bank.specs.Shapes.{Each, IsNode}
 use Rattle.term_bank.specs.Values.{Environment, Values, Models, Grows}
+use Rattle.path_states.specs.declared.kinds.StateKind.{StateKind}
 use Rattle.path_states.specs.declared.state.Number.{Number}
 use Rattle.path_states.specs.declared.state.State.{State}
 use Rattle.path_states.specs.declared.state.Walked.{Walked}
-use Rattle.path_states.specs.States.{Held, IsState, AreNumbers, AreStates, number_in, numbers_in, maybe_number, onto, done_in, run_in, standing}
+use Rattle.path_states.specs.States.{Held, IsState, AreNumbers, AreStates, number_in, numbers_in, maybe_number, kind_in, onto, done_in, run_in, standing}
 use Rattle.path_states.specs.Ways.{going, ending, to_list}
 use Rattle.path_steps.specs.Operands.{pushed}
 use Rattle.path_forms.specs.declared.calling.CallSite.{CallSite}
@@ -99,8 +99,13 @@ pub record Continues (a b : List Shape) (site : CallSite) (caller end t : State)
       ≡ resumed (along []) (note (along []) (happening.Call site.at) (done_in v caller)) (done_in v end)
 
 -- a kind that ends no run
-pub record GoesOn (kind : Kind) : Type 0 where
-  pub on : (d r : Done ℕ) → returned_in (along []) d r kind ≡ found r.value (resumed (along []) d r)
+pub record GoesOn (kind : StateKind) : Type 0 where
+  pub on : (v : Values) (d r : Done ℕ) → returned_in (along []) d r (kind_in v kind) ≡ found r.value (resumed (along []) d r)
+
+-- a kind that ends the run, for the caller as well
+pub record Ends (kind : StateKind) : Type 0 where
+  pub over : (v : Values) (d r : Done ℕ)
+      → returned_in (along []) d r (kind_in v kind) ≡ Some (Err (record (resumed (along []) d r) { kind = kind_in v kind }))
 
 -- a value must be there (C99 6.9.1p12)
 abbrev pub must_give : CallSite → Bool

@@ -6,6 +6,8 @@ use Rattle.term_bank.specs.declared.shape.Shape.{Shape}
 use Rattle.term_bank.specs.declared.sort.Node.{Node}
 use Rattle.term_bank.specs.Bindings.{HasImage}
 use Rattle.term_bank.specs.Shapes.{Each}
+use Rattle.path_states.specs.declared.kinds.StateKind.{StateKind}
+use Rattle.path_states.specs.declared.kinds.StateKind.TheVariants.{Known, Exited}
 use Rattle.path_states.specs.declared.state.Number.{Number}
 use Rattle.path_states.specs.declared.state.State.{State}
 
@@ -23,18 +25,27 @@ abbrev pub maybe_node : Option Number → List Node
 maybe_node None = []
 maybe_node (Some x) = x.node ∷ []
 
+abbrev pub kind_node : StateKind → List Node
+kind_node (Known kind) = []
+kind_node (Exited status) = status.node ∷ []
+
 abbrev pub state_nodes : State → List Node
 state_nodes s =
-    s.guard ∷ (s.memory ∷ (s.events ∷ (maybe_node s.value ++ each_of number_node s.operands)))
+    s.guard ∷ (s.memory ∷ (s.events ∷ (kind_node s.kind ++ (maybe_node s.value ++ each_of number_node s.operands))))
 
 -- ---- states over other nodes
 
 abbrev pub other_number : (Node → Node) → Number → Number
 other_number f x = record x { node = f x.node }
 
+abbrev pub other_kind : (Node → Node) → StateKind → StateKind
+other_kind f (Known kind) = Known kind
+other_kind f (Exited status) = Exited (other_number f status)
+
 abbrev pub other_state : (Node → Node) → State → State
 other_state f s = record s {
   guard = f s.guard;
+  kind = other_kind f s.kind;
   value = option_map (other_number f) s.value;
   memory = f s.memory;
   events = f s.events;

@@ -1,16 +1,16 @@
 //! A call from a summary.
-ghost use Rattle.std.specs.Prelude.{◌≡◌, ◌∷◌, ◌++◌, [], ℕ, List, IfOk, MatchOption};
-ghost use Rattle.c_means.specs.declared.kind.Kind.TheVariants as k;
+ghost use Rattle.std.specs.Prelude.{◌≡◌, ◌∷◌, ◌++◌, [], ℕ, List, true, false, IfOk};
 ghost use Rattle.core_tree.specs.declared.expr.Callee.TheVariants as callee;
 ghost use Rattle.term_bank.specs.Banks.{IsBank};
 ghost use Rattle.term_bank.specs.Bindings.{IsBinding};
+ghost use Rattle.path_states.specs.declared.kinds.StateKind.TheVariants as standing;
 ghost use Rattle.path_states.specs.States.{IsState, AreStates, IsMaybeNumber};
 ghost use Rattle.path_states.specs.Ways.{Tries};
 ghost use Rattle.path_forms.specs.declared.frame.Placed.{Placed as PlacedType};
 ghost use Rattle.path_forms.specs.Around.{Around as Surroundings};
 ghost use Rattle.path_forms.specs.Calling.{call_way};
 ghost use Rattle.summary_compose.specs.Summaries.{Answers};
-ghost use Rattle.summary_compose.specs.Composing.{Continues, Gives, GoesOn, Resumes, PutsIn, must_give};
+ghost use Rattle.summary_compose.specs.Composing.{Continues, Ends, Gives, GoesOn, Resumes, PutsIn, must_give};
 
 use crate::arguments::{pass, take_operands};
 use crate::images::{state_images, table_of};
@@ -21,7 +21,7 @@ use core_tree::ValueType;
 use path_arrows::place;
 use path_forms::{CallSite, WalkFault};
 use path_numbers::constant;
-use path_states::{Number, State, Walked, alone};
+use path_states::{Number, State, StateKind, Walked, alone, copy_state_kind};
 use plain_data::{Finish, Items, Undefined};
 use std::alloc::{AllocError, Global};
 use term_bank::{Bank, BankFault, Binding, Connective, Node};
@@ -76,14 +76,14 @@ fn with_operand(alloc: Global, number: Number, state: State) -> Result<Walked, A
 }
 
 /// A state whose run has ended.
-fn with_finish(alloc: Global, finish: Finish, state: State) -> Result<Walked, AllocError>
+fn with_end(alloc: Global, kind: StateKind, state: State) -> Result<Walked, AllocError>
     ensures { IfOk result (λ w. w ≡ record {
       going = [];
-      ended = record state { kind = k.Ended finish; operands = [] } ∷ [];
+      ended = record state { kind = kind; operands = [] } ∷ [];
     }) }
 {
     let mut next = state;
-    next.kind = Kind::Ended(finish);
+    next.kind = kind;
     next.operands = Items::new(alloc);
     let ended = alone(alloc, next)?;
     Ok(Walked {
@@ -115,7 +115,8 @@ fn give(
                     kind: Undefined::MissingValue,
                     at: site.at,
                 };
-                let walked = with_finish(alloc, missing, state)?;
+                let kind = StateKind::Known(Kind::Ended(missing));
+                let walked = with_end(alloc, kind, state)?;
                 return Ok(walked);
             }
             let zero = constant(bank, 0)?;
@@ -125,19 +126,30 @@ fn give(
     }
 }
 
-/// How the run has ended, if it has.
-fn finish_of(kind: &Kind) -> Option<Finish>
-    ensures { MatchOption result (GoesOn kind.now) (λ f. kind.now ≡ k.Ended f) }
+fn is_end(kind: &Kind) -> bool
+    ensures ended { result ≡ true → Ends (standing.Known kind.now) }
+    ensures on { result ≡ false → GoesOn (standing.Known kind.now) }
 {
     match kind {
-        Kind::Ended(finish) => Some(*finish),
+        Kind::Ended(_) => true,
         Kind::Running
         | Kind::Breaking
         | Kind::Continuing
         | Kind::Returning
         | Kind::Going { .. }
         | Kind::Choosing { .. }
-        | Kind::Defaulting => None,
+        | Kind::Defaulting => false,
+    }
+}
+
+/// Whether the run has ended.
+fn has_ended(kind: &StateKind) -> bool
+    ensures ended { result ≡ true → Ends kind.now }
+    ensures on { result ≡ false → GoesOn kind.now }
+{
+    match kind {
+        StateKind::Known(known) => is_end(known),
+        StateKind::Exited(_) => true,
     }
 }
 
@@ -154,16 +166,13 @@ fn resume_one(
     ensures { IfOk result (λ w. Resumes bank.old bank.new site caller.now (end.now ∷ []) w) }
 {
     let next = go_on(alloc, bank, site, caller, end)?;
-    match finish_of(&end.kind) {
-        Some(finish) => {
-            let walked = with_finish(alloc, finish, next)?;
-            Ok(walked)
-        }
-        None => {
-            let walked = give(alloc, bank, site, end.value, next)?;
-            Ok(walked)
-        }
+    if has_ended(&end.kind) {
+        let kind = copy_state_kind(&end.kind)?;
+        let walked = with_end(alloc, kind, next)?;
+        return Ok(walked);
     }
+    let walked = give(alloc, bank, site, end.value, next)?;
+    Ok(walked)
 }
 
 /// The caller's states behind the ends of the callee.

@@ -5,9 +5,9 @@ ghost use Rattle.term_bank.specs.declared.shape.Shape.{Shape as ShapeType};
 ghost use Rattle.term_bank.specs.declared.binding.Binding.{Binding as BindingType};
 ghost use Rattle.term_bank.specs.Bindings.{HasImage};
 ghost use Rattle.term_bank.specs.Images.{AreImages, image_at};
-ghost use Rattle.summary_compose.specs.Renaming.{other_number, other_state, Pictures};
+ghost use Rattle.summary_compose.specs.Renaming.{other_number, other_kind, other_state, Pictures};
 
-use path_states::{Number, State, copy_kind};
+use path_states::{Number, State, StateKind, copy_kind};
 use plain_data::Items;
 use std::alloc::{AllocError, Global};
 use std::collections::HashMap;
@@ -55,6 +55,18 @@ fn number_images(
     Ok(all)
 }
 
+fn kind_image(images: &HashMap<u32, Node>, kind: &StateKind) -> Result<StateKind, AllocError>
+    ensures { IfOk result (λ k. k ≡ other_kind (image_at images.now) kind.now) }
+{
+    match kind {
+        StateKind::Known(known) => {
+            let known = copy_kind(known)?;
+            Ok(StateKind::Known(known))
+        }
+        StateKind::Exited(status) => Ok(StateKind::Exited(number_image(images, *status))),
+    }
+}
+
 fn state_image(
     alloc: Global,
     images: &HashMap<u32, Node>,
@@ -62,7 +74,7 @@ fn state_image(
 ) -> Result<State, AllocError>
     ensures { IfOk result (λ s. s ≡ other_state (image_at images.now) state.now) }
 {
-    let kind = copy_kind(&state.kind)?;
+    let kind = kind_image(images, &state.kind)?;
     let operands = number_images(alloc, images, state.operands.as_slice())?;
     Ok(State {
         guard: image(images, state.guard),

@@ -1,8 +1,8 @@
 //! The nodes of states.
 ghost use Rattle.std.specs.Prelude.{◌≡◌, ◌++◌, OnOk, IfOk};
-ghost use Rattle.summary_compose.specs.Renaming.{each_of, number_node, maybe_node, state_nodes};
+ghost use Rattle.summary_compose.specs.Renaming.{each_of, number_node, maybe_node, kind_node, state_nodes};
 
-use path_states::{Number, State};
+use path_states::{Number, State, StateKind};
 use plain_data::Items;
 use std::alloc::{AllocError, Global};
 use term_bank::Node;
@@ -25,12 +25,22 @@ fn put_maybe(number: Option<Number>, nodes: &mut Items<Node>) -> Result<(), Allo
     Ok(())
 }
 
+fn put_kind(kind: &StateKind, nodes: &mut Items<Node>) -> Result<(), AllocError>
+    ensures { OnOk result (nodes.new ≡ nodes.old ++ kind_node kind.now) }
+{
+    if let StateKind::Exited(status) = kind {
+        nodes.push(status.node)?;
+    }
+    Ok(())
+}
+
 fn put_state(state: &State, nodes: &mut Items<Node>) -> Result<(), AllocError>
     ensures { OnOk result (nodes.new ≡ nodes.old ++ state_nodes state.now) }
 {
     nodes.push(state.guard)?;
     nodes.push(state.memory)?;
     nodes.push(state.events)?;
+    put_kind(&state.kind, nodes)?;
     put_maybe(state.value, nodes)?;
     put_numbers(state.operands.as_slice(), nodes)?;
     Ok(())

@@ -1,7 +1,8 @@
-use Rattle.std.proofs.Common.{ℕ, Some}
+use Rattle.std.proofs.Common.{ℕ, Some, refl}
 use Rattle.std.proofs.lemmas.List.{take_all}
 use Rattle.c_means.specs.declared.kind.Kind.{Kind}
 use Rattle.core_tree.specs.States.{become}
+use Rattle.path_states.specs.declared.kinds.StateKind.TheVariants.{Known}
 use Rattle.path_states.proofs.Paths.{item_of, more_of, goes_more}
 use Rattle.path_arrows.specs.Arrows.{by_arrow}
 use Rattle.path_arrows.proofs.Stepped.{marks_none, marks_one}
@@ -20,8 +21,8 @@ loop-state-preserved c =
       more_of c.args.states.now c.loop-state.state-index c.state-item.result c.loop-state-test.true c.state-item.is,
     )
     (goes_more room a a a _ _ _ c.state-item.result (by_arrow (λ e d. Some (become c.args.kind.now d))) (c.loop-state.invariant room a are)
-    (marks_one room a c.state-item.result (λ (k : Kind). c.args.kind.now)
-    (item_of a c.loop-state.state-index c.args.states.now c.state-item.result are c.loop-state-test.true c.state-item.is)))
+    (marks_one room a c.state-item.result (λ (k : Kind). c.args.kind.now) (Known c.args.kind.now)
+    (item_of a c.loop-state.state-index c.args.states.now c.state-item.result are c.loop-state-test.true c.state-item.is) tt (λ v. refl)))
 
 pub returns : goal.returns
 returns c =

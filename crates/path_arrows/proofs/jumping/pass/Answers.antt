@@ -1,4 +1,4 @@
-use Rattle.std.proofs.Common.{ℕ, Some}
+use Rattle.std.proofs.Common.{ℕ, Some, refl}
 use Rattle.std.proofs.lemmas.List.{take_all}
 use Rattle.c_means.specs.declared.kind.Kind.{Kind}
 use Rattle.path_states.proofs.Paths.{item_of, more_of, goes_more}
@@ -11,15 +11,16 @@ loop-state-init c = λ room a are. rw c.new-all.ensures (marks_none room a (λ (
 
 pub loop-state-preserved : goal.loop-state-preserved
 loop-state-preserved c =
-    λ room a are. rw (
+    λ room a are.
+    let is = item_of a c.loop-state.state-index c.args.states.now c.state-item.result are c.loop-state-test.true c.state-item.is in
+    rw (
       c.in_ok-push.ensures.ok,
       c.in_ok-next.ensures,
       c.new.ensures,
       more_of c.args.states.now c.loop-state.state-index c.state-item.result c.loop-state-test.true c.state-item.is,
     )
     (goes_more room a a a _ _ _ c.state-item.result (by_arrow (λ e d. Some d)) (c.loop-state.invariant room a are)
-    (marks_one room a c.state-item.result (λ (k : Kind). k)
-    (item_of a c.loop-state.state-index c.args.states.now c.state-item.result are c.loop-state-test.true c.state-item.is)))
+    (marks_one room a c.state-item.result (λ (k : Kind). k) c.state-item.result.kind is is.kind (λ v. refl)))
 
 pub returns : goal.returns
 returns c =

@@ -10,6 +10,7 @@ returns c =
       grows = grows_on c.in_ok-guard.ensures.grows behind;
       state = record {
         guard = term_grown _ _ _ _ behind c.in_ok-guard.ensures.node;
+        kind = tt;
         memory = term_grown _ _ _ _ c.in_ok-events.ensures.grows c.in_ok-memory.ensures.node;
         value = tt;
         events = c.in_ok-events.ensures.node;

@@ -70,6 +70,6 @@ returns c =
     rw c.in_ok-kind.ensures
     (merged c.args.bank.now c.connect.new.self c.chosen_maybe.new.bank c.choose.new.self c.chosen_all.new.bank c.choose-2.new.self
     c.args.first.now c.args.second.now c.in_ok-guard.guard c.in_ok-value.value c.in_ok-memory.memory c.in_ok-operands.operands
-    c.in_ok-events.events c.requires.alike c.in_ok-guard.ensures.grows c.in_ok-guard.ensures.node c.in_ok-guard.ensures.value
+    c.in_ok-events.events c.requires.alike c.requires.first.kind c.in_ok-guard.ensures.grows c.in_ok-guard.ensures.node c.in_ok-guard.ensures.value
     c.in_ok-value.ensures c.in_ok-memory.ensures.grows c.in_ok-memory.ensures.node c.in_ok-memory.ensures.value operands
     c.in_ok-events.ensures.grows c.in_ok-events.ensures.node c.in_ok-events.ensures.value)

@@ -1,6 +1,7 @@
 use Rattle.std.proofs.Common.{refl, []}
 use Rattle.c_means.specs.declared.kind.Kind.TheVariants as k
 use Rattle.std.specs.Prelude.{None}
+use Rattle.path_states.specs.declared.kinds.StateKind.TheVariants.{Known}
 use Rattle.path_states.specs.declared.state.State.{State}
 use Rattle.run_formula.proofs.Readied.{begun_one}
 use Rattle.run_formula.proofs.settings.begin.Goals as goal
@@ -9,7 +10,7 @@ pub returns : goal.returns
 returns c =
     let first : State = record {
       guard = c.in_ok-guard.guard;
-      kind = k.Running;
+      kind = Known k.Running;
       value = None;
       position = 0;
       memory = c.in_ok-memory.memory;

@@ -16,7 +16,7 @@ enter_all-requires-clause-ends c =
 pub enter_all-requires-clause-states : goal.enter_all-requires-clause-states
 enter_all-requires-clause-states c =
     let readies = c.in_ok-readied.ensures c.args.ends.now in
-    rw c.as_slice-in-Some.ensures readies.states
+    rw c.as_slice-in-Some-2.ensures readies.states
 
 pub returns-clause-runs : goal.returns-clause-runs
 returns-clause-runs c =
@@ -24,7 +24,8 @@ returns-clause-runs c =
     let t = tour_of a.core.now a.log.now a.bounds.now a.ends.now in
     let levels = c.in_ok-levels.ensures in
     let room = rw c.as_slice.ensures at c.in_ok-place.ensures in
-    let enters = rw c.as_slice-in-Some.ensures at c.in_ok-states-in-Some.ensures in
+    let takes = rw c.as_slice-in-Some.ensures at (c.takes_given.ensures (search rules)) in
+    let enters = rw c.as_slice-in-Some-2.ensures at c.in_ok-states-in-Some.ensures in
     runs_all t _ _ _ _ c.in_ok-levels.levels c.in_ok-place.place c.in-Some.summary.now c.in_ok-readied.readied c.in_ok-states-in-Some.states
-    _ _ a.bounds.now.depth_in_range.0 (search rules) levels room (c.in_ok-readied.ensures a.ends.now)
-    (c.in-Some.ensures t c.summarize.new.bank levels.levelled.stand) (search rules) enters
+    _ _ a.bounds.now.depth_in_range.0 a.bounds.now.arguments_in_range levels room (c.in_ok-readied.ensures a.ends.now)
+    (c.in-Some.ensures t c.summarize.new.bank levels.levelled.stand) takes enters

@@ -1,9 +1,0 @@
-use Rattle.std.proofs.Common.{rules}
-use Rattle.run_formula.proofs.Started.{byte_found, byte_behind}
-use Rattle.run_formula.proofs.texts.byte_at.Goals as goal
-
-pub returns-in-Some : goal.returns-in-Some
-returns-in-Some c = byte_found c.args.text.now c.args.at c.in-Some.byte.now (search rules) (search rules)
-
-pub returns-in-None : goal.returns-in-None
-returns-in-None c = byte_behind c.args.text.now c.args.at (search rules)
