@@ -17,7 +17,7 @@ use Rattle.cert_text.specs.declared.fault.CertFault.{CertFault}
 use Rattle.cert_text.specs.declared.fault.CertFault.TheVariants as cert
 use Rattle.config_text.specs.Configs.{default_config}
 use Rattle.config_text.specs.declared.config.Config.{Config as ConfigType}
-use Rattle.first_form.specs.Form.{program_of}
+use Rattle.unread_forms.specs.Forms.{HasUnread}
 use Rattle.diagnoses.specs.declared.diagnosis.Kept.{Kept}
 use Rattle.log_text.specs.Lines.{line_count}
 use Rattle.log_text.specs.Stripping.{stripped}
@@ -272,10 +272,12 @@ module _ (asked : Asked) (before after : ShelfState) (old new : SinkState) (a : 
       let spelled = h.read.ok h.world refl in
       read_not fault h.world (reads.spelled h.world spelled.0 (same ∙ spelled.1) (not_memory fault line is))
 
-  not_served : (xs : List External) → xs ≡ a.externals → asked.command ≡ Diagnose → program_of xs ≡ None → ⊥
-  not_served xs same is other =
-      subst (λ (c : Command). IsServed c a.externals) is a.served
-      (subst (λ (ys : List External). program_of ys ≡ None) same other)
+  not_served : (config : ConfigType) (xs : List External) → IsRead asked before.files config xs → asked.command ≡ Diagnose
+      → HasUnread xs config.profile → ⊥
+  not_served config xs r is other =
+      subst (λ (c : Command). IsServed c a.externals default_config.profile) is a.served
+      (subst (λ (ys : List External). HasUnread ys default_config.profile) (externals_are config xs r)
+      (subst (λ (c : ConfigType). HasUnread xs c.profile) (config_is config r.configured) other))
 
   pub answer_status : (r : Refusal) → Refused asked before after old new r → status_of r ≡ 12
   answer_status (BadConfig f) h = absurd (h.0.named a.plain)
@@ -289,7 +291,7 @@ module _ (asked : Asked) (before after : ShelfState) (old new : SinkState) (a : 
   answer_status (Broken rule spot) h =
       absurd (rw (kept_for h.0.config h.0.externals h.0.read).kept at h.0.refused.first.first.among)
   answer_status NotYetRead h =
-      absurd (not_served h.0.externals (externals_are h.0.config h.0.externals h.0.accepted.read) h.0.command h.0.other)
+      absurd (not_served h.0.config h.0.externals h.0.accepted.read h.0.command h.0.other)
   answer_status (TooManyLines count) h =
       let l = logged h.0.logged in
       let same = same_bytes before.files l.at_hand.files asked.second h.0.log l.log h.0.input.held l.at_hand.told l.at_hand.held in

@@ -1,5 +1,5 @@
 -- From what was got and read to the output of a command, and why there is none.
-use Rattle.std.proofs.Common.{◌≡◌, ◌≤◌, ◌<◌, ◌+◌, ◌*◌, ◌∙◌, ℕ, true, List, [], Option, Some, None, Ok, Err, min, arith, ap, subst, sym, refl, inl, inr}
+use Rattle.std.proofs.Common.{◌≡◌, ◌≤◌, ◌<◌, ◌+◌, ◌*◌, ◌∙◌, ℕ, true, List, [], Option, Some, Ok, Err, min, arith, ap, subst, sym, refl, inl, inr}
 use Rattle.plain_data.specs.declared.bounds.Bounds.{Bounds}
 use Rattle.plain_data.specs.declared.run.Run.{Run}
 use Rattle.plain_data.specs.Worlds.{WorldTables}
@@ -9,7 +9,6 @@ use Rattle.c_means.specs.Units.{IsAcceptedSource, source_run, source_size}
 use Rattle.c_language.specs.declared.unit.External.{External}
 use Rattle.cert_text.specs.WorldTexts.{ReadsWorld}
 use Rattle.config_text.specs.declared.config.Config.{Config as ConfigType}
-use Rattle.first_form.specs.Form.{program_of}
 use Rattle.diagnoses.specs.declared.diagnosis.Kept.{Kept}
 use Rattle.log_text.specs.Lines.{line_count}
 use Rattle.must_facts.specs.Inquiries.{measure_of}
@@ -167,7 +166,7 @@ too_large_to_diagnose asked before mid after x p bounds log command h of in_forc
 }
 
 unserved_cause : (asked : Asked) (before after : ShelfState) (x : Parsed) (r : Refusal) → asked.command ≡ Diagnose
-    → IsParsed asked before.files x → IsAcceptedSource x.unit.externals x.config.profile → IsNotServed x.unit.externals r → Cause asked before after r
+    → IsParsed asked before.files x → IsAcceptedSource x.unit.externals x.config.profile → IsNotServed x.unit.externals x.config.profile r → Cause asked before after r
 unserved_cause asked before after x NotYetRead command h kept other = record {
   config = x.config;
   externals = x.unit.externals;
@@ -188,7 +187,7 @@ unserved_cause asked before after x (TooLong file) command h kept other = absurd
 
 pub not_served : (asked : Asked) (before mid after : ShelfState) (x : Parsed) (p : Accepted) (log : List ℕ) (r : Refusal)
     → asked.command ≡ Diagnose → Parses asked before mid (Ok x) → IsOf p x
-    → GetsLog asked x.config.prefix x.config.drop_unmatched mid after (Ok log) → IsNotServed x.unit.externals r
+    → GetsLog asked x.config.prefix x.config.drop_unmatched mid after (Ok log) → IsNotServed x.unit.externals x.config.profile r
     → Forms asked before after (Err r)
 not_served asked before mid after x p log r command h of got other = record {
   files = got.files ∙ h.files;

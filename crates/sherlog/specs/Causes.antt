@@ -3,6 +3,7 @@ use Rattle.std.specs.Prelude.{◌≡◌, ◌≢◌, ◌≤◌, ◌<◌, ◌+◌,
 use Rattle.plain_data.specs.declared.bounds.Bounds.{Bounds}
 use Rattle.plain_data.specs.Worlds.{WorldTables}
 use Rattle.c_language.specs.declared.token.Spot.{Spot}
+use Rattle.c_means.specs.declared.profile.Profile.{Profile}
 use Rattle.c_means.specs.Units.{IsAcceptedSource, source_size}
 use Rattle.c_language.specs.declared.unit.External.{External}
 use Rattle.cert_text.specs.WorldTexts.{ReadsWorld}
@@ -11,7 +12,7 @@ use Rattle.cert_text.specs.declared.fault.CertFault.TheVariants as cert
 use Rattle.config_text.specs.Configs.{Reads, default_config}
 use Rattle.config_text.specs.declared.config.Config.{Config as ConfigType}
 use Rattle.config_text.specs.declared.config.ConfigFault.{ConfigFault}
-use Rattle.first_form.specs.Form.{program_of}
+use Rattle.unread_forms.specs.Forms.{HasUnread}
 use Rattle.log_text.specs.declared.prefix.Prefix.{Prefix}
 use Rattle.log_text.specs.Lines.{line_count}
 use Rattle.log_text.specs.Patterns.{IsReadIn, prefix_pattern}
@@ -81,20 +82,21 @@ pub record BreaksRules (asked : Asked) (files : Option Files) (refusal : Refusal
   pub read : IsRead asked files config externals
   pub refused : IsRefusedFor asked.source read.source externals config.profile refusal
 
--- the source is accepted, and not diagnosed, which is told of no source of the first form; all else serves each source
+-- the source is accepted, and not diagnosed, which is told only where it has a form that isn't read yet; all else serves
+-- each source
 pub record IsUnserved (asked : Asked) (files : Option Files) : Type 0 where
   pub config : ConfigType
   pub externals : List External
   pub accepted : IsAccepted asked files config externals
   pub command : asked.command ≡ Diagnose
-  pub other : program_of externals ≡ None
+  pub other : HasUnread externals config.profile
 
--- which accepted sources are always served: of `diagnose` those of the first form
-abbrev pub IsServed : Command → List External → Type 0
-IsServed Diagnose externals = program_of externals ≢ None
-IsServed Replay externals = ⊤
-IsServed Sites externals = ⊤
-IsServed Match externals = ⊤
+-- which accepted sources are always served: of `diagnose` those without a form that isn't read yet
+abbrev pub IsServed : Command → List External → Profile → Type 0
+IsServed Diagnose externals profile = HasUnread externals profile → ⊥
+IsServed Replay externals profile = ⊤
+IsServed Sites externals profile = ⊤
+IsServed Match externals profile = ⊤
 
 -- ---- the log
 

@@ -74,6 +74,6 @@ pub record IsAnswerable (asked : Asked) (before after : ShelfState) (old new : S
   pub at_hand : IsAtHand asked Source before after source
   pub externals : List External
   pub program : IsProgram asked source externals
-  pub served : IsServed asked.command externals
+  pub served : IsServed asked.command externals default_config.profile
   pub second : HasSecond asked.command asked before after externals
   pub wrote : Rose old.faults new.faults → ⊥

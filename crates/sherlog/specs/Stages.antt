@@ -1,5 +1,5 @@
 -- The steps from a command line to its output, each as what it answers and why it doesn't.
-use Rattle.std.specs.Prelude.{◌≡◌, ◌≤◌, ◌<◌, ℕ, List, Bool, true, Option, None, Result, Ok, Err, IfOk, IfErr, ⊤}
+use Rattle.std.specs.Prelude.{◌≡◌, ◌≤◌, ◌<◌, ℕ, List, Bool, true, Option, Result, Ok, Err, IfOk, IfErr, ⊤}
 use Rattle.plain_data.specs.Worlds.{WorldTables}
 use Rattle.c_lexer.specs.Places.{located}
 use Rattle.c_language.specs.declared.token.Token.{Token}
@@ -16,7 +16,7 @@ use Rattle.config_text.specs.declared.config.Config.{Config as ConfigType}
 use Rattle.config_text.specs.declared.config.ConfigFault.{ConfigFault}
 use Rattle.config_text.specs.declared.config.ConfigFault.TheVariants as config_fault
 use Rattle.diagnoses.specs.declared.diagnosis.Kept.{Kept}
-use Rattle.first_form.specs.Form.{program_of}
+use Rattle.unread_forms.specs.Forms.{HasUnread}
 use Rattle.log_text.specs.Lines.{line_count}
 use Rattle.log_text.specs.Stripping.{stripped}
 use Rattle.regex.specs.Patterns.{Re}
@@ -102,11 +102,11 @@ pub record Parses (asked : Asked) (before after : ShelfState) (result : Result P
 
 -- ---- what is diagnosed
 
--- an accepted source is not served, which is told of no source of the first form
-abbrev pub IsNotServed : List External → Refusal → Type 0
-IsNotServed externals NotYetRead = program_of externals ≡ None
-IsNotServed externals Memory = ⊤
-IsNotServed externals _ = ⊥
+-- an accepted source is not served, which is told only where it has a form that isn't read yet
+abbrev pub IsNotServed : List External → Profile → Refusal → Type 0
+IsNotServed externals profile NotYetRead = HasUnread externals profile
+IsNotServed externals profile Memory = ⊤
+IsNotServed externals profile _ = ⊥
 
 -- the program of a source that is derived, where it is accepted
 pub record Accepts (name bytes : List ℕ) (xs : List External) (f : Profile) (result : Result Accepted Refusal) : Type 0 where

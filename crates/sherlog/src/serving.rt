@@ -69,7 +69,7 @@ fn form_report<H: Shelf>(
     match report_on(alloc, request, unit.places.get(), &program, &bounds, &log) {
         Ok(output) => Ok(output),
         Err(DiagnoseFault::TooLarge) => Err(Refusal::TooLarge),
-        Err(DiagnoseFault::Unwalked) => Err(unserved(alloc, &unit)),
+        Err(DiagnoseFault::Unwalked) => Err(unserved(alloc, &program)),
         Err(DiagnoseFault::Memory) => Err(Refusal::Memory),
     }
 }

@@ -1,5 +1,5 @@
 //! Reading a source: from its bytes to its unit, and why it is refused.
-ghost use Rattle.std.specs.Prelude.{◌≡◌, ◌≤◌, ◌<◌, List, length, false, Ok, Err, None, IfOk, IfErr, IfSome};
+ghost use Rattle.std.specs.Prelude.{◌≡◌, ◌≤◌, ◌<◌, List, length, false, Ok, Err, IfOk, IfErr, IfSome};
 ghost use Rattle.acceptance.specs.Refusals.{IsRefusal};
 ghost use Rattle.c_lexer.specs.Fault.{Refused as IsFaultOf};
 ghost use Rattle.c_lexer.specs.Reading.{lexed};
@@ -8,7 +8,6 @@ ghost use Rattle.c_language.specs.Standing.{StandInOrder};
 ghost use Rattle.c_parser.specs.Parsing.{Refuses as RefusesTokens};
 ghost use Rattle.c_means.specs.declared.profile.Profile.{Profile as ProfileType};
 ghost use Rattle.c_language.specs.declared.unit.External.{External as ExternalType};
-ghost use Rattle.first_form.specs.Form.{program_of};
 ghost use Rattle.sherlog.specs.Sources.{HasFault, IsRefusedFor, start_at};
 ghost use Rattle.sherlog.specs.Stages.{Accepts, IsNotServed, IsToldAt, Lists, Reads, Tells};
 
@@ -21,10 +20,10 @@ use c_lexer::{LexFault, lex, locate};
 use c_means::Profile;
 use c_parser::ParseFault;
 use c_parser::unit::parse;
-use first_form::{FormFault, read};
 use plain_data::{Items, Shared};
 use source_sites::{Site, sites_of};
 use std::alloc::{AllocError, Global};
+use unread_forms::has_unread;
 
 /// The refusal of a source whose fault stands at a byte.
 fn bad_source(alloc: Global, name: &str, bytes: &[u8], fault: SourceFault, at: u32) -> Refusal
@@ -159,29 +158,14 @@ fn copy_externals(
     Ok(copy)
 }
 
-/// Of an accepted source that can't be diagnosed, the refusal: that it isn't served, or for want of memory where it is
-/// of the first form, of which each source is served.
-pub fn unserved(alloc: Global, unit: &Unit) -> Refusal
-    ensures { IsNotServed unit.now.externals result }
+/// Of an accepted source that can't be diagnosed, the refusal: that it has a form that isn't read yet; where it has
+/// none it is for want of memory.
+pub fn unserved(alloc: Global, program: &Accepted) -> Refusal
+    ensures { IsNotServed program.now.externals program.now.profile result }
 {
-    match is_first_form(alloc, unit) {
-        Ok(false) => Refusal::NotYetRead,
+    match has_unread(alloc, program.externals.as_slice(), &program.profile) {
+        Ok(true) => Refusal::NotYetRead,
         _ => Refusal::Memory,
-    }
-}
-
-/// Whether a source is of the first form.
-fn is_first_form(alloc: Global, unit: &Unit) -> Result<bool, AllocError>
-    ensures { IfOk result (λ b. b ≡ false → program_of unit.now.externals ≡ None) }
-{
-    let copy = Unit {
-        externals: copy_externals(alloc, unit.externals.as_slice())?,
-        places: unit.places.clone()?,
-    };
-    match read(alloc, copy) {
-        Ok(_) => Ok(true),
-        Err(FormFault::NotYetRead) => Ok(false),
-        Err(FormFault::Memory) => Err(AllocError),
     }
 }
 

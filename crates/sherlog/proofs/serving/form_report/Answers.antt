@@ -36,4 +36,5 @@ returns-in-Err-Unwalked g c =
     not_served _ _ _ _ c.in_ok-config.field-0 c.in_ok-program.program c.in_ok-log.log c.unserved.result
     c.requires c.in_ok-config.ensures
     (record { externals = c.in_ok-program.ensures.externals; profile = c.in_ok-program.ensures.profile })
-    c.in_ok-log.ensures c.unserved.ensures
+    c.in_ok-log.ensures
+    (rw (c.in_ok-program.ensures.externals, c.in_ok-program.ensures.profile) at c.unserved.ensures)
