@@ -15,3 +15,6 @@ pub mod Needs
 pub mod Runs
 pub mod Programs
 pub mod Sources
+pub mod Constants
+pub mod Entering
+pub mod EnteringItems

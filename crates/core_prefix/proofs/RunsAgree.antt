@@ -15,9 +15,10 @@ use Rattle.core_tree.specs.Programs.{size_by, room_by, measures_of, level_of, ca
 use Rattle.core_tree.specs.Programs.{given_arguments, main_arguments, behind, called_main, end_of, main_needs}
 use Rattle.core_tree.specs.Programs.{nothing_left, maybe_ran, room_of, unrolled_size}
 use Rattle.core_tree.specs.States.{Taking, plain, along, Done, Arrow, Measures, entered, onward, running}
-use Rattle.core_prefix.specs.Calls.{function_below}
-use Rattle.core_prefix.specs.Prefixes.{is_closed, prefix, cut}
+use Rattle.core_prefix.proofs.Calls.{function_below}
+use Rattle.core_prefix.specs.Prefixes.{IsClosed, prefix}
 use Rattle.core_prefix.specs.Runs.{RunsAs}
+use Rattle.core_prefix.proofs.MarksBelow.{functions_told}
 use Rattle.core_prefix.proofs.CalleesAgree.{Levels, one, other}
 use Rattle.core_prefix.proofs.CodesAgree.{Work, work, lasting, items_agree}
 use Rattle.core_prefix.proofs.ValuesAgree.{and_left, and_right}
@@ -201,16 +202,12 @@ module _ {O : Type 0} (n : ℕ) (p : Core) (bodies : list_all (function_below n)
 
 -- ---- a core without its last functions
 
-module _ (n : ℕ) (p : Core) (closed : is_closed n p ≡ true) where
-  inner : (nat_lt p.main n && list_all (function_below n) (take n p.functions)) ≡ true
-  inner = and_right (nat_le n (length p.functions))
-      (nat_lt p.main n && list_all (function_below n) (take n p.functions)) closed
-
+module _ (n : ℕ) (p : Core) (closed : IsClosed n p) where
   main_below : nat_lt p.main n ≡ true
-  main_below = and_left (nat_lt p.main n) (list_all (function_below n) (take n p.functions)) inner
+  main_below = grind (arith, closed.main)
 
   bodies_below : list_all (function_below n) (take n p.functions) ≡ true
-  bodies_below = and_right (nat_lt p.main n) (list_all (function_below n) (take n p.functions)) inner
+  bodies_below = functions_told n (take n p.functions) ∙ closed.calls
 
   pub prefix_runs : RunsAs (prefix n p) p
   prefix_runs = record {
@@ -219,20 +216,4 @@ module _ (n : ℕ) (p : Core) (closed : is_closed n p ≡ true) where
     along = λ log w limits depth. sym (end_agrees n p bodies_below (along log) w limits depth main_below 0);
     room = λ w limits depth. sym (room_is n p bodies_below plain w limits depth main_below);
     size = λ w limits depth. sym (size_is n p bodies_below plain w limits depth main_below);
-  }
-
--- where the first functions need no other, these are left
-pub cut_closed : (n : ℕ) (p : Core) → is_closed n p ≡ true → cut n p ≡ prefix n p
-cut_closed n p closed = ap (λ b. record p { functions = cond b (take n p.functions) p.functions }) closed
-
-pub cut_runs : (n : ℕ) (p : Core) → RunsAs (cut n p) p
-cut_runs n p = by_closed (is_closed n p) refl where
-  by_closed : (b : Bool) → is_closed n p ≡ b → RunsAs
-      (record p { functions = cond b (take n p.functions) p.functions }) p
-  by_closed true h = prefix_runs n p h
-  by_closed false h = record {
-    run = λ w limits depth. refl;
-    along = λ log w limits depth. refl;
-    room = λ w limits depth. refl;
-    size = λ w limits depth. refl;
   }

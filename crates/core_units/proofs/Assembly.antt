@@ -35,8 +35,10 @@ module _ (xs : List External) (profile : Profile) (p : Core) (h : IsAssembled xs
     function = x.core;
     found = subst (λ fs. slice_get fs n ≡ Some x.core) (sym h.all.all) x.found;
     kind = x.is.kind;
+    name = x.is.name;
     item = x.is.item;
     is_body = x.is.is_body;
+    marks = x.is.marks;
   }
 
   -- how many stand in front of the prelude, and in front of the others

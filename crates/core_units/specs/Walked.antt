@@ -9,7 +9,8 @@ use Rattle.core_tree.specs.declared.program.Function.{Function as CoreFunction}
 use Rattle.core_tree.specs.declared.program.LastingSetting.{LastingSetting}
 use Rattle.core_tree.specs.Programs.{body_of}
 use Rattle.core_tree.specs.States.{Output}
-use Rattle.elaborate.specs.Means.{IsBodyOf}
+use Rattle.core_marks.specs.Programs.{function_marks}
+use Rattle.elaborate.specs.Means.{SameMarks, IsBodyOf}
 use Rattle.core_programs.specs.Numberings.{Numbers, numbering_of}
 use Rattle.core_programs.specs.Programs.{AllSettings, bare_numbering, joined}
 use Rattle.core_units.specs.Numbers.{reached_among, others_among}
@@ -24,8 +25,10 @@ AllAre R _ _ = ⊥
 pub record IsCoreFunction (m : whole.Machine) (ns : Numbers) (is_prelude : Bool) (f : Function) (x : CoreFunction) :
     Type 0 where
   pub kind : x.is_prelude ≡ is_prelude
+  pub name : x.name ≡ f.name
   pub item : runs.Item
   pub is_body : IsBodyOf (numbering_of m ns f) (body_of {O = Output} x) f item
+  pub marks : SameMarks (numbering_of m ns f) (function_marks x) f.body.marks
 
 -- what initializers set, one object behind the other
 pub record AreSet (m : whole.Machine) (xs : List LastingSetting) (ys : List runs.Lasting) : Type 0 where

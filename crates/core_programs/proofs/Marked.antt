@@ -1,0 +1,62 @@
+-- What stands at the tokens of a function's core is what stands at those of the function.
+use Rattle.std.proofs.Common.{◌≡◌, ℕ, List, [], ◌∷◌, Option, Some, None, refl, sym, ap, ◌∙◌, subst}
+use Rattle.std.specs.Prelude.{Bool, true, false, cond, slice_get}
+use Rattle.c_language.specs.Scopes.{Name}
+use Rattle.c_means.specs.Marks.{Enters}
+use Rattle.c_means.specs.Parts as c
+use Rattle.c_means.specs.Programs.{Function, functions_of, function_named}
+use Rattle.c_means.specs.Rules.{Rules, LogCall, IdentityCall, BodyCall, LibraryCall, PreludeCall, OutsideCall}
+use Rattle.c_means.specs.Rules.{log_of, identity_index, library_of, callee_taking}
+use Rattle.c_means.specs.Runs as whole
+use Rattle.core_tree.specs.declared.program.Core.{Core}
+use Rattle.core_tree.specs.declared.program.Function.{Function as CoreFunction}
+use Rattle.core_tree.specs.Programs.{level_of, turns_in}
+use Rattle.core_marks.specs.Programs.{function_marks}
+use Rattle.elaborate.specs.Means.{AreNamed}
+use Rattle.elaborate.specs.Tokens.{all_told}
+use Rattle.elaborate.proofs.Levels.{levels_like}
+use Rattle.core_programs.specs.Marked.{name_if, name_in}
+use Rattle.core_programs.specs.Programs.{machine_for}
+use Rattle.core_programs.specs.Numberings.{Numbers, number_by, numbering_of, placed, IsFunctionOf, AreFunctions}
+use Rattle.core_programs.proofs.Machines.{body_found, prelude_found, prelude_named, none_some, some_same, is_machine}
+
+module _ (m : whole.Machine) (ns : Numbers) (p : Core) (h : AreFunctions m ns p) where
+  name_of : (f : Function) (n : ℕ) (is_prelude : Bool) → IsFunctionOf m ns p f n is_prelude → name_in p n ≡ f.name
+  name_of f n is_prelude x = ap name_if x.found ∙ x.name
+
+  entered : (f : Function) (g : c.Site) (rule : Rules Function) → whole.rule_of m g ≡ rule → (n : ℕ)
+      → number_by ns g.callee.name rule ≡ Some n → Enters g.at (name_in p n) ∷ [] ≡ whole.marks_by m f g rule
+  entered f g (LogCall text) is n e = absurd (none_some e)
+  entered f g (IdentityCall i) is n e = absurd (none_some e)
+  entered f g (BodyCall b) is n e =
+      let named = body_found (log_of m.profile g.callee.name) (identity_index m.profile g.callee.name)
+      (function_named (functions_of m.program) g.callee.name) (library_of g)
+      (whole.prelude_of m (callee_taking g) g.callee.name) b is in
+      ap (λ a. Enters g.at a ∷ []) (ap (name_in p) (sym (some_same (ns.source g.callee.name) n e))
+      ∙ name_of b (ns.source g.callee.name) false (h.source g.callee.name b named))
+  entered f g (LibraryCall x) is n e = absurd (none_some e)
+  entered f g (PreludeCall b) is n e =
+      let named = prelude_named (callee_taking g) (function_named m.prelude g.callee.name) b
+      (prelude_found (log_of m.profile g.callee.name) (identity_index m.profile g.callee.name)
+      (function_named (functions_of m.program) g.callee.name) (library_of g)
+      (whole.prelude_of m (callee_taking g) g.callee.name) b is) in
+      ap (λ a. Enters g.at a ∷ []) (ap (name_in p) (sym (some_same (ns.prelude g.callee.name) n e))
+      ∙ name_of b (ns.prelude g.callee.name) true (h.prelude g.callee.name b named))
+  entered f g OutsideCall is n e = absurd (none_some e)
+
+  all_named : (f : Function) (turns : ℕ) → AreNamed (numbering_of m ns f) (name_in p) (whole.level_of m 0 f turns)
+  unfolding whole.level_of
+  all_named f turns g n e = entered f g (whole.rule_of m g) refl n e
+
+  -- of a function of the source
+  pub source_marked : (f : Function) (n : ℕ) (x : IsFunctionOf m ns p f n false)
+      → all_told (name_in p) (function_marks x.function) ≡ whole.function_marks m f
+  source_marked f n x =
+      let turns = m.limits.turns in
+      let k = machine_for m p in
+      x.marks.are (name_in p) (whole.level_of m 0 f turns) (level_of k 0 x.function)
+      (levels_like (numbering_of m ns) m k (is_machine m ns p h m.world m.limits m.depth) 0 f turns x.function
+      (turned x.function x.kind)) (all_named f turns)
+    where
+      turned : (f : CoreFunction) → f.is_prelude ≡ false → turns_in m.limits f ≡ m.limits.turns
+      turned f is = ap (λ b. cond b m.limits.texts m.limits.turns) is
