@@ -4,7 +4,7 @@ ghost use Rattle.c_item_notes.specs.Levels.{judged};
 ghost use Rattle.c_program_notes.specs.Wholes.{overview as overview_in};
 ghost use Rattle.c_means.specs.Units.{IsAcceptedSource};
 ghost use Rattle.acceptance.specs.Refusals.{Judges, Refuses};
-ghost use Rattle.accepted.specs.Cores.{HasItsRuns};
+ghost use Rattle.accepted.specs.Cores.{HasItsFunctions, HasItsRuns};
 
 use crate::fault::CheckFault;
 use accepted::Accepted;
@@ -47,6 +47,7 @@ pub fn check(
 fn made_of(alloc: Global, source: &Source<'_>, overview: &Overview) -> Result<Core, CheckFault>
     requires { overview.now ≡ overview_in (judged source.now) }
     ensures core { IfOk result (HasItsRuns source.now.externals.now source.now.profile.now) }
+    ensures functions { IfOk result (HasItsFunctions source.now.externals.now source.now.profile.now) }
     ensures refused { IfErr result (Refuses source.now.externals.now source.now.profile.now) }
 {
     match core_of(alloc, source, overview)? {
@@ -59,6 +60,7 @@ fn made_of(alloc: Global, source: &Source<'_>, overview: &Overview) -> Result<Co
 fn core_in(alloc: Global, source: &Source<'_>) -> Result<Core, CheckFault>
     ensures kept { IfOk result (λ _. IsAcceptedSource source.now.externals.now source.now.profile.now) }
     ensures core { IfOk result (HasItsRuns source.now.externals.now source.now.profile.now) }
+    ensures functions { IfOk result (HasItsFunctions source.now.externals.now source.now.profile.now) }
     ensures refused { IfErr result (Refuses source.now.externals.now source.now.profile.now) }
 {
     let overview = read_source(alloc, source)?;

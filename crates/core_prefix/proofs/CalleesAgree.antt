@@ -25,7 +25,7 @@ use Rattle.core_tree.specs.Callees.{Spoken, arguments_of, formed_arg, behind_sta
 use Rattle.core_tree.specs.Callees.{prints, seen_all, filled, filled_by, fill_count, value_or_zero}
 use Rattle.core_tree.specs.Callees.{outside_answer, outside_call, body_call, callee_size, callee_room}
 use Rattle.core_tree.specs.Values.{acting}
-use Rattle.core_prefix.proofs.Calls.{callee_below}
+use Rattle.core_prefix.specs.Calls.{callee_below}
 
 pub ap₃ : {A B C D : Type 0} (f : A → B → C → D) {a a' : A} {b b' : B} {c c' : C}
     → a ≡ a' → b ≡ b' → c ≡ c' → f a b c ≡ f a' b' c'

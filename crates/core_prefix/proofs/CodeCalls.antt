@@ -12,7 +12,7 @@ use Rattle.core_tree.specs.declared.code.Code.TheVariants.{rolls-Goto, rolls-Con
 use Rattle.core_tree.specs.declared.code.Setting.{Setting}
 use Rattle.core_tree.specs.declared.expr.Expr.{Expr}
 use Rattle.core_tree.specs.declared.types.WordType.{WordType}
-use Rattle.core_prefix.proofs.Calls.{value_below, option_below, setting_below, code_step, code_below}
+use Rattle.core_prefix.specs.Calls.{value_below, option_below, setting_below, code_step, code_below}
 use Rattle.core_prefix.proofs.ExprCalls.{all_mapped}
 
 module _ (n : ℕ) (c : Code) where

@@ -25,7 +25,7 @@ use Rattle.core_tree.specs.Codes.{one_behind, if_of, switch_runs, tested, test_n
 use Rattle.core_tree.specs.Codes.{left_at, broken_out, rounds_from, repeated, code, counted, block, switch_of}
 use Rattle.core_tree.proofs.Equations as eq
 use Rattle.core_tree.proofs.Induction.{Each, CodeSteps, of_code}
-use Rattle.core_prefix.proofs.Calls.{value_below, option_below, setting_below, code_below}
+use Rattle.core_prefix.specs.Calls.{value_below, option_below, setting_below, code_below}
 use Rattle.core_prefix.proofs.CalleesAgree.{ap₃, Levels, one, other}
 use Rattle.core_prefix.proofs.CodeCalls as calls
 use Rattle.core_prefix.proofs.ValuesAgree.{and_left, and_right, Worth, steady, Worths, ValueAgrees}

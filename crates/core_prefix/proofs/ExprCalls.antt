@@ -17,7 +17,7 @@ use Rattle.core_tree.specs.declared.types.Operator.{Operator}
 use Rattle.core_tree.specs.declared.types.Turning.{Turning}
 use Rattle.core_tree.specs.declared.types.ValueType.{ValueType}
 use Rattle.core_tree.specs.declared.types.WordType.{WordType}
-use Rattle.core_prefix.proofs.Calls.{all_true, callee_below, value_step, value_below}
+use Rattle.core_prefix.specs.Calls.{all_true, callee_below, value_step, value_below}
 
 pub all_mapped : {A : Type 0} (f : A → Bool) (xs : List A) → all_true (map f xs) ≡ list_all f xs
 all_mapped f [] = refl

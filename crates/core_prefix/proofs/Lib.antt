@@ -1,4 +1,3 @@
-pub mod Calls
 pub mod ExprCalls
 pub mod CodeCalls
 pub mod CalleesAgree

@@ -25,7 +25,7 @@ use Rattle.core_marks.specs.Marks.{value_marks, values_marks, option_marks, sett
 use Rattle.core_marks.proofs.ExprMarks as of
 use Rattle.core_marks.proofs.CodeMarks as at
 use Rattle.core_prefix.specs.Prefixes.{mark_below, calls_below}
-use Rattle.core_prefix.proofs.Calls.{callee_below, value_below, option_below, setting_below, code_below, function_below}
+use Rattle.core_prefix.specs.Calls.{callee_below, value_below, option_below, setting_below, code_below}
 use Rattle.core_prefix.proofs.ExprCalls as calls
 use Rattle.core_prefix.proofs.CodeCalls as codes
 
@@ -261,13 +261,9 @@ module _ (n : ℕ) where
   code_told c = of_code SameCode code_steps c
 
   -- of a function's body
-  function_told : (f : Function) → function_below n f ≡ calls_below n f
+  pub function_told : (f : Function) → list_all (code_below n) f.items ≡ calls_below n f
   function_told f = codes_told f.items (each f.items)
     where
       each : (cs : List Code) → Each SameCode cs
       each [] = tt
       each (c ∷ cs) = (code_told c, each cs)
-
-  pub functions_told : (fs : List Function) → list_all (function_below n) fs ≡ list_all (calls_below n) fs
-  functions_told [] = refl
-  functions_told (f ∷ fs) = ap₂ (λ a b. a && b) (function_told f) (functions_told fs)

@@ -13,7 +13,7 @@ use Rattle.core_tree.specs.Values.{loaded, target, pointer, offset, extract, con
 use Rattle.core_tree.specs.Values.{both, either, choose, store, update, step, comma}
 use Rattle.core_tree.proofs.Equations as eq
 use Rattle.core_tree.proofs.Induction.{Each, ExprSteps, of_expr}
-use Rattle.core_prefix.proofs.Calls.{callee_below, value_below}
+use Rattle.core_prefix.specs.Calls.{callee_below, value_below}
 use Rattle.core_prefix.proofs.CalleesAgree.{ap₃, Levels, one, other, Doing, callee_agrees}
 use Rattle.core_prefix.proofs.ExprCalls as calls
 

@@ -1,5 +1,5 @@
 -- A core without its last functions.
-use Rattle.std.specs.Prelude.{◌≡◌, ◌<◌, ℕ, Bool, true, nat_lt, take}
+use Rattle.std.specs.Prelude.{ℕ, Bool, true, nat_le, nat_lt, ◌&&◌, cond, length, take}
 use Rattle.std.specs.List.{list_all}
 use Rattle.core_tree.specs.declared.program.Core.{Core}
 use Rattle.core_tree.specs.declared.program.Function.{Function}
@@ -17,15 +17,19 @@ mark_below n (mark.Exit at) = true
 mark_below n (mark.Abort at) = true
 mark_below n (mark.Stop at kind) = true
 
--- each call in a function's body
+-- each call in a function's body is of a function below the bound
 abbrev pub calls_below : ℕ → Function → Bool
 calls_below n f = list_all (mark_below n) (function_marks f)
 
--- `main` is one of the first so many functions, and none of them calls another one. What runs before `main` is called,
--- initializers of objects, has no level of calls below it, so no function matters to it.
-pub record IsClosed (n : ℕ) (p : Core) : Type 0 where
-  pub main : p.main < n
-  pub calls : list_all (calls_below n) (take n p.functions) ≡ true
+-- The first so many functions are there, `main` is one of them, and none of them calls another one. What runs before
+-- `main` is called, initializers of objects, has no level of calls below it, so no function matters to it.
+abbrev pub is_closed : ℕ → Core → Bool
+is_closed n p =
+    nat_le n (length p.functions) && (nat_lt p.main n && list_all (calls_below n) (take n p.functions))
 
 abbrev pub prefix : ℕ → Core → Core
 prefix n p = record p { functions = take n p.functions }
+
+-- without the functions behind the first so many, where these need none of them
+abbrev pub cut : ℕ → Core → Core
+cut n p = record p { functions = cond (is_closed n p) (take n p.functions) p.functions }

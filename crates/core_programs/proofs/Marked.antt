@@ -12,7 +12,7 @@ use Rattle.core_tree.specs.declared.program.Core.{Core}
 use Rattle.core_tree.specs.declared.program.Function.{Function as CoreFunction}
 use Rattle.core_tree.specs.Programs.{level_of, turns_in}
 use Rattle.core_marks.specs.Programs.{function_marks}
-use Rattle.elaborate.specs.Means.{AreNamed}
+use Rattle.elaborate.specs.Means.{AreNamed, SameMarks}
 use Rattle.elaborate.specs.Tokens.{all_told}
 use Rattle.elaborate.proofs.Levels.{levels_like}
 use Rattle.core_programs.specs.Marked.{name_if, name_in}
@@ -49,14 +49,12 @@ module _ (m : whole.Machine) (ns : Numbers) (p : Core) (h : AreFunctions m ns p)
   all_named f turns g n e = entered f g (whole.rule_of m g) refl n e
 
   -- of a function of the source
-  pub source_marked : (f : Function) (n : ℕ) (x : IsFunctionOf m ns p f n false)
-      → all_told (name_in p) (function_marks x.function) ≡ whole.function_marks m f
-  source_marked f n x =
+  pub source_marked : (f : Function) (x : CoreFunction) → x.is_prelude ≡ false
+      → SameMarks (numbering_of m ns f) (function_marks x) f.body.marks
+      → all_told (name_in p) (function_marks x) ≡ whole.function_marks m f
+  source_marked f x kind same =
       let turns = m.limits.turns in
       let k = machine_for m p in
-      x.marks.are (name_in p) (whole.level_of m 0 f turns) (level_of k 0 x.function)
-      (levels_like (numbering_of m ns) m k (is_machine m ns p h m.world m.limits m.depth) 0 f turns x.function
-      (turned x.function x.kind)) (all_named f turns)
-    where
-      turned : (f : CoreFunction) → f.is_prelude ≡ false → turns_in m.limits f ≡ m.limits.turns
-      turned f is = ap (λ b. cond b m.limits.texts m.limits.turns) is
+      same.are (name_in p) (whole.level_of m 0 f turns) (level_of k 0 x)
+      (levels_like (numbering_of m ns) m k (is_machine m ns p h m.world m.limits m.depth) 0 f turns x
+      (ap (λ b. cond b m.limits.texts m.limits.turns) kind)) (all_named f turns)

@@ -37,7 +37,8 @@ use Rattle.core_units.specs.Numbers.{position_from}
 use Rattle.core_units.specs.Plans.{program_in, reached_in, words_in, numbers_in}
 use Rattle.core_units.specs.Surroundings.{IsAroundOf, AreMadeIn, AreSetIn, AreLibrary, externals_of, profile_of, machine_of}
 use Rattle.core_units.specs.Surroundings.{watched_in, reached_by, plan_in, outers_of, made_by}
-use Rattle.core_units.specs.Walked.{AllAre, AreSet, IsCoreFunction}
+use Rattle.core_units.specs.Walked.{AreSet, IsCoreFunction}
+use Rattle.core_programs.specs.Marked.{AllAre}
 use Rattle.core_units.proofs.OneOuter.{watched_by, walk_reached, walk_unreached, walk_nameless}
 use Rattle.core_units.proofs.OneOuter.{walk_needed, walk_unneeded}
 use Rattle.core_units.proofs.WalkLaws.{all_append, walk_none, walk_append}
