@@ -155,6 +155,15 @@ module _ {O : Type 0} (n : ℕ) (p : Core) (bodies : list_all (calls_below n) (t
   agrees zero = record { sizes = λ g h. refl; rooms = λ g h. refl; calls = λ g h at. refl }
   agrees (suc k) = one_more k (agrees k)
 
+  -- a function that calls others below the bound alone unrolls to as many nodes in both, and takes as many places
+  pub function_size : (k : ℕ) (f : Function) → calls_below n f ≡ true
+      → body_size {O = O} (body_of f) (measures_of whole k f) ≡ body_size {O = O} (body_of f) (measures_of short k f)
+  function_size k f below = size_agrees k (agrees k) (Some f) below
+
+  pub function_room : (k : ℕ) (f : Function) → calls_below n f ≡ true
+      → body_room {O = O} (body_of f) (measures_of whole k f) ≡ body_room {O = O} (body_of f) (measures_of short k f)
+  function_room k f below = room_agrees k (agrees k) (Some f) below
+
   -- ---- whole runs
 
   module _ (main : nat_lt p.main n ≡ true) where

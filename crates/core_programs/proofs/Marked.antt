@@ -2,23 +2,37 @@
 use Rattle.std.proofs.Common.{◌≡◌, ℕ, List, [], ◌∷◌, Option, Some, None, refl, sym, ap, ◌∙◌, subst}
 use Rattle.std.specs.Prelude.{Bool, true, false, cond, slice_get}
 use Rattle.c_language.specs.Scopes.{Name}
-use Rattle.c_means.specs.Marks.{Enters}
+use Rattle.c_means.specs.Marks.{Mark, Enters}
+use Rattle.c_means.specs.Items as runs
 use Rattle.c_means.specs.Parts as c
 use Rattle.c_means.specs.Programs.{Function, functions_of, function_named}
 use Rattle.c_means.specs.Rules.{Rules, LogCall, IdentityCall, BodyCall, LibraryCall, PreludeCall, OutsideCall}
 use Rattle.c_means.specs.Rules.{log_of, identity_index, library_of, callee_taking}
 use Rattle.c_means.specs.Runs as whole
+use Rattle.c_means.specs.Units.{silent}
+use Rattle.std.proofs.Math.Path.{fun_ext}
 use Rattle.core_tree.specs.declared.program.Core.{Core}
 use Rattle.core_tree.specs.declared.program.Function.{Function as CoreFunction}
-use Rattle.core_tree.specs.Programs.{level_of, turns_in}
+use Rattle.core_tree.specs.Programs.{body_of, level_of, machine}
+use Rattle.core_tree.specs.States.{Output, plain}
 use Rattle.core_marks.specs.Programs.{function_marks}
-use Rattle.elaborate.specs.Means.{AreNamed, SameMarks}
+use Rattle.elaborate.specs.Means.{AreNamed, IsBodyOf, Like, SameMarks}
 use Rattle.elaborate.specs.Tokens.{all_told}
+use Rattle.elaborate.proofs.Bodies.{room_same, size_same}
 use Rattle.elaborate.proofs.Levels.{levels_like}
-use Rattle.core_programs.specs.Marked.{name_if, name_in}
+use Rattle.core_programs.specs.Marked.{Told, level_in, name_if, name_in, told_in, told_of}
 use Rattle.core_programs.specs.Programs.{machine_for}
 use Rattle.core_programs.specs.Numberings.{Numbers, number_by, numbering_of, placed, IsFunctionOf, AreFunctions}
 use Rattle.core_programs.proofs.Machines.{body_found, prelude_found, prelude_named, none_some, some_same, is_machine}
+
+abbrev pub told_as : Name → List Mark → (c.Limits → ℕ → ℕ) → (c.Limits → ℕ → ℕ) → Told
+told_as name marks size room = record { name = name; marks = marks; size = size; room = room }
+
+pub told_same : {a b : Name} {ms ns : List Mark} {s t r q : c.Limits → ℕ → ℕ} → a ≡ b → ms ≡ ns → s ≡ t → r ≡ q
+    → told_as a ms s r ≡ told_as b ns t q
+told_same {a = a} {b = b} {ms = ms} {ns = ns} {s = s} {t = t} {r = r} {q = q} same marks size room =
+    ap (λ (a : Name). told_as a ms s r) same ∙ ap (λ (ms : List Mark). told_as b ms s r) marks
+    ∙ ap (λ (s : c.Limits → ℕ → ℕ). told_as b ns s r) size ∙ ap (λ (r : c.Limits → ℕ → ℕ). told_as b ns t r) room
 
 module _ (m : whole.Machine) (ns : Numbers) (p : Core) (h : AreFunctions m ns p) where
   name_of : (f : Function) (n : ℕ) (is_prelude : Bool) → IsFunctionOf m ns p f n is_prelude → name_in p n ≡ f.name
@@ -58,3 +72,20 @@ module _ (m : whole.Machine) (ns : Numbers) (p : Core) (h : AreFunctions m ns p)
       same.are (name_in p) (whole.level_of m 0 f turns) (level_of k 0 x)
       (levels_like (numbering_of m ns) m k (is_machine m ns p h m.world m.limits m.depth) 0 f turns x
       (ap (λ b. cond b m.limits.texts m.limits.turns) kind)) (all_named f turns)
+
+  -- its levels of calls, within any limits
+  like_at : (f : Function) (x : CoreFunction) → x.is_prelude ≡ false → (limits : c.Limits) (n : ℕ)
+      → Like (numbering_of m ns f) (level_in m limits n f) (level_of (machine plain p silent limits 0) n x)
+  like_at f x kind limits n =
+      levels_like (numbering_of m ns) (placed m silent limits 0) (machine plain p silent limits 0)
+      (is_machine m ns p h silent limits 0) n f limits.turns x (ap (λ b. cond b limits.texts limits.turns) kind)
+
+  pub source_told : (f : Function) (x : CoreFunction) (i : runs.Item) → x.is_prelude ≡ false → x.name ≡ f.name
+      → SameMarks (numbering_of m ns f) (function_marks x) f.body.marks
+      → IsBodyOf (numbering_of m ns f) (body_of {O = Output} x) f i → told_in p x ≡ told_of m f
+  source_told f x i kind name same is_body =
+      told_same name (source_marked f x kind same)
+      (fun_ext (λ limits. fun_ext (λ n. size_same (numbering_of m ns f) (body_of x) f i is_body (level_in m limits n f)
+      (level_of (machine plain p silent limits 0) n x) (like_at f x kind limits n))))
+      (fun_ext (λ limits. fun_ext (λ n. room_same (numbering_of m ns f) (body_of x) f i is_body (level_in m limits n f)
+      (level_of (machine plain p silent limits 0) n x) (like_at f x kind limits n))))

@@ -1,6 +1,7 @@
 -- A core has the functions of the source that are reached, with what stands at their tokens.
 use Rattle.std.proofs.Common.{◌≡◌, ℕ, zero, suc, ◌+◌, Bool, true, false, cond, ◌&&◌, List, [], ◌∷◌, ◌++◌, length, map}
 use Rattle.std.proofs.Common.{take, refl, sym, ap, ap₂, ◌∙◌}
+use Rattle.std.proofs.Math.Path.{fun_ext}
 use Rattle.std.proofs.lemmas.List.{append_assoc, append-nil, length-append}
 use Rattle.std.proofs.lemmas.List.Folds.{list_all-append}
 use Rattle.std.specs.Prelude.{nat_le, nat_lt}
@@ -11,18 +12,20 @@ use Rattle.c_means.specs.Marks.{Mark as Said}
 use Rattle.c_means.specs.Prelude.{prelude_functions}
 use Rattle.c_means.specs.Programs.{Function, functions_of}
 use Rattle.c_means.specs.Runs as whole
+use Rattle.c_means.specs.Units.{silent}
 use Rattle.core_tree.specs.declared.program.Core.{Core}
 use Rattle.core_tree.specs.declared.program.Function.{Function as CoreFunction}
+use Rattle.core_tree.specs.States.{plain}
 use Rattle.core_marks.specs.declared.mark.Mark.{Mark}
 use Rattle.core_marks.specs.declared.mark.Mark.TheVariants as mark
 use Rattle.core_marks.specs.Programs.{function_marks, own_functions}
 use Rattle.elaborate.specs.Tokens.{told, all_told}
 use Rattle.core_prefix.specs.Prefixes.{mark_below, calls_below, is_closed, prefix, cut}
-use Rattle.core_prefix.proofs.RunsAgree.{kept}
+use Rattle.core_prefix.proofs.RunsAgree.{kept, function_room, function_size}
 use Rattle.core_prefix.proofs.ValuesAgree.{and_left, and_right}
 use Rattle.core_programs.specs.Marked.{AllAre, Told, name_if, name_in, reached_among, told_core, told_in, told_of, told_source}
 use Rattle.core_programs.specs.Numberings.{Numbers, AreFunctions}
-use Rattle.core_programs.proofs.Marked.{source_marked}
+use Rattle.core_programs.proofs.Marked.{source_told, told_same}
 use Rattle.core_units.specs.Plans.{program_in, reached_in, numbers_in}
 use Rattle.core_units.specs.Units.{IsAssembled}
 use Rattle.core_units.specs.Walked.{IsCoreFunction}
@@ -73,13 +76,20 @@ module _ (n : ℕ) (p : Core) where
       ap₂ (λ (y : Said) ys. y ∷ ys) (mark_kept x (and_left (mark_below n x) (list_all (mark_below n) xs) h))
       (marks_kept xs (and_right (mark_below n x) (list_all (mark_below n) xs) h))
 
-  functions_kept : (cs : List CoreFunction) → list_all (calls_below n) cs ≡ true
-      → map (told_in (prefix n p)) cs ≡ map (told_in p) cs
-  functions_kept [] h = refl
-  functions_kept (c ∷ cs) h =
-      ap₂ (λ (ms : List Said) (more : List Told). record { name = c.name; marks = ms } ∷ more)
-      (marks_kept (function_marks c) (and_left (calls_below n c) (list_all (calls_below n) cs) h))
-      (functions_kept cs (and_right (calls_below n c) (list_all (calls_below n) cs) h))
+  module _ (bodies : list_all (calls_below n) (take n p.functions) ≡ true) where
+    function_kept : (c : CoreFunction) → calls_below n c ≡ true → told_in (prefix n p) c ≡ told_in p c
+    function_kept c h =
+        told_same refl (marks_kept (function_marks c) h)
+        (fun_ext (λ limits. fun_ext (λ k. sym (function_size n p bodies plain silent limits 0 k c h))))
+        (fun_ext (λ limits. fun_ext (λ k. sym (function_room n p bodies plain silent limits 0 k c h))))
+
+    functions_kept : (cs : List CoreFunction) → list_all (calls_below n) cs ≡ true
+        → map (told_in (prefix n p)) cs ≡ map (told_in p) cs
+    functions_kept [] h = refl
+    functions_kept (c ∷ cs) h =
+        ap₂ (λ (x : Told) (more : List Told). x ∷ more)
+        (function_kept c (and_left (calls_below n c) (list_all (calls_below n) cs) h))
+        (functions_kept cs (and_right (calls_below n c) (list_all (calls_below n) cs) h))
 
 -- the first of a list in two parts
 first_part : (xs ys : List CoreFunction) → take (length xs) (xs ++ ys) ≡ xs
@@ -102,8 +112,8 @@ module _ (xs : List External) (profile : Profile) (p : Core) (h : IsAssembled xs
   told_each (f ∷ fs) [] i = absurd i
   told_each (f ∷ fs) (c ∷ cs) i =
       ap₂ (λ (x : Told) (more : List Told). x ∷ more)
-      (ap₂ (λ name (ms : List Said). record { name = name; marks = ms }) i.0.name
-      (source_marked m (numbers_in xs profile) p (are_functions xs profile p h) f c i.0.kind i.0.marks))
+      (source_told m (numbers_in xs profile) p (are_functions xs profile p h) f c i.0.item i.0.kind i.0.name i.0.marks
+      i.0.is_body)
       (told_each fs cs i.1)
 
   own_of : (rest : List CoreFunction) → own_functions (h.all.sources ++ (h.all.library ++ rest)) ≡ h.all.sources
@@ -136,7 +146,7 @@ module _ (xs : List External) (profile : Profile) (p : Core) (h : IsAssembled xs
         ∙ ap (list_all (calls_below n)) (sym first_are) ∙ calls in
         ap (λ fs. map (told_in (prefix n p)) fs)
         (ap own_functions (first_are ∙ ap (λ l. h.all.sources ++ l) (sym (append-nil h.all.library))) ∙ own_of [])
-        ∙ functions_kept n p h.all.sources
+        ∙ functions_kept n p calls h.all.sources
         (and_left (list_all (calls_below n) h.all.sources) (list_all (calls_below n) h.all.library) parts)
         ∙ told_each found h.all.sources h.all.walk.cores
 
