@@ -80,7 +80,6 @@ means_notes at ts e (means.Object t duration.Automatic l) defined n =
 means_notes at ts e (means.Object t duration.Static l) defined n = record nothing_noted {
   breach = n.constant;
   calls = n.calls;
-  called = n.called;
   lasting = record { at = at; entry = e; size = bytes_of ts (Some t); is_defined = defined } ∷ [];
   links = link e.name l;
 }

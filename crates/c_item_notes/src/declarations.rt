@@ -80,7 +80,7 @@ fn lasting(
     is_defined: bool,
     initial: InitialNotes,
 ) -> Result<ItemNotes, AllocError>
-    ensures { IfOk result (λ n. n ≡ record spec.nothing_noted { breach = initial.constant; calls = initial.calls; called = initial.called; lasting = record { at = at; entry = entry.now; size = size; is_defined = is_defined } ∷ []; links = statements.link entry.now.name linkage }) }
+    ensures { IfOk result (λ n. n ≡ record spec.nothing_noted { breach = initial.constant; calls = initial.calls; lasting = record { at = at; entry = entry.now; size = size; is_defined = is_defined } ∷ []; links = statements.link entry.now.name linkage }) }
 {
     let links = link(alloc, &entry.get().name, linkage)?;
     let mut lasting = Items::new(alloc);
@@ -92,14 +92,14 @@ fn lasting(
     })?;
     let InitialNotes {
         calls,
-        called,
         constant,
+        ..
     } = initial;
     Ok(ItemNotes {
         breach: constant,
         cases: Items::new(alloc),
         calls,
-        called,
+        called: Items::new(alloc),
         lasting,
         links,
     })

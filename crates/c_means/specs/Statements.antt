@@ -117,7 +117,6 @@ abbrev pub lasting : ℕ → Entry → ℕ → Linkage → Bool → Initial → 
 lasting at e n l defined x s = record (nothing s) {
   breaches = x.constant;
   calls = x.calls;
-  called = x.called;
   lasting = lasting_object at e n defined x ∷ [];
   links = link e.name l;
   size = λ l. cond defined (1 + x.size l) 0;

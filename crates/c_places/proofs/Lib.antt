@@ -15,6 +15,3 @@ pub mod Needs
 pub mod Runs
 pub mod Programs
 pub mod Sources
-pub mod Constants
-pub mod Entering
-pub mod EnteringItems
