@@ -1,8 +1,7 @@
 //! Whether a source has one of the forms that aren't read yet. It fails for want of memory alone.
-ghost use Rattle.std.specs.Prelude.{◌≡◌, true, IfOk};
+ghost use Rattle.std.specs.Prelude.{◌≡◌, IfOk};
 ghost use Rattle.std.specs.List.{list_any};
 ghost use Rattle.c_item_notes.specs.Levels.{judged};
-ghost use Rattle.c_means.specs.Programs.{program_of};
 ghost use Rattle.c_program_notes.specs.Wholes.{overview as overview_in};
 ghost use Rattle.unread_forms.specs.Forms as spec;
 
@@ -39,7 +38,7 @@ fn define_structures(
     externals: &[Shared<External>],
     profile: &Profile,
 ) -> Result<bool, AllocError>
-    ensures { IfOk result (λ b. b ≡ list_any spec.is_defined (program_of externals.now).scope.tables.aggregates) }
+    ensures { IfOk result (λ b. b ≡ spec.define_structures externals.now) }
 {
     let source = Source { externals, profile };
     let program = program_notes(alloc, &source)?;
@@ -94,8 +93,7 @@ fn log_calls_show_one(
     overview: &Overview,
 ) -> Result<bool, AllocError>
     requires { overview.now ≡ overview_in (judged source.now) }
-    ensures { IfOk result (λ b. b ≡ true
-        → spec.ShowsTextOrPointer source.now.externals.now source.now.profile.now) }
+    ensures { IfOk result (λ b. b ≡ spec.shows_some source.now.externals.now source.now.profile.now) }
 {
     let found = sites(alloc, source, overview)?;
     let shows = some_shows_one(alloc, found.as_slice())?;
@@ -111,7 +109,7 @@ pub fn has_unread(
     externals: &[Shared<External>],
     profile: &Profile,
 ) -> Result<bool, AllocError>
-    ensures { IfOk result (λ b. b ≡ true → spec.HasUnread externals.now profile.now) }
+    ensures { IfOk result (λ b. b ≡ spec.has_unread externals.now profile.now) }
 {
     let source = Source { externals, profile };
     let overview = read_source(alloc, &source)?;
