@@ -22,6 +22,10 @@ WORDS = [1, 2, 3, 5, 7, 128, 255, 65535, 2147483647, 2147483648, 4294967295, 429
 
 
 class Program:
+    kinds, whole = KINDS, 'int'
+    few, all = ['+', '-', '&', '^'], ['+', '-', '*', '&', '|', '^', '/', '%', '<<', '>>']
+    changes_counts = True
+
     def __init__(self, seed, has_arrays):
         self.random = random.Random(seed)
         self.has_arrays = has_arrays
@@ -43,7 +47,7 @@ class Program:
             return f'({self.condition(height - 1)} ? {left} : {right})'
         if kind == 6 and self.is_main:
             return f'helper({left})'
-        return f"({left} {self.pick(['+', '-', '*', '&', '|', '^', '/', '%', '<<', '>>'] if kind == 5 else ['+', '-', '&', '^'])} {right})"
+        return f'({left} {self.pick(self.all if kind == 5 else self.few)} {right})'
 
     def condition(self, height):
         test = f"{self.value(height)} {self.pick(['<', '==', '!=', '>='])} {self.value(height)}"
@@ -55,14 +59,14 @@ class Program:
         self.lines.append('  ' * self.depth + text)
 
     def declare(self):
-        kind = self.pick(KINDS)
+        kind = self.pick(self.kinds)
         self.count += 1
         name = f'v{self.count}'
         self.put(f'{kind} {name} = {self.value(1)};')
         self.names.append((kind, name))
 
     def declare_array(self):
-        kind, size = self.pick(KINDS), self.random.randrange(2, 5)
+        kind, size = self.pick(self.kinds), self.random.randrange(2, 5)
         self.count += 1
         name = f'a{self.count}'
         self.put(f'{kind} {name}[{size}] = {{ {self.value(0)}, {self.value(0)} }};')
@@ -115,9 +119,10 @@ class Program:
         elif kind == 10:
             self.count += 1
             name = f'v{self.count}'
-            self.put(f'int {name};')
+            self.put(f'{self.whole} {name};')
             self.put(f'for ({name} = 0; {name} < {self.random.randrange(1, 4)}; {name}++) {{')
-            self.names.append(('int', name))
+            if self.changes_counts:
+                self.names.append((self.whole, name))
             self.block(height - 1)
             self.put('}')
         else:
@@ -129,7 +134,7 @@ class Program:
             self.put('}')
 
     def function(self, head, statements):
-        self.names = [] if self.is_main else [('int', 'n')]
+        self.names = [] if self.is_main else [(self.whole, 'n')]
         self.put(head + ' {')
         self.depth = 1
         for _ in range(statements):
@@ -141,9 +146,9 @@ class Program:
     def text(self):
         self.put('int printf(const char *, ...);')
         self.put('void exit(int);')
-        self.put('int ext(void);')
+        self.put(f'{self.whole} ext(void);')
         self.put('unsigned char ask(void);')
-        self.function('static int helper(int n)', 2)
+        self.function(f'static {self.whole} helper({self.whole} n)', 2)
         self.is_main = True
         self.function('int main(void)', 5)
         return '\n'.join(self.lines) + '\n'
@@ -348,4 +353,5 @@ def main():
     sys.exit(1 if failed else 0)
 
 
-main()
+if __name__ == '__main__':
+    main()
