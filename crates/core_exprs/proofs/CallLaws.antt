@@ -79,8 +79,10 @@ module _ (n : Numbering) where
   called_at c at t g h same i = record {
     size = λ l k like. i.size l k like ∙ ap l.size (same l like.identity);
     room = λ l k like. i.room l k like ∙ ap l.room (same l like.identity);
-    marks = record { are = λ name l k like named. i.marks.are name l k like (λ x f is. named x f is)
-        ∙ ap l.marks (same l like.identity) };
+    marks = record {
+      are = λ name l k like named. i.marks.are name l k like (λ x f is. named x f is)
+          ∙ ap l.marks (same l like.identity);
+    };
     runs = λ l k like env vs base s o. i.runs l k like env vs base s o
         ∙ ap (λ x. Some (as_done (l.call x env vs base s o.count))) (same l like.identity);
   }
@@ -135,8 +137,10 @@ module _ (n : Numbering) where
         let args = arguments_are s.tables ps (parameters_of s.tables (type_of f.typed)) xs.values h.values in
         let calls = called_at c.callee f.typed.at t (site_of site_ s) g site_same c.calls in
         let standing : SameMarks n (call_marks f.typed.at c.callee) (λ l. form.call_marks (g l) l) =
-            record { are = λ name l k like named.
-            ap (λ ms. Calls f.typed.at ∷ ms) (calls.marks.are name l k like named) } in
+        record {
+          are = λ name l k like named.
+              ap (λ ms. Calls f.typed.at ∷ ms) (calls.marks.are name l k like named);
+        } in
         subst (λ x. IsFoundOf n x (direct_call f.typed.at said_ g passed_) s) (sym c.is) (record {
           built = record {
             told = refl;

@@ -243,8 +243,10 @@ pub body_call_of :
 body_call_of numbering at t g f is same_at = record {
   size = λ l k like. (like.bodies (g l) f (is l)).size;
   room = λ l k like. (like.bodies (g l) f (is l)).room;
-  marks = record { are = λ name l k like named. ap (λ a. Enters a (name f) ∷ []) (sym (same_at l))
-      ∙ named (g l) f (is l) };
+  marks = record {
+    are = λ name l k like named. ap (λ a. Enters a (name f) ∷ []) (sym (same_at l))
+        ∙ named (g l) f (is l);
+  };
   runs = λ l k like env vs base s o. ap (λ a. core.body_call k.call k.taking a f vs base s o) (sym (same_at l))
       ∙ (like.bodies (g l) f (is l)).runs env vs base s o;
 }
