@@ -82,10 +82,10 @@ def is_end(text, start, at):
 
 
 def given_up(item, error):
-    """A function whose body gives up with the error, or as it stands where the error is `=`."""
-    if error == "=":
+    """A function whose body gives up with the error, or as it stands where the error is `=` or it answers no `Result`."""
+    if error == "=" or "Result<" not in re.split(r"\b(?:requires|ensures)\b", item[:body_start(item)])[0]:
         return item
-    front = re.sub(r"#\[tactic\(.*?\)\]\n", "", item[:body_start(item)])
+    front = re.sub(r"#\[(?:tactic|cycle)\(.*?\)\]\n", "", item[:body_start(item)])
     return f"{front}{{\n    Err({error})\n}}"
 
 
@@ -119,14 +119,31 @@ def outlined(text, calls, is_root):
     return imports("".join(kept), calls, False)
 
 
+def called_in(text):
+    """The names in the bodies of a file's functions and methods."""
+    called = set()
+    for item in items(text):
+        top = head(item)
+        if FUNCTION.match(top):
+            called |= set(re.findall(r"\w+", re.sub(r"//.*", "", item[body_start(item):])))
+        elif top.startswith("impl") and "{" in item:
+            called |= called_in(item[item.index("{") + 1:item.rindex("}")])
+    return called
+
+
 def imports(text, calls, is_root):
-    """The file without the imports of functions."""
+    """The file without the imports of functions that nothing in it calls."""
+    called = set() if is_root else called_in(text)
+
+    def is_kept(name):
+        return name != name.lower() or is_root and name in calls or name in called
+
     def one(found):
         before, path, names = found[1] or "", found[2], found[3]
         if path.startswith(("std", "core::")):
             return found[0]
         names = [name.strip() for name in names.strip("{}").split(",") if name.strip()]
-        kept = [name for name in names if name != name.lower() or is_root and name in calls]
+        kept = [name for name in names if is_kept(name)]
         return f"{before}use {path}::{{{', '.join(kept)}}};" if kept else ""
     return re.sub(r"(?m)^(pub(?:\([a-z]+\))? )?use ([a-z_0-9:]+)::(\{[^}]*\}|\w+);", one, text)
 
@@ -151,13 +168,18 @@ def outline(name, calls, folder):
                 made.write(outlined(source.read(), calls, path == "lib.rt"))
 
 
-def lemmas(name, folder):
-    """Copies the files of lemmas, without the answers of functions, which stand in folders."""
+def lemmas(name, folder, whole):
+    """Copies the files of lemmas, and of the answers of functions, which stand in folders, those of the whole ones."""
     top = f"{HERE}/crates/{name}/proofs"
+    if not os.path.isdir(top):
+        return
     os.makedirs(f"{folder}/proofs", exist_ok=True)
     for file in os.listdir(top):
         if file.endswith(".antt"):
             shutil.copy(f"{top}/{file}", f"{folder}/proofs/{file}")
+    for at, _, _ in os.walk(top):
+        if os.path.basename(at) in whole:
+            shutil.copytree(at, f"{folder}/proofs/{os.path.relpath(at, top)}", dirs_exist_ok=True)
 
 
 def main():
@@ -169,9 +191,10 @@ def main():
         for part in ("src", "specs", "proofs"):
             shutil.rmtree(f"{folder}/{part}", ignore_errors=True)
         if name in outlines:
-            outline(name, dict(call.split(":", 1) for call in calls.split(",") if call), folder)
-            if "lemmas:=" in calls.split(","):
-                lemmas(name, folder)
+            kept = dict(call.split(":", 1) for call in calls.split(",") if call)
+            outline(name, kept, folder)
+            if "lemmas" in kept:
+                lemmas(name, folder, {call for call, error in kept.items() if error == "="})
         else:
             copied(name, folder)
     with open(f"{HERE}/crates.txt", encoding="utf-8") as file:

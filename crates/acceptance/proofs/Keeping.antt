@@ -20,7 +20,7 @@ use Rattle.core_programs.proofs.Programs.{room_is, run_same, size_is}
 use Rattle.core_units.specs.Plans.{numbers_in, program_in}
 use Rattle.core_units.specs.Units.{IsUnitCore, IsCoreOfUnit, MaybeCore}
 use Rattle.acceptance.specs.Refusals.{Judges, judged_in}
-use Rattle.accepted.specs.Cores.{HasItsRuns}
+use Rattle.accepted.specs.Cores.{HasItsFunctions, HasItsRuns}
 
 -- ---- by whether there is a `main`, and which rule is the least that is broken
 
@@ -102,6 +102,11 @@ has_its_runs xs profile p h =
 pub has_a_core : (xs : List External) (profile : Profile) (o : Option Core) (p : Core) → o ≡ Some p
     → MaybeCore xs profile o → HasItsRuns xs profile p
 has_a_core xs profile o p is h = has_its_runs xs profile p (subst (MaybeCore xs profile) is h)
+
+pub has_functions : (xs : List External) (profile : Profile) (o : Option Core) (p : Core) → o ≡ Some p
+    → MaybeCore xs profile o → HasItsFunctions xs profile p
+has_functions xs profile o p is h =
+    let core : IsCoreOfUnit xs profile p = subst (MaybeCore xs profile) is h in core.functions
 
 -- where there is none, there is no `main`
 pub no_core : (xs : List External) (profile : Profile) (o : Option Core) → o ≡ None → MaybeCore xs profile o

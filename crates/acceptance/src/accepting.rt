@@ -4,10 +4,10 @@ ghost use Rattle.c_item_notes.specs.Levels.{judged};
 ghost use Rattle.c_program_notes.specs.Wholes.{overview as overview_in};
 ghost use Rattle.c_means.specs.Units.{IsAcceptedSource};
 ghost use Rattle.acceptance.specs.Refusals.{Judges, Refuses};
-ghost use Rattle.accepted.specs.Cores.{HasItsRuns};
+ghost use Rattle.accepted.specs.Cores.{HasItsFunctions, HasItsRuns};
 
 use crate::fault::CheckFault;
-use accepted::Accepted;
+use accepted::{Accepted, discard_source};
 use c_item_notes::Source;
 use c_language::External;
 use c_means::Profile;
@@ -40,13 +40,16 @@ pub fn check(
 {
     let source = Source { externals, profile };
     let overview = read_source(alloc, &source)?;
-    judged_by(alloc, &source, &overview)
+    let judged = judged_by(alloc, &source, &overview);
+    overview.discard();
+    judged
 }
 
 /// The core of a source that was read; it has none exactly where it has no `main`.
 fn made_of(alloc: Global, source: &Source<'_>, overview: &Overview) -> Result<Core, CheckFault>
     requires { overview.now ≡ overview_in (judged source.now) }
     ensures core { IfOk result (HasItsRuns source.now.externals.now source.now.profile.now) }
+    ensures functions { IfOk result (HasItsFunctions source.now.externals.now source.now.profile.now) }
     ensures refused { IfErr result (Refuses source.now.externals.now source.now.profile.now) }
 {
     match core_of(alloc, source, overview)? {
@@ -55,17 +58,31 @@ fn made_of(alloc: Global, source: &Source<'_>, overview: &Overview) -> Result<Co
     }
 }
 
+/// The core of a source that was read, where it is accepted.
+fn core_by(alloc: Global, source: &Source<'_>, overview: &Overview) -> Result<Core, CheckFault>
+    requires { overview.now ≡ overview_in (judged source.now) }
+    ensures kept { IfOk result (λ _. IsAcceptedSource source.now.externals.now source.now.profile.now) }
+    ensures core { IfOk result (HasItsRuns source.now.externals.now source.now.profile.now) }
+    ensures functions { IfOk result (HasItsFunctions source.now.externals.now source.now.profile.now) }
+    ensures refused { IfErr result (Refuses source.now.externals.now source.now.profile.now) }
+{
+    match judged_by(alloc, source, overview)? {
+        None => made_of(alloc, source, overview),
+        Some(refusal) => Err(CheckFault::Refused(refusal)),
+    }
+}
+
 /// The core of a source that is accepted.
 fn core_in(alloc: Global, source: &Source<'_>) -> Result<Core, CheckFault>
     ensures kept { IfOk result (λ _. IsAcceptedSource source.now.externals.now source.now.profile.now) }
     ensures core { IfOk result (HasItsRuns source.now.externals.now source.now.profile.now) }
+    ensures functions { IfOk result (HasItsFunctions source.now.externals.now source.now.profile.now) }
     ensures refused { IfErr result (Refuses source.now.externals.now source.now.profile.now) }
 {
     let overview = read_source(alloc, source)?;
-    match judged_by(alloc, source, &overview)? {
-        None => made_of(alloc, source, &overview),
-        Some(refusal) => Err(CheckFault::Refused(refusal)),
-    }
+    let core = core_by(alloc, source, &overview);
+    overview.discard();
+    core
 }
 
 /// The program of an accepted source: of the external declarations in order, with what is known of functions besides.
@@ -84,10 +101,15 @@ pub fn accept(
         externals: externals.as_slice(),
         profile: &profile,
     };
-    let core = core_in(alloc, &source)?;
-    Ok(Accepted {
-        externals,
-        profile,
-        core,
-    })
+    match core_in(alloc, &source) {
+        Ok(core) => Ok(Accepted {
+            externals,
+            profile,
+            core,
+        }),
+        Err(fault) => {
+            discard_source(externals, profile);
+            Err(fault)
+        }
+    }
 }

@@ -3,4 +3,4 @@
 
 mod program;
 
-pub use program::Accepted;
+pub use program::{Accepted, discard_source};

@@ -133,5 +133,7 @@ pub fn assumptions(alloc: Global, source: &Source<'_>) -> Result<Items<Assumptio
         profile: &asked,
     };
     let overview = read_source(alloc, &asking)?;
-    noted_in(alloc, source.profile, &asked, &overview)
+    let assumed = noted_in(alloc, source.profile, &asked, &overview);
+    overview.discard();
+    assumed
 }

@@ -299,6 +299,7 @@ level = record {
   identity = λ name. cond (bytes_eq name f') (Some 0) None;
   size = λ g. 100;
   room = λ g. 4;
+  marks = λ g. [];
   call = calls;
 }
 

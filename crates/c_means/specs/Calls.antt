@@ -4,6 +4,7 @@
 use Rattle.std.specs.Prelude.{ℕ, zero, suc, ◌+◌, ◌-◌, ◌*◌, ◌%◌, ◌^◌, ℤ, pos, negsuc, min, Bool, true, false, cond}
 use Rattle.std.specs.Prelude.{not, ◌&&◌, nat_eq, nat_lt, List, [], ◌∷◌, ◌++◌, length, drop, Option, Some, None}
 use Rattle.std.specs.Prelude.{Result, Ok, Err, slice_get, unwrap_or}
+use Rattle.std.specs.List.{list_any}
 use Rattle.plain_data.specs.declared.run.Finish.{Finish}
 use Rattle.plain_data.specs.declared.run.Finish.TheVariants as finish
 use Rattle.plain_data.specs.declared.run.Happening.TheVariants as happening
@@ -49,6 +50,7 @@ use Rattle.c_means.specs.declared.profile.FillAnswer.TheVariants as answer
 use Rattle.c_means.specs.declared.profile.FillFunction.{FillFunction}
 use Rattle.c_means.specs.declared.profile.LogText.{LogText}
 use Rattle.c_means.specs.declared.profile.LogText.TheVariants as log_
+use Rattle.c_means.specs.Marks.{Mark, Prints, Exits, Aborts, Stops}
 use Rattle.c_means.specs.Rules.{Library, Exit, Abort, Malloc, Calloc, Free}
 
 -- ---- answers
@@ -277,7 +279,29 @@ seen_all l env s (e ∷ es) = seen_as l env s e.at e.means ∷ seen_all l env s 
 abbrev pub watched : List Entry → Site → List Entry
 watched named g = named ++ automatic_in g.scope.blocks
 
+abbrev pub offsets_in : List Entry → List ℕ
+offsets_in [] = []
+offsets_in (e ∷ es) = e.at ∷ offsets_in es
+
 -- ---- log calls: the whole text is formed, then printed, and its length is the answer
+
+abbrev pub is_text : Form → Bool
+is_text form.Text = true
+is_text _ = false
+
+abbrev pub is_text_piece : Piece → Bool
+is_text_piece (piece.Literal bytes) = false
+is_text_piece (piece.Converted c) = is_text c.form
+
+-- a `%s` stands among the pieces
+abbrev pub reads_text : List Piece → Bool
+reads_text pieces = list_any is_text_piece pieces
+
+-- its text may be of no live object
+abbrev pub log_marks : List Entry → LogText → Site → List Mark
+log_marks named f g =
+    let ps = log_pieces f g in
+    Prints g.at ps (offsets_in (watched named g)) ∷ cond (reads_text ps) (Stops g.at undefined.Dereference ∷ []) []
 
 -- nothing printed is no event
 abbrev pub prints : Level → List Entry → Site → Env → List ℕ → State → State
@@ -328,6 +352,13 @@ abbrev pub freed : Site → ℕ → State → State
 freed g a d =
     cond (can_free d.store a) (cond (nat_eq a 0) d (with_store (end (object_of a) d.store) d))
     (stopped g.at undefined.Free d)
+
+abbrev pub library_marks : Library → Site → List Mark
+library_marks Exit g = Exits g.at ∷ []
+library_marks Abort g = Aborts g.at ∷ []
+library_marks Malloc g = []
+library_marks Calloc g = []
+library_marks Free g = Stops g.at undefined.Free ∷ []
 
 abbrev pub library_call : Level → Library → Site → List ℤ → ℕ → State → State
 library_call l Exit g vs q d = finished (finish.Exit (value_or_zero vs 0)) d
@@ -405,6 +436,10 @@ fill_by answer.Free l never_null g q a n d =
 fill_by answer.Count l never_null g q a n d =
     cond (is_odd (asked l (q + 3))) (answers g (negsuc 0) (meet (q + 3) d))
     (filled l g q a n (answers g (pos n)) (meets (q + 1) 3 d))
+
+abbrev pub fill_marks : Option FillFunction → Site → List Mark
+fill_marks None g = []
+fill_marks (Some f) g = Stops g.at undefined.Dereference ∷ Stops g.at undefined.LiteralWrite ∷ []
 
 abbrev pub outside_call : Level → Option FillFunction → Bool → Site → List ℤ → ℕ → State → State
 outside_call l None never_null g vs q d = outside_answer (class_in g.ctype) l never_null g q d

@@ -1,6 +1,7 @@
 -- What an expression does (C99 6.5): one function a form, over what its parts do, from left to right.
 use Rattle.std.specs.Prelude.{ℕ, suc, ◌+◌, ◌%◌, ◌^◌, ℤ, pos, Bool, true, false, cond, not, ◌&&◌, List, [], ◌∷◌, ◌++◌}
-use Rattle.std.specs.Prelude.{Option, Some, None, Ok, Err, slice_get, unwrap_or, unsigned_abs}
+use Rattle.std.specs.Prelude.{Option, Some, None, is_some, Ok, Err, slice_get, unwrap_or, unsigned_abs}
+use Rattle.plain_data.specs.declared.run.Undefined.{Undefined}
 use Rattle.plain_data.specs.declared.run.Undefined.TheVariants.{MissingValue}
 use Rattle.plain_data.specs.declared.run.Side.TheVariants as side
 use Rattle.plain_data.specs.declared.run.Happening.TheVariants as happening
@@ -37,33 +38,55 @@ use Rattle.c_language.specs.Typing as says
 use Rattle.c_language.specs.declared.scope.Fault.{Fault}
 use Rattle.c_means.specs.Parts.{State, Outcome, Env, Run, Level, Site, Part, ◌>>=◌, note, stop, refused, returned}
 use Rattle.c_means.specs.Values.{address, class_in, bytes_of, bytes_within, converted_to, value_of_bytes}
-use Rattle.c_means.specs.Objects.{load, put}
+use Rattle.c_means.specs.Marks.{Mark, Calls, sides, stops, unless, operator_kinds, minus_kinds, reads_at, writes_at}
+use Rattle.c_means.specs.Objects.{is_read, load, put}
 use Rattle.c_means.specs.Operators.{Operand, operand, one, kind_in, value_type, target_in, operated, operated_on}
 use Rattle.c_means.specs.Operators.{turned_value, negated, is_scalar_class, works_on}
 
 -- ---- kinds of parts
 
--- how many nodes a part unrolls to, and how many places it takes
+-- how many nodes a part unrolls to, how many places it takes, and what stands at its tokens
 pub record Needs : Type 0 where
   pub size : Level → ℕ
   pub room : Level → ℕ
+  pub marks : Level → List Mark
 
 -- a node without parts
 abbrev pub alone : Needs
-alone = record { size = λ l. 1; room = λ l. 0 }
+alone = record { size = λ l. 1; room = λ l. 0; marks = λ l. [] }
 
 -- a node over its parts, whose places stand one behind another
 abbrev pub over_one : Part → Needs
-over_one x = record { size = λ l. suc (x.size l); room = x.room }
+over_one x = record { size = λ l. suc (x.size l); room = x.room; marks = x.marks }
+
+-- over the address of its part
+abbrev pub over_place : Part → Needs
+over_place x = record (over_one x) { marks = x.place_marks }
 
 abbrev pub over_both : Part → Part → Needs
-over_both x y = record { size = λ l. suc (x.size l + y.size l); room = λ l. x.room l + y.room l }
+over_both x y = record {
+  size = λ l. suc (x.size l + y.size l);
+  room = λ l. x.room l + y.room l;
+  marks = λ l. x.marks l ++ y.marks l;
+}
+
+-- over the address of the first of them
+abbrev pub over_target : Part → Part → Needs
+over_target x y = record (over_both x y) { marks = λ l. x.place_marks l ++ y.marks l }
 
 abbrev pub over_three : Part → Part → Part → Needs
 over_three c x y = record {
   size = λ l. suc (c.size l + (x.size l + y.size l));
   room = λ l. c.room l + (x.room l + y.room l);
+  marks = λ l. c.marks l ++ (x.marks l ++ y.marks l);
 }
+
+-- with what stands at the node's own token
+abbrev pub marked : List Mark → Needs → Needs
+marked own x = record x { marks = λ l. own ++ x.marks l }
+
+abbrev pub with_own : List Mark → Part → Part
+with_own own p = record p { place_marks = λ l. own ++ p.place_marks l; marks = λ l. own ++ p.marks l }
 
 abbrev pub no_text : Level → Option (List ℕ)
 no_text l = None
@@ -83,6 +106,8 @@ valued x needs run = record {
   text = no_text;
   size = needs.size;
   room = needs.room;
+  place_marks = needs.marks;
+  marks = needs.marks;
   reach = nowhere run;
   run = run;
   effect = run;
@@ -93,6 +118,10 @@ loading x rooted reach l env base d = do
   a ← reach l env base d
   load x rooted a.0 a.1
 
+-- a read that may be of no live object
+abbrev pub reading : Typed → Bool → List Mark
+reading x rooted = reads_at (is_read (class_in (type_of x))) x.at rooted
+
 -- an lvalue or function, by its address: its value is what stands there
 abbrev pub placed : Typed → Bool → Needs → (Level → Run ℕ) → Part
 placed x rooted needs reach = record {
@@ -102,6 +131,8 @@ placed x rooted needs reach = record {
   text = no_text;
   size = needs.size;
   room = needs.room;
+  place_marks = needs.marks;
+  marks = λ l. reading x rooted ++ needs.marks l;
   reach = reach;
   run = loading x rooted reach;
   effect = loading x rooted reach;
@@ -175,10 +206,15 @@ both_run x y l env base d = do
   w ← y.run l env (base + x.room l) v.1
   Ok ((v.0, w.0), w.1)
 
+-- what an operator on two values may meet
+abbrev pub operand_kinds : BinaryOperator → Typed → Typed → List Undefined
+operand_kinds op x y = operator_kinds op (kind_in (value_type x)) (kind_in (value_type y))
+
 -- ---- subscripts (C99 6.5.2.1p2): the target of the sum
 
 abbrev pub subscript : ℕ → Part → Part → Part
-subscript at x y = placed (says.subscript at x.typed y.typed) false (over_both x y)
+subscript at x y = placed (says.subscript at x.typed y.typed) false
+    (marked (stops at (operand_kinds o.Add x.typed y.typed)) (over_both x y))
     (λ l env base d. do
       v ← both_run x y l env base d
       a ← operated_on at o.Add x.typed y.typed v.0.0 v.0.1 v.1
@@ -206,7 +242,7 @@ part_of_value offset x z =
 
 -- C99 6.5.2.3p3: of an lvalue the bytes in it, which has the same root; else some bytes of the value
 abbrev pub member_of_lvalue : ℕ → Typed → Part → Part
-member_of_lvalue offset x p = placed x p.rooted (over_one p)
+member_of_lvalue offset x p = placed x p.rooted (over_place p)
     (λ l env base d. do
       a ← p.reach l env base d
       Ok (behind offset a.0, a.1))
@@ -256,8 +292,17 @@ steps_if false at op x l env base d = do
 abbrev pub stepped : ℕ → BinaryOperator → Part → Level → Run (ℤ × ℤ)
 stepped at op x = steps_if (is_updated op x.typed one.kind) at op x
 
+-- what is updated is read and written
+abbrev pub updating : Bool → ℕ → List Undefined → Part → List Mark
+updating true at kinds x = stops at kinds ++ writes_at at x.typed.at x.rooted
+updating false at kinds x = []
+
+abbrev pub stepping : ℕ → BinaryOperator → Part → List Mark
+stepping at op x =
+    updating (is_updated op x.typed one.kind) at (operator_kinds op (kind_in (type_of x.typed)) one.kind) x
+
 abbrev pub postfix_by : ℕ → BinaryOperator → Part → Part
-postfix_by at op x = valued (says.postfix at x.typed) (over_one x)
+postfix_by at op x = valued (says.postfix at x.typed) (marked (stepping at op x) (over_place x))
     (λ l env base d. do
       v ← stepped at op x l env base d
       Ok (v.0.0, v.1))
@@ -268,7 +313,7 @@ postfix at postfix_.Increment x = postfix_by at o.Add x
 postfix at postfix_.Decrement x = postfix_by at o.Subtract x
 
 abbrev pub prefix : ℕ → UnaryOperator → BinaryOperator → Part → Part
-prefix at operator op x = valued (says.unary at operator x.typed) (over_one x)
+prefix at operator op x = valued (says.unary at operator x.typed) (marked (stepping at op x) (over_place x))
     (λ l env base d. do
       v ← stepped at op x l env base d
       Ok (v.0.1, v.1))
@@ -277,7 +322,7 @@ prefix at operator op x = valued (says.unary at operator x.typed) (over_one x)
 
 -- C99 6.5.3.2p3: of `*p` the pointer, of `a[i]` the sum, and nothing is read
 abbrev pub address_of : ℕ → Part → Part
-address_of at x = valued (says.unary at u.Address x.typed) (over_one x)
+address_of at x = valued (says.unary at u.Address x.typed) (over_place x)
     (λ l env base d. do
       a ← x.reach l env base d
       Ok (pos a.0, a.1))
@@ -295,11 +340,16 @@ on_value at operator f x = valued (says.unary at operator x.typed) (over_one x)
       v ← x.run l env base d
       f (operand x.typed.after.tables x.typed v.0) v.1)
 
+-- what `-` may meet, but for a constant expression
+abbrev pub minus_marks : ℕ → Typed → List Mark
+minus_marks at x =
+    stops at (unless (is_some (constant_of (says.unary at u.Minus x))) (minus_kinds (kind_in (value_type x))))
+
 abbrev pub unary : ℕ → UnaryOperator → Part → Part
 unary at u.Address x = address_of at x
 unary at u.Indirection x = indirection at x
 unary at u.Plus x = on_value at u.Plus (turned_value at u.Plus) x
-unary at u.Minus x = on_value at u.Minus (turned_value at u.Minus) x
+unary at u.Minus x = with_own (minus_marks at x.typed) (on_value at u.Minus (turned_value at u.Minus) x)
 unary at u.Complement x = on_value at u.Complement (turned_value at u.Complement) x
 unary at u.Not x = on_value at u.Not negated x
 unary at u.Increment x = prefix at u.Increment o.Add x
@@ -341,7 +391,9 @@ cast at t faults p = cast_as (named_class t) (says.cast at t faults p.typed) p
 
 -- C99 6.5.5 to 6.5.12
 abbrev pub both_evaluated : ℕ → BinaryOperator → Part → Part → Part
-both_evaluated at op x y = valued (says.binary at op x.typed y.typed) (over_both x y)
+both_evaluated at op x y = valued (says.binary at op x.typed y.typed)
+    (marked (stops at (unless (is_some (constant_of (says.binary at op x.typed y.typed)))
+    (operand_kinds op x.typed y.typed))) (over_both x y))
     (λ l env base d. do
       v ← both_run x y l env base d
       operated_on at op x.typed y.typed v.0.0 v.0.1 v.1)
@@ -368,7 +420,7 @@ or_else y l env base false d = truth_of y l env base d
 
 abbrev pub logical :
     ℕ → BinaryOperator → (Part → Level → Env → ℕ → Bool → State → Outcome ℤ) → Part → Part → Part
-logical at op f x y = valued (says.binary at op x.typed y.typed) (over_both x y)
+logical at op f x y = valued (says.binary at op x.typed y.typed) (marked (sides at) (over_both x y))
     (λ l env base d. do
       v ← x.run l env base d
       on_branch at v.0 (f y l env (base + x.room l)) v.1)
@@ -389,7 +441,7 @@ chosen c x y l env base false d = do
   Ok (converted_to c v.0, v.1)
 
 abbrev pub choice_as : ℕ → Typed → Part → Part → Part → Part
-choice_as at t c x y = valued t (over_three c x y)
+choice_as at t c x y = valued t (marked (sides at) (over_three c x y))
     (λ l env base d. do
       v ← c.run l env base d
       on_branch at v.0 (chosen (class_in (type_of t)) x y l env (base + c.room l)) v.1)
@@ -427,8 +479,15 @@ abbrev pub assigned : ℕ → Option BinaryOperator → Part → Part → Level 
 assigned at None x y = simple at x y
 assigned at (Some op) x y = compound at op x y
 
+abbrev pub storing : ℕ → Option BinaryOperator → Part → Part → List Mark
+storing at None x y = writes_at at x.typed.at x.rooted
+storing at (Some op) x y =
+    let kind = kind_in (value_type y.typed) in
+    updating (is_updated op x.typed kind) at (operator_kinds op (kind_in (type_of x.typed)) kind) x
+
 abbrev pub assignment : ℕ → Option BinaryOperator → Part → Part → Part
-assignment at op x y = valued (says.assignment at op x.typed y.typed) (over_both x y) (assigned at op x y)
+assignment at op x y = valued (says.assignment at op x.typed y.typed) (marked (storing at op x y) (over_target x y))
+    (assigned at op x y)
 
 -- ---- the comma operator (C99 6.5.17p2): the left operand's value isn't used
 
@@ -488,6 +547,10 @@ arguments (q ∷ qs) l env base d = do
   vs ← arguments qs l env (base + q.part.room l) v.1
   Ok (converted_to (class_in q.ctype) v.0 ∷ vs.0, vs.1)
 
+abbrev pub all_marks : List Passed → Level → List Mark
+all_marks [] l = []
+all_marks (q ∷ qs) l = q.part.marks l ++ all_marks qs l
+
 abbrev pub passed_types : List Passed → List (Option CType)
 passed_types [] = []
 passed_types (q ∷ qs) = q.ctype ∷ passed_types qs
@@ -531,6 +594,10 @@ answered at x g qs l env base d = do
   v ← calling g qs l env base d
   needed at (class_in (type_of x)) v.0 v.1
 
+-- it is a call, and what its rule says
+abbrev pub call_marks : Site → Level → List Mark
+call_marks g l = Calls g.at ∷ l.marks g
+
 abbrev pub direct_call : ℕ → Typed → (Level → Site) → List Passed → Part
 direct_call at x g qs = record {
   typed = x;
@@ -539,6 +606,8 @@ direct_call at x g qs = record {
   text = λ l. text_at (l.identity (g l).callee.name) (g l).texts;
   size = λ l. suc (all_sizes qs l + l.size (g l));
   room = λ l. all_rooms qs l + l.room (g l);
+  place_marks = λ l. call_marks (g l) l ++ all_marks qs l;
+  marks = λ l. call_marks (g l) l ++ all_marks qs l;
   reach = nowhere (answered at x g qs);
   run = answered at x g qs;
   effect = λ l env base d. do

@@ -23,6 +23,7 @@ use Rattle.c_means.specs.declared.breach.Breach.{Breach}
 use Rattle.c_means.specs.declared.breach.BrokenRule.TheVariants as broken
 use Rattle.c_means.specs.Notes.{Noted, ExprNoted, noted, typed_as, is_static_value}
 use Rattle.c_means.specs.Items.{Arrow, Acts, breach_if, with_value, running}
+use Rattle.c_means.specs.Marks.{Mark}
 
 -- ---- the expressions of an initializer, in order
 
@@ -134,6 +135,9 @@ set_size p x l = cond (is_text_of p.type x.part.typed) 1 (x.part.size l)
 abbrev pub set_room : Part → Noted → Level → ℕ
 set_room p x l = cond (is_text_of p.type x.part.typed) 0 (x.part.room l)
 
+abbrev pub set_marks : Part → Noted → Level → List Mark
+set_marks p x l = cond (is_text_of p.type x.part.typed) [] (x.part.marks l)
+
 -- in order, into their parts
 abbrev pub sets_all : List Part → List Noted → ℕ → Acts
 sets_all [] xs a l env base d = d
@@ -152,6 +156,7 @@ pub record Initial : Type 0 where
   pub called : List Name
   pub size : Level → ℕ
   pub room : Level → ℕ
+  pub marks : Level → List Mark
   pub constant : List Breach
   pub run : ℕ → Acts
 
@@ -174,6 +179,11 @@ all_rooms [] xs l = 0
 all_rooms (p ∷ ps) [] l = 0
 all_rooms (p ∷ ps) (x ∷ xs) l = set_room p x l + all_rooms ps xs l
 
+abbrev pub each_marks : List Part → List Noted → Level → List Mark
+each_marks [] xs l = []
+each_marks (p ∷ ps) [] l = []
+each_marks (p ∷ ps) (x ∷ xs) l = set_marks p x l ++ each_marks ps xs l
+
 -- what has no type breaks a rule already
 abbrev pub not_static : Noted → List Breach
 not_static x =
@@ -190,6 +200,7 @@ initial_of braced y xs = record {
   called = all_called xs;
   size = all_sizes y.parts xs;
   room = all_rooms y.parts xs;
+  marks = each_marks y.parts xs;
   constant = all_not_static xs;
   run = λ a. sets_all y.parts xs a;
 }
@@ -206,6 +217,7 @@ uninitialised = record {
   called = [];
   size = λ l. 0;
   room = λ l. 0;
+  marks = λ l. [];
   constant = [];
   run = λ a l env base d. d;
 }

@@ -13,6 +13,7 @@ use Rattle.c_language.specs.declared.scope.Fault.{Fault}
 use Rattle.c_language.specs.Scopes.{Name, Scope, enter, leave}
 use Rattle.c_means.specs.declared.kind.Kind.{Kind}
 use Rattle.c_means.specs.declared.kind.Kind.TheVariants as k
+use Rattle.c_means.specs.Marks.{Mark}
 use Rattle.c_means.specs.Parts.{State, Env, Outcome, Level, Site, meet, with_store}
 use Rattle.c_means.specs.declared.breach.Breach.{Breach}
 use Rattle.c_means.specs.declared.breach.BrokenRule.{BrokenRule}
@@ -104,8 +105,8 @@ pub record Lasting : Type 0 where
 -- What a statement or declaration is worth as an item of a block: the rules that it breaks; the scope behind it; the
 -- cases that it gives to the `switch` whose block it is in; the calls in it, the functions that it calls; the
 -- objects that live throughout the run; how many nodes it is in the measure, and how many places it takes; the
--- objects that it gives to its block; and what it does. `links` are the names of the objects and functions with
--- linkage that it declares.
+-- objects that it gives to its block; what stands at its tokens; and what it does. `links` are the names of the objects
+-- and functions with linkage that it declares.
 pub record Item : Type 0 where
   pub breaches : List Breach
   pub after : Scope
@@ -117,6 +118,7 @@ pub record Item : Type 0 where
   pub size : Level → ℕ
   pub room : Level → ℕ
   pub objects : Level → ℕ → List Made
+  pub marks : Level → List Mark
   pub run : Acts
 
 abbrev pub nothing : Scope → Item
@@ -131,6 +133,7 @@ nothing s = record {
   size = λ l. 0;
   room = λ l. 0;
   objects = λ l base. [];
+  marks = λ l. [];
   run = passes;
 }
 
@@ -147,11 +150,16 @@ followed x y = record {
   size = λ l. x.size l + y.size l;
   room = λ l. x.room l + y.room l;
   objects = λ l base. x.objects l base ++ y.objects l (base + x.room l);
+  marks = λ l. x.marks l ++ y.marks l;
   run = λ l env base d. y.run l env (base + x.room l) (x.run l env base d);
 }
 
 abbrev pub with_breaches : List Breach → Item → Item
 with_breaches bs x = record x { breaches = bs ++ x.breaches }
+
+-- with what stands at its own token
+abbrev pub marked : List Mark → Item → Item
+marked own x = record x { marks = λ l. own ++ x.marks l }
 
 -- one node more in the measure
 abbrev pub node : Item → Item

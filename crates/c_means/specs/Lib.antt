@@ -1,3 +1,4 @@
+pub mod Marks
 pub mod Parts
 pub mod Values
 pub mod Objects

@@ -14,6 +14,7 @@ use Rattle.c_language.specs.Scopes.{Name, Scope}
 use Rattle.c_language.specs.Typing.{Typed}
 use Rattle.c_means.specs.declared.kind.Kind.{Kind}
 use Rattle.c_means.specs.declared.kind.Kind.TheVariants as kind
+use Rattle.c_means.specs.Marks.{Mark}
 
 -- ---- states
 
@@ -130,7 +131,8 @@ Calls = Site → Env → List ℤ → ℕ → Store → ℕ → State
 -- limit of texts. `static` is the number of a function, of an object that lives throughout the run, of a string
 -- literal and of `__func__`, each by its offset (that of the first declaration). `identity` tells which argument is
 -- answered by a function that hands on its argument. `size` and `room` are how many nodes and places a call adds to
--- those of its arguments, and `call` is what it does, each with one level of depth fewer.
+-- those of its arguments, and `call` is what it does, each with one level of depth fewer. `marks` is what stands at the
+-- callee's name by the rule that the call follows.
 pub record Level : Type 0 where
   pub world : World
   pub limits : Limits
@@ -139,6 +141,7 @@ pub record Level : Type 0 where
   pub identity : Name → Option ℕ
   pub size : Site → ℕ
   pub room : Site → ℕ
+  pub marks : Site → List Mark
   pub call : Calls
 
 -- the caller goes on behind what was called, with what that printed, noted and met behind its own
@@ -165,7 +168,8 @@ returned d r = returned_in d r r.kind
 -- the root of the lvalue that it is is a name, its bytes where it is a string literal (through parentheses, and calls
 -- of identity functions), how many nodes it unrolls to, those of called bodies too, and how many places it takes.
 -- `reach` is the address of an lvalue or function, `run` its value, and `effect` what it does where its value isn't
--- used.
+-- used; what stands at its tokens where it is evaluated, used or not, is `marks`, and where its address is found
+-- `place_marks`.
 pub record Part : Type 0 where
   pub typed : Typed
   pub is_place : Bool
@@ -173,6 +177,8 @@ pub record Part : Type 0 where
   pub text : Level → Option (List ℕ)
   pub size : Level → ℕ
   pub room : Level → ℕ
+  pub place_marks : Level → List Mark
+  pub marks : Level → List Mark
   pub reach : Level → Run ℕ
   pub run : Level → Run ℤ
   pub effect : Level → Run ℤ

@@ -30,7 +30,8 @@ use Rattle.c_means.specs.Rules.{Taking, Rules, LogCall, IdentityCall, BodyCall, 
 use Rattle.c_means.specs.Rules.{rule_by, log_of, identity_index, fill_of, library_of, callee_taking, declared_taking}
 use Rattle.c_means.specs.Rules.{same_taking, is_among}
 use Rattle.c_means.specs.Calls.{asked, finished, meets, log_call, log_pieces, pointers_in, identity_call}
-use Rattle.c_means.specs.Calls.{library_call, outside_call}
+use Rattle.c_means.specs.Calls.{library_call, outside_call, log_marks, library_marks, fill_marks}
+use Rattle.c_means.specs.Marks.{Mark, Enters}
 use Rattle.c_means.specs.Programs.{Function, Outer, Program, functions_of, function_named, main', Needs, Text}
 use Rattle.c_means.specs.Programs.{needs_of, watched_lasting}
 
@@ -159,6 +160,7 @@ bare m turns = record {
   identity = identity_index m.profile;
   size = λ g. 0;
   room = λ g. 0;
+  marks = λ g. [];
   call = λ g env vs base s count. finished (finish.Left g.at) (entered s count);
 }
 
@@ -197,6 +199,15 @@ size_by m below (LibraryCall f) = 0
 size_by m below (PreludeCall f) = size_below below f m.limits.texts
 size_by m below OutsideCall = 0
 
+-- what stands at the callee's name, in a function that calls
+abbrev pub marks_by : Machine → Function → Site → Rules Function → List Mark
+marks_by m caller g (LogCall text) = log_marks (watched_lasting m.program.scope caller) text g
+marks_by m caller g (IdentityCall i) = []
+marks_by m caller g (BodyCall f) = Enters g.at f.name ∷ []
+marks_by m caller g (LibraryCall f) = library_marks f g
+marks_by m caller g (PreludeCall f) = Enters g.at f.name ∷ []
+marks_by m caller g OutsideCall = fill_marks (fill_of m.profile g.callee.name) g
+
 abbrev pub is_never_null : Machine → Site → Bool
 is_never_null m g = is_among g.callee.name m.profile.never_null
 
@@ -217,6 +228,7 @@ abbrev pub level : Machine → Below → Function → ℕ → Level
 level m below f turns = record (bare m turns) {
   size = λ g. size_by m below (rule_of m g);
   room = λ g. room_by m below g (rule_of m g);
+  marks = λ g. marks_by m f g (rule_of m g);
   call = λ g. call_by m f turns below (rule_of m g) g;
 }
 
@@ -224,6 +236,11 @@ level m below f turns = record (bare m turns) {
 unfoldable pub level_of : Machine → ℕ → Function → ℕ → Level
 level_of m zero f turns = level m None f turns
 level_of m (suc n) f turns = level m (Some (level_of m n)) f turns
+
+-- ---- what stands at the tokens of a function, whatever calls it
+
+abbrev pub function_marks : Machine → Function → List Mark
+function_marks m f = f.body.marks (level_of m 0 f m.limits.turns)
 
 -- ---- objects that live throughout the run (C99 6.2.4p3)
 

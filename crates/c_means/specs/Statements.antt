@@ -39,7 +39,8 @@ use Rattle.c_means.specs.declared.breach.Breach.{Breach}
 use Rattle.c_means.specs.declared.breach.BrokenRule.TheVariants as broken
 use Rattle.c_means.specs.Notes.{Noted, ExprNoted, noted, declarator_noted, specifier_noted}
 use Rattle.c_means.specs.Items.{Arrow, Acts, Case, Lasting, Item, Label, Context, Code, breach, breach_if, typing}
-use Rattle.c_means.specs.Items.{running, become, arrive, passes, with_value, nothing, followed, with_breaches, node}
+use Rattle.c_means.specs.Items.{running, become, arrive, passes, with_value, nothing, followed, with_breaches, marked, node}
+use Rattle.c_means.specs.Marks.{Mark, Takes, sides}
 use Rattle.c_means.specs.Items.{guarded, closed, without_cases, in_scope, opened, block_of, unchosen, sub, in_turn}
 use Rattle.c_means.specs.Items.{labels_of, every_of, past_break, past_continue, past_switch, at_label, at_case}
 use Rattle.c_means.specs.Items.{at_default, same}
@@ -55,6 +56,7 @@ plain x s bs run = record (nothing s) {
   called = x.notes.called;
   size = x.part.size;
   room = x.part.room;
+  marks = x.part.marks;
   run = λ l env base. running (run l env base);
 }
 
@@ -86,6 +88,7 @@ automatic e n x s = record (nothing s) {
   size = λ l. 1 + x.size l;
   room = λ l. 1 + x.room l;
   objects = λ l base. record { at = e.at; place = base; size = n } ∷ [];
+  marks = x.marks;
   run = λ l env base. running (λ d. x.run (start (env e.at)) l env (base + 1)
       (zeroed_if x.is_zeroed (start (env e.at)) n d));
 }
@@ -109,7 +112,7 @@ link name linkage.None = []
 link name linkage.Internal = name ∷ []
 link name linkage.External = name ∷ []
 
--- an object with static storage duration
+-- an object with static storage duration; what is declared elsewhere has no initializer
 abbrev pub lasting : ℕ → Entry → ℕ → Linkage → Bool → Initial → Scope → Item
 lasting at e n l defined x s = record (nothing s) {
   breaches = x.constant;
@@ -117,6 +120,7 @@ lasting at e n l defined x s = record (nothing s) {
   lasting = lasting_object at e n defined x ∷ [];
   links = link e.name l;
   size = λ l. cond defined (1 + x.size l) 0;
+  marks = λ l. cond defined (x.marks l) [];
 }
 
 -- by what the name means: only objects act
@@ -250,7 +254,10 @@ chosen_by at value x = record x { cases = record { at = at; value = value } ∷ 
 abbrev pub case_of : ℕ → Noted → Option ℤ → Item → Item
 case_of at x None y = y
 case_of at x (Some z) y =
-    record (chosen_by at (Some z) (arrived (at_case (Some z)) y)) { size = λ l. 1 + (x.part.size l + y.size l) }
+    record (chosen_by at (Some z) (arrived (at_case (Some z)) y)) {
+      size = λ l. 1 + (x.part.size l + y.size l);
+      marks = λ l. x.part.marks l ++ y.marks l;
+    }
 
 abbrev pub case_item : ℕ → Noted → Code → Context → Item
 case_item at x body c =
@@ -305,7 +312,7 @@ abbrev pub if_item : ℕ → Noted → Item → Item → Item
 if_item at x first second =
     node (record (acting (if_runs at x first second)
     (with_breaches (condition_breaches at x)
-    (followed (tested x) (followed first second)))) { after = leave second.after })
+    (marked (sides at) (followed (tested x) (followed first second))))) { after = leave second.after })
 
 abbrev pub maybe_sub : Option Code → Context → Item
 maybe_sub None c = nothing c.scope
@@ -372,12 +379,24 @@ switch_runs at x body l env base d =
     let z = converted (switch_kind x) v in
     arrive past_switch (body.run l env (base + x.part.room l) (choose at (chosen body.cases z) z d)))
 
+abbrev pub case_marks : ℕ → List Case → List Mark
+case_marks at [] = []
+case_marks at (x ∷ xs) = case_mark at x.value ++ case_marks at xs
+  where
+    case_mark : ℕ → Option ℤ → List Mark
+    case_mark at None = []
+    case_mark at (Some z) = Takes at (side.Case z) ∷ []
+
+-- each case in order, then none of them
+abbrev pub switch_marks : ℕ → List Case → List Mark
+switch_marks at cases = case_marks at cases ++ Takes at side.Otherwise ∷ []
+
 -- C99 6.8.4.2
 abbrev pub switch_item : ℕ → Noted → Item → Item
 switch_item at x body =
     node (record (acting (switch_runs at x body)
     (with_breaches (switch_breaches at x ++ repeated_cases [] body.cases)
-    (followed (tested x) body))) { after = leave body.after })
+    (marked (switch_marks at body.cases) (followed (tested x) body)))) { after = leave body.after })
 
 abbrev pub switch_context : Noted → Context → Context
 switch_context x c = record (in_scope x.part.typed.after c) { breaks = true; chooses = Some (switch_kind x) }
@@ -397,7 +416,7 @@ pub record Test : Type 0 where
 
 abbrev pub test_of : ℕ → Noted → Test
 test_of at x = record {
-  item = with_breaches (condition_breaches at x) (tested x);
+  item = with_breaches (condition_breaches at x) (marked (sides at) (tested x));
   run = λ l env base go d. with_value (x.part.run l env base d) (λ v. on_branch at v go);
 }
 
@@ -437,8 +456,10 @@ each_turn x = record x {
 -- C99 6.8.5.1, 6.8.5.3: the test stands before each turn
 abbrev pub looped : ℕ → Test → Item → Item → Item
 looped at test body step =
-    acting (λ l env base d. arrive past_break (turns_from at test body step l env l.turns base d))
-    (each_turn (followed test.item (followed body step)))
+    record (acting (λ l env base d. arrive past_break (turns_from at test body step l env l.turns base d))
+    (each_turn (followed test.item (followed body step)))) {
+      marks = λ l. test.item.marks l ++ (step.marks l ++ body.marks l);
+    }
 
 -- C99 6.8.5.2: the test stands behind each turn
 abbrev pub rounds_from : ℕ → Item → Test → Level → Env → ℕ → ℕ → Arrow
@@ -450,8 +471,8 @@ rounds_from at body test l env (suc n) base d =
 
 abbrev pub repeated : ℕ → Item → Test → Item
 repeated at body test =
-    acting (λ l env base d. arrive past_break (rounds_from at body test l env l.turns base d))
-    (each_turn (followed body test.item))
+    record (acting (λ l env base d. arrive past_break (rounds_from at body test l env l.turns base d))
+    (each_turn (followed body test.item))) { marks = λ l. test.item.marks l ++ body.marks l }
 
 -- `break` and `continue` in a loop are its own (C99 6.8.6.2, 6.8.6.3)
 abbrev pub in_loop : Scope → Context → Context

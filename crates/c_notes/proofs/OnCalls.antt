@@ -46,6 +46,7 @@ some_level p = record {
   identity = identity_index p;
   size = λ g. 0;
   room = λ g. 0;
+  marks = λ g. [];
   call = λ g env vs base s count. entered s count;
 }
 

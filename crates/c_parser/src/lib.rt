@@ -19,4 +19,4 @@ mod turns;
 pub mod unit;
 
 pub use c_reading::ParseFault;
-pub use unit::parse;
+pub use unit::{discard, parse};

@@ -11,6 +11,11 @@ use c_reading::ParseFault;
 use plain_data::Shared;
 use std::alloc::Global;
 
+/// Lets a unit go. Each crate that lets one go by itself proves anew how a whole tree is let go.
+pub fn discard(unit: Unit) {
+    drop(unit);
+}
+
 /// `translation-unit: { external-declaration }` (C99 6.9): the unit that a source's tokens derive, the only one that
 /// they do. Where they stand one behind another, as `lex` answers them, each one's place is found at its start.
 ///

@@ -38,6 +38,7 @@ still l = record {
   identity = l.identity;
   size = l.size;
   room = l.room;
+  marks = λ g. [];
   call = λ g env vs base s count. entered s count;
 }
 
@@ -46,30 +47,33 @@ pub record Blind (x : Part) : Type 0 where
   pub size : (l : Level) → x.size l ≡ x.size (still l)
   pub room : (l : Level) → x.room l ≡ x.room (still l)
 
-pub record BlindNeeds (n : Needs) : Type 0 where
-  pub size : (l : Level) → n.size l ≡ n.size (still l)
-  pub room : (l : Level) → n.room l ≡ n.room (still l)
+pub record BlindCounts (size room : Level → ℕ) : Type 0 where
+  pub sizes : (l : Level) → size l ≡ size (still l)
+  pub rooms : (l : Level) → room l ≡ room (still l)
+
+abbrev pub BlindNeeds : Needs → Type 0
+BlindNeeds n = BlindCounts n.size n.room
 
 one_needs : (x : Part) → Blind x → BlindNeeds (over_one x)
-one_needs x h = record { size = λ l. ap suc (h.size l); room = h.room }
+one_needs x h = record { sizes = λ l. ap suc (h.size l); rooms = h.room }
 
 both_need : (x y : Part) → Blind x → Blind y → BlindNeeds (over_both x y)
 both_need x y hx hy = record {
-  size = λ l. omega (arith, hx.size l, hy.size l);
-  room = λ l. omega (arith, hx.room l, hy.room l);
+  sizes = λ l. omega (arith, hx.size l, hy.size l);
+  rooms = λ l. omega (arith, hx.room l, hy.room l);
 }
 
 three_need : (e x y : Part) → Blind e → Blind x → Blind y → BlindNeeds (over_three e x y)
 three_need e x y he hx hy = record {
-  size = λ l. omega (arith, he.size l, hx.size l, hy.size l);
-  room = λ l. omega (arith, he.room l, hx.room l, hy.room l);
+  sizes = λ l. omega (arith, he.size l, hx.size l, hy.size l);
+  rooms = λ l. omega (arith, he.room l, hx.room l, hy.room l);
 }
 
 value_blind : (t : Typed) (n : Needs) (r : Level → Run ℤ) → BlindNeeds n → Blind (valued t n r)
-value_blind t n r h = record { text = λ l. refl; size = h.size; room = h.room }
+value_blind t n r h = record { text = λ l. refl; size = h.sizes; room = h.rooms }
 
 place_blind : (t : Typed) (rooted : Bool) (n : Needs) (r : Level → Run ℕ) → BlindNeeds n → Blind (placed t rooted n r)
-place_blind t rooted n r h = record { text = λ l. refl; size = h.size; room = h.room }
+place_blind t rooted n r h = record { text = λ l. refl; size = h.sizes; room = h.rooms }
 
 -- ---- forms
 
@@ -85,27 +89,27 @@ identifier_blind at s None = record { text = λ l. refl; size = λ l. refl; room
 identifier_blind at s (Some e) = named_blind (says.identifier at s (Some e)) e.at e.means
 
 member_blind : (b : Bool) (offset : ℕ) (t : Typed) (x : Part) → Blind x → Blind (member_by b offset t x)
-member_blind true offset t x h = place_blind t x.rooted (over_one x) _ (one_needs x h)
-member_blind false offset t x h = value_blind t (over_one x) _ (one_needs x h)
+member_blind true offset t x h = place_blind t x.rooted _ _ (one_needs x h)
+member_blind false offset t x h = value_blind t _ _ (one_needs x h)
 
 postfix_blind : (at : ℕ) (op : PostfixOperator) (x : Part) → Blind x → Blind (postfix at op x)
-postfix_blind at postfix_.Increment x h = value_blind _ (over_one x) _ (one_needs x h)
-postfix_blind at postfix_.Decrement x h = value_blind _ (over_one x) _ (one_needs x h)
+postfix_blind at postfix_.Increment x h = value_blind _ _ _ (one_needs x h)
+postfix_blind at postfix_.Decrement x h = value_blind _ _ _ (one_needs x h)
 
 unary_blind : (at : ℕ) (op : UnaryOperator) (x : Part) → Blind x → Blind (unary at op x)
-unary_blind at u.Address x h = value_blind _ (over_one x) _ (one_needs x h)
-unary_blind at u.Indirection x h = place_blind _ false (over_one x) _ (one_needs x h)
-unary_blind at u.Plus x h = value_blind _ (over_one x) _ (one_needs x h)
-unary_blind at u.Minus x h = value_blind _ (over_one x) _ (one_needs x h)
-unary_blind at u.Complement x h = value_blind _ (over_one x) _ (one_needs x h)
-unary_blind at u.Not x h = value_blind _ (over_one x) _ (one_needs x h)
-unary_blind at u.Increment x h = value_blind _ (over_one x) _ (one_needs x h)
-unary_blind at u.Decrement x h = value_blind _ (over_one x) _ (one_needs x h)
+unary_blind at u.Address x h = value_blind _ _ _ (one_needs x h)
+unary_blind at u.Indirection x h = place_blind _ false _ _ (one_needs x h)
+unary_blind at u.Plus x h = value_blind _ _ _ (one_needs x h)
+unary_blind at u.Minus x h = value_blind _ _ _ (one_needs x h)
+unary_blind at u.Complement x h = value_blind _ _ _ (one_needs x h)
+unary_blind at u.Not x h = value_blind _ _ _ (one_needs x h)
+unary_blind at u.Increment x h = value_blind _ _ _ (one_needs x h)
+unary_blind at u.Decrement x h = value_blind _ _ _ (one_needs x h)
 
 binary_blind : (at : ℕ) (op : BinaryOperator) (x y : Part) → Blind x → Blind y → Blind (binary at op x y)
-binary_blind at o.LogicalAnd x y hx hy = value_blind _ (over_both x y) _ (both_need x y hx hy)
-binary_blind at o.LogicalOr x y hx hy = value_blind _ (over_both x y) _ (both_need x y hx hy)
-binary_blind at op x y hx hy = value_blind _ (over_both x y) _ (both_need x y hx hy)
+binary_blind at o.LogicalAnd x y hx hy = value_blind _ _ _ (both_need x y hx hy)
+binary_blind at o.LogicalOr x y hx hy = value_blind _ _ _ (both_need x y hx hy)
+binary_blind at op x y hx hy = value_blind _ _ _ (both_need x y hx hy)
 
 -- ---- calls
 
@@ -184,7 +188,7 @@ steps = record {
   on_parenthesized = λ at x hx. holds _ _ (meaning.means-Parenthesized at x) hx;
   on_subscript = λ at x y hx hy. holds _ _ (meaning.means-Subscript at x y)
       (λ s. let y' = part y (part x s).typed.after in
-      place_blind _ false (over_both (part x s) y') _
+      place_blind _ false _ _
       (both_need (part x s) y' (hx s) (hy (part x s).typed.after)));
   on_call = λ at f es hf hs. holds _ _ (meaning.means-Call at f es)
       (λ s. let g = part f s in
@@ -197,7 +201,7 @@ steps = record {
       member_blind y.is_place (offset_of y.typed.after.tables (type_of y.typed) n)
       (says.member at n y.typed) y (hx s));
   on_arrow = λ at x n hx. holds _ _ (meaning.means-Arrow at x n)
-      (λ s. place_blind _ false (over_one (part x s)) _ (one_needs (part x s) (hx s)));
+      (λ s. place_blind _ false _ _ (one_needs (part x s) (hx s)));
   on_postfix = λ at op x hx. holds _ _ (meaning.means-Postfix at op x) (λ s. postfix_blind at op (part x s) (hx s));
   on_unary = λ at op x hx. holds _ _ (meaning.means-Unary at op x) (λ s. unary_blind at op (part x s) (hx s));
   on_sizeof_expr = λ at x hx. holds _ _ (meaning.means-SizeofExpr at x)
@@ -206,21 +210,21 @@ steps = record {
       (λ s. record { text = λ l. refl; size = λ l. refl; room = λ l. refl });
   on_cast = λ at t x ht hx. holds _ _ (meaning.means-Cast at t x)
       (λ s. let y = part x (type_name_said t s).after in
-      value_blind _ (over_one y) _ (one_needs y (hx (type_name_said t s).after)));
+      value_blind _ _ _ (one_needs y (hx (type_name_said t s).after)));
   on_binary = λ at op x y hx hy. holds _ _ (meaning.means-Binary at op x y)
       (λ s. binary_blind at op (part x s) (part y (part x s).typed.after) (hx s) (hy (part x s).typed.after));
   on_conditional = λ at e x y he hx hy. holds _ _ (meaning.means-Conditional at e x y)
       (λ s. let f = part e s in
       let g = part x f.typed.after in
       let h = part y g.typed.after in
-      value_blind _ (over_three f g h) _ (three_need f g h (he s) (hx f.typed.after) (hy g.typed.after)));
+      value_blind _ _ _ (three_need f g h (he s) (hx f.typed.after) (hy g.typed.after)));
   on_assign = λ at op x y hx hy. holds _ _ (meaning.means-Assign at op x y)
       (λ s. let y' = part y (part x s).typed.after in
-      value_blind _ (over_both (part x s) y') _
+      value_blind _ _ _
       (both_need (part x s) y' (hx s) (hy (part x s).typed.after)));
   on_comma = λ at x y hx hy. holds _ _ (meaning.means-Comma at x y)
       (λ s. let y' = part y (part x s).typed.after in
-      value_blind _ (over_both (part x s) y') _
+      value_blind _ _ _
       (both_need (part x s) y' (hx s) (hy (part x s).typed.after)));
   on_specifier_storage = λ at k. tt;
   on_specifier_qualifier = λ at q. tt;

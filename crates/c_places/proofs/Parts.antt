@@ -177,7 +177,7 @@ module _ (w : ℕ → ℕ) (p : ℕ) (l : Level) (c : Calling w p l) where
 
   pub subscript_keeps : (at : ℕ) (x y : Part) → K x → K y → K (subscript at x y)
   subscript_keeps at x y hx hy =
-      place_keeps (says.subscript at x.typed y.typed) false (over_both x y) _
+      place_keeps (says.subscript at x.typed y.typed) false _ _
       (behind (x.room l + y.room l) (both_run x y l)
       (λ env base v. operated_on at o.Add x.typed y.typed v.0.0 v.0.1 v.1 >>= (λ a. Ok (address a.0, a.1)))
       (both x y hx hy)
@@ -187,18 +187,18 @@ module _ (w : ℕ → ℕ) (p : ℕ) (l : Level) (c : Calling w p l) where
 
   pub member_keeps : (b : Bool) (offset : ℕ) (t : Typed) (x : Part) → K x → K (member_by b offset t x)
   member_keeps true offset t x hx =
-      place_keeps t x.rooted (over_one x) _
+      place_keeps t x.rooted _ _
       (behind (x.room l) (x.reach l) (λ env base a. Ok
       (Rattle.c_means.specs.Expressions.behind offset a.0, a.1)) hx.reach
       (λ env base a i. quiet p i (Rattle.c_means.specs.Expressions.behind offset a.0) a.1))
   member_keeps false offset t x hx =
-      value_keeps t (over_one x) _
+      value_keeps t _ _
       (behind (x.room l) (x.run l) (λ env base v. Ok (part_of_value offset t v.0, v.1)) hx.run
       (λ env base v i. quiet p i (part_of_value offset t v.0) v.1))
 
   pub arrow_keeps : (at : ℕ) (name : Name) (x : Part) → K x → K (arrow at name x)
   arrow_keeps at name x hx =
-      place_keeps (says.arrow at name x.typed) false (over_one x) _
+      place_keeps (says.arrow at name x.typed) false _ _
       (behind (x.room l) (x.run l) (λ env base v. Ok (target v.0, v.1)) hx.run
       (λ env base v i. quiet p i (target v.0) v.1))
     where
@@ -233,7 +233,7 @@ module _ (w : ℕ → ℕ) (p : ℕ) (l : Level) (c : Calling w p l) where
 
   pub postfix_by_keeps : (at : ℕ) (op : BinaryOperator) (x : Part) → K x → K (postfix_by at op x)
   postfix_by_keeps at op x hx =
-      value_keeps (says.postfix at x.typed) (over_one x) _
+      value_keeps (says.postfix at x.typed) _ _
       (behind (x.room l) (stepped at op x l) (λ env base v. Ok (v.0.0, v.1))
       (steps (is_updated op x.typed one.kind) at op x hx)
       (λ env base v i. quiet p i v.0.0 v.1))
@@ -244,7 +244,7 @@ module _ (w : ℕ → ℕ) (p : ℕ) (l : Level) (c : Calling w p l) where
 
   pub prefix_keeps : (at : ℕ) (u : UnaryOperator) (op : BinaryOperator) (x : Part) → K x → K (prefix at u op x)
   prefix_keeps at u op x hx =
-      value_keeps (says.unary at u x.typed) (over_one x) _
+      value_keeps (says.unary at u x.typed) _ _
       (behind (x.room l) (stepped at op x l) (λ env base v. Ok (v.0.1, v.1))
       (steps (is_updated op x.typed one.kind) at op x hx)
       (λ env base v i. quiet p i v.0.1 v.1))
@@ -252,21 +252,23 @@ module _ (w : ℕ → ℕ) (p : ℕ) (l : Level) (c : Calling w p l) where
   pub on_value_keeps : (at : ℕ) (u : UnaryOperator) (f : Operand → State → Outcome ℤ) (x : Part) →
       ((y : Operand) (d : State) → Quiet p d (f y d)) → K x → K (on_value at u f x)
   on_value_keeps at u f x q hx =
-      value_keeps (says.unary at u x.typed) (over_one x) _
+      value_keeps (says.unary at u x.typed) _ _
       (behind (x.room l) (x.run l) (λ env base v. f (operand x.typed.after.tables x.typed v.0) v.1) hx.run
       (λ env base v. q (operand x.typed.after.tables x.typed v.0) v.1))
 
   pub unary_keeps : (at : ℕ) (op : UnaryOperator) (x : Part) → K x → K (unary at op x)
   unary_keeps at u.Address x hx =
-      value_keeps (says.unary at u.Address x.typed) (over_one x) _
+      value_keeps (says.unary at u.Address x.typed) _ _
       (behind (x.room l) (x.reach l) (λ env base a. Ok (pos a.0, a.1)) hx.reach
       (λ env base a i. quiet p i (pos a.0) a.1))
   unary_keeps at u.Indirection x hx =
-      place_keeps (says.unary at u.Indirection x.typed) false (over_one x) _
+      place_keeps (says.unary at u.Indirection x.typed) false _ _
       (behind (x.room l) (x.run l) (λ env base v. Ok (address v.0, v.1)) hx.run
       (λ env base v i. quiet p i (address v.0) v.1))
   unary_keeps at u.Plus x hx = on_value_keeps at u.Plus (turned_value at u.Plus) x (turns p at u.Plus) hx
-  unary_keeps at u.Minus x hx = on_value_keeps at u.Minus (turned_value at u.Minus) x (turns p at u.Minus) hx
+  unary_keeps at u.Minus x hx =
+      let value = on_value_keeps at u.Minus (turned_value at u.Minus) x (turns p at u.Minus) hx in
+      record { reach = value.reach; run = value.run; effect = value.effect }
   unary_keeps at u.Complement x hx =
       on_value_keeps at u.Complement (turned_value at u.Complement) x (turns p at u.Complement) hx
   unary_keeps at u.Not x hx =
@@ -286,7 +288,7 @@ module _ (w : ℕ → ℕ) (p : ℕ) (l : Level) (c : Calling w p l) where
 
   pub cast_as_keeps : (cl : Class) (t : Typed) (x : Part) → K x → K (cast_as cl t x)
   cast_as_keeps cl t x hx =
-      value_keeps t (over_one x) _
+      value_keeps t _ _
       (behind (x.room l) (cast_operand cl x l) (λ env base v. Ok (converted_to cl v.0, v.1)) (cast_within cl x hx)
       (λ env base v i. quiet p i (converted_to cl v.0) v.1))
 
@@ -294,7 +296,7 @@ module _ (w : ℕ → ℕ) (p : ℕ) (l : Level) (c : Calling w p l) where
 
   pub both_evaluated_keeps : (at : ℕ) (op : BinaryOperator) (x y : Part) → K x → K y → K (both_evaluated at op x y)
   both_evaluated_keeps at op x y hx hy =
-      value_keeps (says.binary at op x.typed y.typed) (over_both x y) _
+      value_keeps (says.binary at op x.typed y.typed) _ _
       (behind (x.room l + y.room l) (both_run x y l)
       (λ env base v. operated_on at op x.typed y.typed v.0.0 v.0.1 v.1) (both x y hx hy)
       (λ env base v. operates_on p at op x.typed y.typed v.0.0 v.0.1 v.1))
@@ -327,7 +329,7 @@ module _ (w : ℕ → ℕ) (p : ℕ) (l : Level) (c : Calling w p l) where
       (x y : Part) →
       K x → ((b : Bool) → Within w p (y.room l) (λ env base d. f y l env base b d)) → K (logical at op f x y)
   logical_keeps at op f x y hx hf =
-      value_keeps (says.binary at op x.typed y.typed) (over_both x y) _
+      value_keeps (says.binary at op x.typed y.typed) _ _
       (in_order (x.room l) (y.room l) (x.run l) (λ z env base d. on_branch at z (f y l env base) d) hx.run
       (branches at (y.room l) (f y l) hf))
 
@@ -350,7 +352,7 @@ module _ (w : ℕ → ℕ) (p : ℕ) (l : Level) (c : Calling w p l) where
 
   pub choice_keeps : (at : ℕ) (t : Typed) (e x y : Part) → K e → K x → K y → K (choice_as at t e x y)
   choice_keeps at t e x y he hx hy =
-      value_keeps t (over_three e x y) _
+      value_keeps t _ _
       (in_order (e.room l) (x.room l + y.room l) (e.run l)
       (λ z env base d. on_branch at z (chosen (class_in (type_of t)) x y l env base) d) he.run
       (branches at (x.room l + y.room l) (chosen (class_in (type_of t)) x y l)
@@ -389,14 +391,14 @@ module _ (w : ℕ → ℕ) (p : ℕ) (l : Level) (c : Calling w p l) where
 
   pub assignment_keeps : (at : ℕ) (op : Option BinaryOperator) (x y : Part) → K x → K y → K (assignment at op x y)
   assignment_keeps at None x y hx hy =
-      value_keeps (says.assignment at None x.typed y.typed) (over_both x y) _ (simple_within at x y hx hy)
+      value_keeps (says.assignment at None x.typed y.typed) _ _ (simple_within at x y hx hy)
   assignment_keeps at (Some op) x y hx hy =
-      value_keeps (says.assignment at (Some op) x.typed y.typed) (over_both x y) _
+      value_keeps (says.assignment at (Some op) x.typed y.typed) _ _
       (compound_within (is_updated op x.typed (kind_in (value_type y.typed))) at op x y hx hy)
 
   pub comma_keeps : (at : ℕ) (x y : Part) → K x → K y → K (comma at x y)
   comma_keeps at x y hx hy =
-      value_keeps (says.comma at x.typed y.typed) (over_both x y) _
+      value_keeps (says.comma at x.typed y.typed) _ _
       (in_order (x.room l) (y.room l) (x.effect l) (λ v env base d. y.run l env base d) hx.effect (λ v. hy.run))
 
   -- ---- calls

@@ -18,7 +18,8 @@ use Rattle.c_means.specs.Expressions.{on_branch}
 use Rattle.c_means.specs.declared.breach.Breach.{Breach}
 use Rattle.c_means.specs.Notes.{Noted, ExprNoted, noted}
 use Rattle.c_means.specs.Items.{Item, Code, Context, Label, Arrow, Acts, running, become, arrive}
-use Rattle.c_means.specs.Items.{with_value, nothing, followed, node, guarded, closed}
+use Rattle.c_means.specs.Items.{with_value, nothing, followed, marked, node, guarded, closed}
+use Rattle.c_means.specs.Marks.{Mark, sides}
 use Rattle.c_means.specs.Items.{in_scope, opened, block_of, unchosen, sub, in_turn, labels_of, past_break, past_continue}
 use Rattle.c_means.specs.Items.{past_switch, at_label, at_case, at_default}
 use Rattle.c_means.specs.Statements.{plain, value_of, maybe_value, tested, acting, one_of, if_runs, if_item, maybe_sub}
@@ -181,9 +182,13 @@ record TestKeeps (t : Test) : Type 0 where
       w (base + t.item.room l) ≤ n → ((b : Bool) → Adds p (w (base + t.item.room l)) n (go b)) →
       Adds p (w base) n (t.run l env base go)
 
+-- whatever stands at its tokens
+told_keeps : (x : Item) (marks : Level → List Mark) → ItemKeeps x → ItemKeeps (record x { marks = marks })
+told_keeps x marks h = record { acts = h.acts; lasting = h.lasting; size = h.size; room = h.room }
+
 test_keeps : (at : ℕ) (x : Noted) → NotedKeeps x → TestKeeps (test_of at x)
 test_keeps at x hx = record {
-  item = breaches_keep _ (tested x) (tested_keeps x hx);
+  item = breaches_keep _ (marked (sides at) (tested x)) (told_keeps (tested x) _ (tested_keeps x hx));
   leads = λ w p l c env base n go up h d.
       let end = w (base + x.part.room l) in
       with_value_adds p (w base) end n (met p d) (x.part.run l env base d) (λ v. on_branch at v go)
@@ -259,10 +264,12 @@ looped_keeps : (at : ℕ) (test : Test) (body step : Item) → TestKeeps test �
     ItemKeeps (looped at test body step)
 looped_keeps at test body step ht hb hs =
     let all = followed_keeps test.item (followed body step) ht.item (followed_keeps body step hb hs) in
-    acting_keeps (λ l env base d. arrive past_break (turns_from at test body step l env l.turns base d))
-    (each_turn (followed test.item (followed body step))) all.lasting
+    let turns : Acts = λ l env base d. arrive past_break (turns_from at test body step l env l.turns base d) in
+    let each = each_turn (followed test.item (followed body step)) in
+    told_keeps (acting turns each) _
+    (acting_keeps turns each all.lasting
     (λ l. ap (λ n. 1 + (l.turns + 1) * n) (all.size l)) (λ l. ap (λ n. (l.turns + 1) * n) (all.room l))
-    (λ w p l c env base d. turns_within at test body step ht hb hs w p l c env l.turns base d)
+    (λ w p l c env base d. turns_within at test body step ht hb hs w p l c env l.turns base d))
 
 rounds_within : (at : ℕ) (body : Item) (test : Test) → ItemKeeps body → TestKeeps test →
     (w : ℕ → ℕ) (p : ℕ) (l : Level) → Counting w p l → (env : Env) (n base : ℕ) →
@@ -301,10 +308,12 @@ repeated_keeps : (at : ℕ) (body : Item) (test : Test) → ItemKeeps body → T
     ItemKeeps (repeated at body test)
 repeated_keeps at body test hb ht =
     let all = followed_keeps body test.item hb ht.item in
-    acting_keeps (λ l env base d. arrive past_break (rounds_from at body test l env l.turns base d))
-    (each_turn (followed body test.item)) all.lasting
+    let rounds : Acts = λ l env base d. arrive past_break (rounds_from at body test l env l.turns base d) in
+    let each = each_turn (followed body test.item) in
+    told_keeps (acting rounds each) _
+    (acting_keeps rounds each all.lasting
     (λ l. ap (λ n. 1 + (l.turns + 1) * n) (all.size l)) (λ l. ap (λ n. (l.turns + 1) * n) (all.room l))
-    (λ w p l c env base d. rounds_within at body test hb ht w p l c env l.turns base d)
+    (λ w p l c env base d. rounds_within at body test hb ht w p l c env l.turns base d))
 
 left_keeps : (x : Item) → ItemKeeps x → ItemKeeps (left_scope x)
 left_keeps x h = record { acts = h.acts; lasting = h.lasting; size = h.size; room = h.room }

@@ -1,5 +1,5 @@
 -- The room and the size of a program are the same in every world.
-use Rattle.std.proofs.Common.{◌≡◌, ℕ, zero, suc, ◌+◌, ◌-◌, Option, Some, None, refl, sym, ap, ◌∙◌, length}
+use Rattle.std.proofs.Common.{◌≡◌, ℕ, zero, suc, ◌+◌, ◌-◌, [], Option, Some, None, refl, sym, ap, ◌∙◌, length}
 use Rattle.std.proofs.Math.Path.{fun_ext}
 use Rattle.c_language.specs.Scopes.{Name}
 use Rattle.c_means.specs.Parts.{World, Level, Site, entered}
@@ -69,6 +69,7 @@ needing turns identity size room = record {
   identity = identity;
   size = size;
   room = room;
+  marks = λ g. [];
   call = λ g env vs base s count. entered s count;
 }
 

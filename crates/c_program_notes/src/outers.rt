@@ -35,6 +35,13 @@ pub struct ProgramNotes {
     pub scope: Scope,
 }
 
+impl ProgramNotes {
+    /// Lets the notes go. Each crate that lets them go by itself proves anew how all that they hold is let go.
+    pub fn discard(self) {
+        drop(self);
+    }
+}
+
 /// What the head of a function definition notes, apart from its names: as an item of the file, and of the function.
 #[derive(Drop)]
 struct Head {

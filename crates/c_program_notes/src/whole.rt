@@ -33,6 +33,13 @@ pub struct Overview {
     pub places: PlaceTable,
 }
 
+impl Overview {
+    /// Lets the overview go. Each crate that lets one go by itself proves anew how all that it holds is let go.
+    pub fn discard(self) {
+        drop(self);
+    }
+}
+
 /// What is done before `main` is called: the places that are met, and the objects that are made, each in order.
 #[derive(Drop)]
 pub struct Preparation {

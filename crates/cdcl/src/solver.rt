@@ -47,6 +47,11 @@ impl Solver {
         }
     }
 
+    /// Lets the solver go. Each crate that lets one go by itself proves anew how all that it holds is let go.
+    pub fn discard(self) {
+        drop(self);
+    }
+
     /// Adds a clause at the end, so that each hint that names a kept step rises by one. It fails for want of memory alone.
     pub fn add(&mut self, clause: Clause) -> Result<(), SolveFault>
         ensures ok { OnOk result (self.new.clauses ≡ self.old.clauses ++ clause ∷ []) }

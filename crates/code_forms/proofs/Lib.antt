@@ -2,3 +2,4 @@ pub mod Turns
 pub mod Choosing
 pub mod Statements
 pub mod Declaring
+pub mod Marks

@@ -1,11 +1,12 @@
 -- What the calls of a function depend on, and what they are by that.
-use Rattle.std.specs.Prelude.{ℕ, ◌+◌, Bool, Option, Some, None, List}
+use Rattle.std.specs.Prelude.{ℕ, ◌+◌, Bool, Option, Some, None, List, []}
 use Rattle.plain_data.specs.declared.run.Finish.TheVariants as finish
 use Rattle.c_language.specs.declared.scope.Entry.{Entry}
 use Rattle.c_language.specs.Scopes.{Name}
 use Rattle.c_means.specs.Parts.{Level, Limits, Site, World, entered}
 use Rattle.c_means.specs.declared.profile.Profile.{Profile}
 use Rattle.c_means.specs.Calls.{finished, log_call, log_pieces, pointers_in, identity_call, library_call, outside_call}
+use Rattle.c_means.specs.Calls.{log_marks, library_marks, fill_marks}
 use Rattle.c_means.specs.Rules.{Taking, Rules, LogCall, IdentityCall, BodyCall, LibraryCall, PreludeCall, OutsideCall}
 use Rattle.c_means.specs.Rules.{rule_by, log_of, identity_index, fill_of, library_of, callee_taking, is_among}
 use Rattle.elaborate.specs.Means.{Numbering, Ruling}
@@ -48,27 +49,32 @@ bare_in x world limits = record {
   identity = identity_index x.profile;
   size = λ g. 0;
   room = λ g. 0;
+  marks = λ g. [];
   call = λ g env vs base s count. finished (finish.Left g.at) (entered s count);
 }
 
--- what a call by rule does
+-- what a call by rule does, and what stands at its callee's name
 abbrev pub ruling_in : Known → Site → Rules ℕ → Option Ruling
 ruling_in x g (LogCall text) = Some (record {
   room = 4 + pointers_in (log_pieces text g);
+  marks = log_marks x.watched text g;
   acts = λ world limits env vs base d. log_call (bare_in x world limits) x.watched text g env vs base d;
 })
 ruling_in x g (IdentityCall i) = Some (record {
   room = 4;
+  marks = [];
   acts = λ world limits env vs base d. identity_call i g vs d;
 })
 ruling_in x g (BodyCall n) = None
 ruling_in x g (LibraryCall f) = Some (record {
   room = 4;
+  marks = library_marks f g;
   acts = λ world limits env vs base d. library_call (bare_in x world limits) f g vs base d;
 })
 ruling_in x g (PreludeCall n) = None
 ruling_in x g OutsideCall = Some (record {
   room = 4;
+  marks = fill_marks (fill_of x.profile g.callee.name) g;
   acts = λ world limits env vs base d. outside_call (bare_in x world limits) (fill_of x.profile g.callee.name)
       (is_never_null x g) g vs base d;
 })

@@ -104,6 +104,7 @@ module _ (numbering : Numbering) (x : Context) (s : Scope) where
         cases = λ a r. ap case_values (sym (declaration_gives_none d s));
         lasting = λ a r. h.lasting;
         after = λ a r. h.after;
+        marks = λ a r. h.marks;
       }))
 
   pub of_value : (st : Stmt) (at : ℕ) (o : Option CExpr) (e : Option Expr) (y : Made) (t : Scope)
@@ -312,7 +313,7 @@ module _ (numbering : Numbering) (x : Context) (s : Scope) where
       let l = subst (λ s'. IsValued numbering v (f s') t) entered k in
       subst (λ g. IsIfBegun numbering x s f b g u) (sym is) (record {
         behind_condition = t;
-        tests = record { value = l.value; after = l.after };
+        tests = record { value = l.value; after = l.after; marks = l.marks };
         positive = h;
       })
 

@@ -15,15 +15,20 @@ use Rattle.core_tree.specs.declared.code.Code.TheVariants as code
 use Rattle.core_tree.specs.declared.expr.Expr.{Expr}
 use Rattle.core_tree.specs.declared.expr.Expr.TheVariants as expr
 use Rattle.core_tree.specs.declared.program.LastingSetting.{LastingSetting}
-use Rattle.elaborate.specs.Means.{Numbering, IsValueOf, IsCodeOf}
+use Rattle.core_marks.specs.Marks.{code_marks, items_marks, value_marks}
+use Rattle.elaborate.specs.Means.{Numbering, SameMarks, IsValueOf, IsCodeOf}
 use Rattle.elaborate.specs.Types.{word_type}
 use Rattle.elaborate.proofs.Codes.{bare_return_code, if_code, while_code, do_code}
 use Rattle.elaborate.proofs.Codes.{no_item, goto_code, continue_code, break_code}
+use Rattle.core_forms.proofs.Marks.{no_marks}
 use Rattle.code_forms.specs.Nodes.{negative_node}
 use Rattle.code_forms.specs.Contents.{AreCodesOf, value_if, case_values}
 use Rattle.code_forms.proofs.Statements.{returned_code, compound_code, content_code, bare_if_code, switch_content}
 use Rattle.code_forms.proofs.Statements.{turns_code, for_code}
 use Rattle.code_forms.proofs.Turns.{alone_codes, joined_codes}
+use Rattle.code_forms.proofs.Marks.{alone_marks, both_marks, block_marks, for_marks, if_marks, switch_marks}
+use Rattle.code_forms.proofs.Marks.{tested_marks, loop_marks, repeat_marks, returned_marks, nothing_marks}
+use Rattle.code_forms.proofs.Marks.{goto_marks, continue_marks, break_marks, bare_return_marks}
 use Rattle.core_codes.specs.declared.context.Context.{Context}
 use Rattle.core_codes.specs.declared.made.Body.{Body}
 use Rattle.core_codes.specs.declared.made.Made.{Made}
@@ -36,8 +41,9 @@ use Rattle.core_codes.specs.Parts.{IsValued, IsForBegun, MaybeWorth, MaybeDone, 
 use Rattle.core_codes.specs.Parts.{or_nothing, round_first, labeled_made, case_made}
 use Rattle.core_codes.specs.Settings.{AreAllSet}
 use Rattle.core_codes.proofs.Settings.{none_set, none_set_of, both_set, set_alone, loop_set}
-use Rattle.core_codes.proofs.Labels.{label_first, default_first, case_first}
-use Rattle.core_codes.proofs.LoopParts.{tested, stepped, first_after, effect_code, value_has_none, test_has_none}
+use Rattle.core_codes.proofs.Labels.{label_first, default_first, case_first, label_marks, default_marks, case_same}
+use Rattle.core_codes.proofs.LoopParts.{tested, stepped, first_after, effect_code, effect_same, value_has_none}
+use Rattle.core_codes.proofs.LoopParts.{test_has_none}
 
 -- a block within, and more labels
 abbrev pub within : Context → Context
@@ -78,14 +84,16 @@ module _ (numbering : Numbering) (x : Context) (s : Scope) where
   one_made : (f : runs.Context → Item) (y : Made) (c : Code) (zs : List ℤ) (xs : List LastingSetting) (t : Scope)
       → y ≡ alone c zs xs
       → ((a : Around) → Returns x a → IsCodeOf numbering c (f (context_in x s a)))
+      → ((a : Around) → Returns x a → SameMarks numbering (code_marks c) (f (context_in x s a)).marks)
       → ((a : Around) → Returns x a → zs ≡ case_values (f (context_in x s a)).cases)
       → ((a : Around) → Returns x a → AreAllSet numbering xs (f (context_in x s a)).lasting)
       → ((a : Around) → Returns x a → t ≡ (f (context_in x s a)).after) → IsMade numbering x s f y t
-  one_made f y c zs xs t is h g k r = subst (λ y. IsMade numbering x s f y t) (sym is) (record {
+  one_made f y c zs xs t is h m g k r = subst (λ y. IsMade numbering x s f y t) (sym is) (record {
     codes = λ a e. alone_codes numbering c (f (context_in x s a)) (h a e);
     cases = g;
     lasting = k;
     after = r;
+    marks = λ a e. alone_marks numbering c (m a e);
   })
 
   -- ---- blocks
@@ -99,6 +107,7 @@ module _ (numbering : Numbering) (x : Context) (s : Scope) where
       (λ a e. compound_code numbering made.codes
       (runs.in_turn items (context_in (within x) (enter s) (with_labels (runs.labels_of items) a)))
       (h.codes (with_labels (runs.labels_of items) a) e))
+      (λ a e. block_marks numbering true made.codes (h.marks (with_labels (runs.labels_of items) a) e))
       (λ a e. refl) (λ a e. h.lasting (with_labels (runs.labels_of items) a) e)
       (λ a e. ap leave (h.after (with_labels (runs.labels_of items) a) e))
 
@@ -114,6 +123,7 @@ module _ (numbering : Numbering) (x : Context) (s : Scope) where
           is = refl;
           items = h.codes a e;
           cases = h.cases a e;
+          marks = h.marks a e;
         };
         lasting = h.lasting;
         after = h.after;
@@ -124,7 +134,13 @@ module _ (numbering : Numbering) (x : Context) (s : Scope) where
       → IsMade numbering x s f made t → y ≡ body_of false made
       → IsContent numbering x s f y t
   on_other_content f made y t h is = subst (λ y. IsContent numbering x s f y t) (sym is) (record {
-    content = λ a e. record { inside = f (context_in x s a); is = refl; items = h.codes a e; cases = h.cases a e };
+    content = λ a e. record {
+      inside = f (context_in x s a);
+      is = refl;
+      items = h.codes a e;
+      cases = h.cases a e;
+      marks = h.marks a e;
+    };
     lasting = h.lasting;
     after = h.after;
   })
@@ -138,6 +154,8 @@ module _ (numbering : Numbering) (x : Context) (s : Scope) where
         (h.content (with_labels b.own a) e);
     lasting = λ a e. h.lasting (with_labels b.own a) e;
     after = λ a e. ap leave (h.after (with_labels b.own a) e);
+    marks = λ a e. block_marks numbering z.content.is_compound z.content.items
+        (h.content (with_labels b.own a) e).marks;
   })
 
   -- no item
@@ -148,6 +166,7 @@ module _ (numbering : Numbering) (x : Context) (s : Scope) where
     cases = λ a e. refl;
     lasting = λ a e. none_set numbering;
     after = λ a e. refl;
+    marks = λ a e. no_marks numbering;
   }) where
     no_items : AreCodesOf numbering [] (runs.nothing s)
     no_items = no_item numbering s
@@ -159,7 +178,7 @@ module _ (numbering : Numbering) (x : Context) (s : Scope) where
       → IsMade numbering x s (λ c. runs.node (statements.maybe_value f c.scope)) y t
   on_value e f y t h is =
       one_made (λ c. runs.node (statements.maybe_value f c.scope)) y (effect_node e) [] [] t is
-      (λ a r. effect_code numbering e f s t h) (λ a r. gives_none f)
+      (λ a r. effect_code numbering e f s t h) (λ a r. effect_same numbering e f s t h) (λ a r. gives_none f)
       (λ a r. none_set_of numbering (runs.node (statements.maybe_value f s)).lasting (value_has_none f s))
       (λ a r. first_after numbering e f s t h)
     where
@@ -172,32 +191,34 @@ module _ (numbering : Numbering) (x : Context) (s : Scope) where
       → IsMade numbering x s (statements.return_of at f) y t
   on_return at None None y t h is =
       one_made (statements.return_of at None) y (code.Return None) [] [] t is
-      (λ a r. bare_return_code numbering at (context_in x s a)) (λ a r. refl) (λ a r. none_set numbering) (λ a r. h)
+      (λ a r. bare_return_code numbering at (context_in x s a)) (λ a r. bare_return_marks numbering) (λ a r. refl)
+      (λ a r. none_set numbering) (λ a r. h)
   on_return at None (Some f) y t h is = absurd h
   on_return at (Some e) None y t h is = absurd h
   on_return at (Some e) (Some f) y t h is =
       one_made (statements.return_of at (Some f)) y (code.Return (Some (expr.Convert x.returned e))) [] [] t is
-      (λ a r. returned_code numbering at e x.returned (f s) (context_in x s a) r h.value) (λ a r. refl)
+      (λ a r. returned_code numbering at e x.returned (f s) (context_in x s a) r h.value)
+      (λ a r. returned_marks numbering x.returned e h.marks) (λ a r. refl)
       (λ a r. none_set numbering) (λ a r. h.after)
 
   pub on_goto : (at : ℕ) (name : Name) (y : Made) → y ≡ bare (code.Goto name)
       → IsMade numbering x s (statements.goto_of at name) y s
   on_goto at name y is =
       one_made (statements.goto_of at name) y (code.Goto name) [] [] s is
-      (λ a r. goto_code numbering at name (context_in x s a)) (λ a r. refl)
+      (λ a r. goto_code numbering at name (context_in x s a)) (λ a r. goto_marks numbering name) (λ a r. refl)
       (λ a r. none_set numbering) (λ a r. refl)
 
   pub on_continue : (at : ℕ) (y : Made) → y ≡ bare code.Continue
       → IsMade numbering x s (statements.continue_of at) y s
   on_continue at y is =
       one_made (statements.continue_of at) y code.Continue [] [] s is
-      (λ a r. continue_code numbering at (context_in x s a)) (λ a r. refl)
+      (λ a r. continue_code numbering at (context_in x s a)) (λ a r. continue_marks numbering) (λ a r. refl)
       (λ a r. none_set numbering) (λ a r. refl)
 
   pub on_break : (at : ℕ) (y : Made) → y ≡ bare code.Break → IsMade numbering x s (statements.break_of at) y s
   on_break at y is =
       one_made (statements.break_of at) y code.Break [] [] s is
-      (λ a r. break_code numbering at (context_in x s a)) (λ a r. refl)
+      (λ a r. break_code numbering at (context_in x s a)) (λ a r. break_marks numbering) (λ a r. refl)
       (λ a r. none_set numbering) (λ a r. refl)
 
   -- ---- labeled statements
@@ -206,11 +227,19 @@ module _ (numbering : Numbering) (x : Context) (s : Scope) where
   labeled_made_is : (f : runs.Context → Item) (g : Code → Code) (zs : List ℤ) (body y : Made) (t : Scope)
       → y ≡ labeled_made g zs body
       → ((a : Around) → Returns x a → AreCodesOf numbering (round_first g (or_nothing body.codes)) (f (context_in x s a)))
+      → ((a : Around) → Returns x a
+      → SameMarks numbering (items_marks (round_first g (or_nothing body.codes))) (f (context_in x s a)).marks)
       → ((a : Around) → Returns x a → zs ≡ case_values (f (context_in x s a)).cases)
       → ((a : Around) → Returns x a → AreAllSet numbering body.settings (f (context_in x s a)).lasting)
       → ((a : Around) → Returns x a → t ≡ (f (context_in x s a)).after) → IsMade numbering x s f y t
-  labeled_made_is f g zs body y t is h c k r =
-      subst (λ y. IsMade numbering x s f y t) (sym is) (record { codes = h; cases = c; lasting = k; after = r })
+  labeled_made_is f g zs body y t is h m c k r =
+      subst (λ y. IsMade numbering x s f y t) (sym is) (record {
+        codes = h;
+        cases = c;
+        lasting = k;
+        after = r;
+        marks = m;
+      })
 
   pub on_label : (at : ℕ) (name : Name) (b : runs.Code) (body y : Made) (t : Scope)
       → IsMade numbering x s b.here body t → y ≡ labeled_made (code.Label name) body.cases body
@@ -219,6 +248,7 @@ module _ (numbering : Numbering) (x : Context) (s : Scope) where
       labeled_made_is (statements.labeled at name b).here (code.Label name) body.cases body y t is
       (λ a r. let c = label_first numbering name body.codes (b.here (context_in x s a)) (h.codes a r) in
       record { size = c.size; room = c.room; objects = c.objects; runs = c.runs })
+      (λ a r. label_marks numbering name body.codes (h.marks a r))
       h.cases h.lasting h.after
 
   pub on_default : (at : ℕ) (b : runs.Code) (body y : Made) (t : Scope) → IsMade numbering x s b.here body t
@@ -227,6 +257,7 @@ module _ (numbering : Numbering) (x : Context) (s : Scope) where
       labeled_made_is (statements.default_labeled at b).here code.Default body.cases body y t is
       (λ a r. let c = default_first numbering body.codes (b.here (context_in x s a)) (h.codes a r) in
       record { size = c.size; room = c.room; objects = c.objects; runs = c.runs })
+      (λ a r. default_marks numbering body.codes (h.marks a r))
       h.cases h.lasting h.after
 
   -- a case, by its value as the `switch` compares it
@@ -237,21 +268,24 @@ module _ (numbering : Numbering) (x : Context) (s : Scope) where
       record i { calls = n.notes.calls ++ i.calls }
 
   valued_case : (at : ℕ) (n : Noted) (o : Option ℤ) (e : Expr) (b : runs.Code) (body y : Made) (t : Scope)
-      → IsValueOf numbering e n.part → IsMade numbering x n.part.typed.after b.here body t
+      → IsValueOf numbering e n.part → SameMarks numbering (value_marks e) n.part.marks
+      → IsMade numbering x n.part.typed.after b.here body t
       → y ≡ case_made o e body → IsMade numbering x s (case_with at n o b) y t
-  valued_case at n None e b body y t g h is =
+  valued_case at n None e b body y t g v h is =
       subst (λ y. IsMade numbering x s (case_with at n None b) y t) (sym is) (record {
         codes = λ a r. let c = h.codes a r in
             record { size = c.size; room = c.room; objects = c.objects; runs = c.runs };
         cases = h.cases;
         lasting = h.lasting;
         after = h.after;
+        marks = h.marks;
       })
-  valued_case at n (Some z) e b body y t g h is =
+  valued_case at n (Some z) e b body y t g v h is =
       labeled_made_is (case_with at n (Some z) b) (code.Case z e) (z ∷ body.cases) body y t is
       (λ a r. let c = case_first numbering z e n.part body.codes (b.here (context_in x n.part.typed.after a)) g
       (h.codes a r) in
       record { size = c.size; room = c.room; objects = c.objects; runs = c.runs })
+      (λ a r. case_same numbering z e body.codes v (h.marks a r))
       (λ a r. ap (λ zs. z ∷ zs) (h.cases a r)) h.lasting h.after
 
   pub on_case : (at : ℕ) (f : ExprNoted) (v : Valued) (t : Scope) (o : Option ℤ) (b : runs.Code) (body y : Made)
@@ -261,9 +295,9 @@ module _ (numbering : Numbering) (x : Context) (s : Scope) where
   on_case at f v t o b body y u g q h is =
       let compared = q ∙ ap (λ (d : Told). statements.case_value x.compared (value_in d.shown)) g.told in
       let m = subst (λ o. IsMade numbering x s (case_with at (f s) o b) y u) compared
-      (valued_case at (f s) o v.value b body y u g.value
+      (valued_case at (f s) o v.value b body y u g.value g.marks
       (subst (λ t. IsMade numbering x t b.here body u) g.after h) is) in
-      record { codes = m.codes; cases = m.cases; lasting = m.lasting; after = m.after }
+      record { codes = m.codes; cases = m.cases; lasting = m.lasting; after = m.after; marks = m.marks }
 
   -- ---- selection
 
@@ -279,6 +313,8 @@ module _ (numbering : Numbering) (x : Context) (s : Scope) where
       (λ a r. bare_if_code numbering at g.condition g.positive.code n
       (runs.sub b (context_in x n.part.typed.after a))
       (runs.sub b (context_in x n.part.typed.after a)).after h.tests.value (k.code a r))
+      (λ a r. if_marks numbering at g.condition g.positive.code (code.Nothing false) h.tests.marks (k.marks a r)
+      (nothing_marks numbering false))
       (λ a r. refl)
       (λ a r. both_set numbering g.positive.settings [] (runs.sub b (context_in x n.part.typed.after a)).lasting []
       (k.lasting a r) (none_set numbering))
@@ -298,6 +334,9 @@ module _ (numbering : Numbering) (x : Context) (s : Scope) where
       if_code numbering at g.condition g.positive.code c.code n first (runs.sub b' (context_in x first.after a))
       h.tests.value (k.code a r)
       (subst (λ u. IsCodeOf numbering c.code (runs.sub b' (context_in x u a))) (k.after a r) (h'.code a r)))
+      (λ a r. if_marks numbering at g.condition g.positive.code c.code h.tests.marks (k.marks a r)
+      (subst (λ u. SameMarks numbering (code_marks c.code) (runs.sub b' (context_in x u a)).marks) (k.after a r)
+      (h'.marks a r)))
       (λ a r. refl)
       (λ a r. let first = runs.sub b (context_in x n.part.typed.after a) in
       both_set numbering g.positive.settings c.settings first.lasting
@@ -328,6 +367,9 @@ module _ (numbering : Numbering) (x : Context) (s : Scope) where
       (λ a r. switch_content numbering at v.value n z.content
       (b.content (context_in (choosing (statements.switch_kind n)) (enter n.part.typed.after)
       (with_labels b.own (in_a_switch a)))) g.value (k.content (with_labels b.own (in_a_switch a)) r))
+      (λ a r. switch_marks numbering at (word_type (statements.switch_kind n)) v.value z.content
+      (b.content (context_in (choosing (statements.switch_kind n)) (enter n.part.typed.after)
+      (with_labels b.own (in_a_switch a)))) g.marks (k.content (with_labels b.own (in_a_switch a)) r))
       (λ a r. refl) (λ a r. k.lasting (with_labels b.own (in_a_switch a)) r)
       (λ a r. ap (λ u. leave (leave u)) (k.after (with_labels b.own (in_a_switch a)) r))
 
@@ -343,6 +385,8 @@ module _ (numbering : Numbering) (x : Context) (s : Scope) where
       one_made (statements.while_of at f b).here y (code.Loop at (Some v.value) None c.code) [] c.settings (leave u) is
       (λ a r. let inside = runs.sub b (context_in x n.part.typed.after (in_a_loop a)) in
       while_code numbering at v.value n c.code inside inside.after g.value (k.code (in_a_loop a) r))
+      (λ a r. loop_marks numbering at (Some v.value) None c.code (tested_marks numbering at v.value g.marks)
+      (no_marks numbering) (k.marks (in_a_loop a) r))
       (λ a r. refl)
       (λ a r. set_alone numbering c.settings (runs.sub b (context_in x n.part.typed.after (in_a_loop a))).lasting
       (k.lasting (in_a_loop a) r))
@@ -357,6 +401,8 @@ module _ (numbering : Numbering) (x : Context) (s : Scope) where
       (λ a r. let inside = runs.sub b (context_in x (enter s) (in_a_loop a)) in
       do_code numbering at v.value (f inside.after) c.code inside
       (subst (λ t. IsValued numbering v (f t) u) (h.after (in_a_loop a) r) g).value (h.code (in_a_loop a) r))
+      (λ a r. repeat_marks numbering at v.value c.code
+      (subst (λ t. IsValued numbering v (f t) u) (h.after (in_a_loop a) r) g).marks (h.marks (in_a_loop a) r))
       (λ a r. refl)
       (λ a r. set_alone numbering c.settings (runs.sub b (context_in x (enter s) (in_a_loop a))).lasting
       (h.lasting (in_a_loop a) r))
@@ -383,6 +429,8 @@ module _ (numbering : Numbering) (x : Context) (s : Scope) where
       (record (statements.looped at j inside m) { after = inside.after }) h.begun.codes
       (turns_code numbering at g.condition j g.step m c.code inside inside.after test.tests step.steps
       (l.code (in_a_loop a) r)))
+      (λ a r. for_marks numbering g.first.codes (code.Loop at g.condition g.step c.code) h.begun.marks
+      (loop_marks numbering at g.condition g.step c.code test.marks step.marks (l.marks (in_a_loop a) r)))
       (λ a r. ap (λ ks. case_values (ks ++ [])) (sym none))
       (λ a r. loop_set numbering g.first.settings c.settings i.lasting j.item.lasting
       (runs.sub b (context_in x m.after (in_a_loop a))).lasting m.lasting (test_has_none at f i.after)
@@ -418,4 +466,7 @@ module _ (numbering : Numbering) (x : Context) (s : Scope) where
         (g.lasting a r));
     after = λ a r. let i = b.here (context_in x s a) in
         subst (λ t. u ≡ (runs.in_turn bs (context_in x t a)).after) (h.after a r) (g.after a r);
+    marks = λ a r. both_marks numbering first.codes more.codes (h.marks a r)
+        (subst (λ t. SameMarks numbering (items_marks more.codes) (runs.in_turn bs (context_in x t a)).marks)
+        (h.after a r) (g.marks a r));
   }

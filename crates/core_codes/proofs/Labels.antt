@@ -1,11 +1,14 @@
 -- A label at the first of a statement's items is one of the statement.
-use Rattle.std.proofs.Common.{◌≡◌, ℕ, ◌+◌, false, List, [], ◌∷◌, map, Option, Some, ℤ, refl, sym, ap, ap₂, ◌∙◌, subst, arith}
+use Rattle.std.proofs.Common.{◌≡◌, ℕ, ◌+◌, false, List, [], ◌∷◌, ◌++◌, map, Option, Some, ℤ}
+use Rattle.std.proofs.Common.{refl, sym, ap, ap₂, ◌∙◌, subst, arith}
+use Rattle.std.proofs.lemmas.List.{append-nil, append_assoc}
 use Rattle.c_language.specs.Scopes.{Name}
 use Rattle.c_means.specs.declared.kind.Kind.{Kind}
 use Rattle.c_means.specs.Items.{at_label, at_case, at_default}
 use Rattle.c_means.specs.Items as runs
 use Rattle.c_means.specs.Parts.{Env, State, Part}
 use Rattle.c_means.specs.Parts as c
+use Rattle.c_means.specs.Marks.{Mark}
 use Rattle.c_means.specs.Statements as statements
 use Rattle.core_tree.specs.declared.code.Code.{Code}
 use Rattle.core_tree.specs.declared.code.Code.TheVariants as tree
@@ -13,9 +16,35 @@ use Rattle.core_tree.specs.declared.expr.Expr.{Expr}
 use Rattle.core_tree.specs.States.{Output, Level, Measures}
 use Rattle.core_tree.specs.Codes.{Item, code, in_turn, nothing, arrived, no_more, node_size}
 use Rattle.core_tree.proofs.Equations as eq
-use Rattle.elaborate.specs.Means.{Numbering, Like, IsValueOf, Acts, as_done}
+use Rattle.core_marks.specs.Marks.{code_marks, items_marks, value_marks}
+use Rattle.core_marks.proofs.CodeMarks as codes
+use Rattle.elaborate.specs.Means.{Numbering, SameMarks, Like, IsValueOf, Acts, as_done}
+use Rattle.core_forms.proofs.Marks.{by_marks, marks_then}
 use Rattle.code_forms.specs.Contents.{AreCodesOf}
 use Rattle.core_codes.specs.Parts.{or_nothing, round_first}
+
+-- ---- what stands at the tokens of items, the first of which is labeled
+
+nothing_marked : code_marks (tree.Nothing false) ≡ []
+nothing_marked = codes.marks-Nothing (tree.Nothing false) false refl
+
+first_marks : (g : Code → Code) (cs : List Code) → ((c : Code) → code_marks (g c) ≡ code_marks c)
+    → items_marks (round_first g (or_nothing cs)) ≡ items_marks cs
+first_marks g [] same = ap (λ ms. ms ++ []) (same (tree.Nothing false) ∙ nothing_marked)
+first_marks g (c ∷ cs) same = ap (λ ms. ms ++ items_marks cs) (same c)
+
+cased_marks : (z : ℤ) (e : Expr) (c : Code) → code_marks (tree.Case z e c) ≡ value_marks e ++ code_marks c
+cased_marks z e c = codes.marks-Case (tree.Case z e c) z e c refl
+
+case_marks : (z : ℤ) (e : Expr) (cs : List Code)
+    → items_marks (round_first (tree.Case z e) (or_nothing cs)) ≡ value_marks e ++ items_marks cs
+case_marks z e [] =
+    append-nil (code_marks (tree.Case z e (tree.Nothing false)))
+    ∙ cased_marks z e (tree.Nothing false)
+    ∙ ap (λ ms. value_marks e ++ ms) nothing_marked
+case_marks z e (c ∷ cs) =
+    ap (λ ms. ms ++ items_marks cs) (cased_marks z e c)
+    ∙ append_assoc (value_marks e) (code_marks c) (items_marks cs)
 
 module _ (numbering : Numbering) where
   -- the first of some items, where the run arrives
@@ -89,3 +118,21 @@ module _ (numbering : Numbering) where
       (record (statements.arrived (at_case (Some z)) i) { size = λ l. 1 + (p.size l + i.size l) })
   case_first z e p cs i g h = first_acts (tree.Case z e) (at_case (Some z)) (node_size Output e) p.size cs i
       (λ c. eq.does-Case z e c) (λ l k like. g.size l k like) (with_nothing cs i h)
+
+  -- ---- what stands at the tokens
+
+  pub label_marks : (name : Name) (cs : List Code) {marks : c.Level → List Mark}
+      → SameMarks numbering (items_marks cs) marks
+      → SameMarks numbering (items_marks (round_first (tree.Label name) (or_nothing cs))) marks
+  label_marks name cs h = by_marks numbering
+      (first_marks (tree.Label name) cs (λ c. codes.marks-Label (tree.Label name c) name c refl)) h
+
+  pub default_marks : (cs : List Code) {marks : c.Level → List Mark} → SameMarks numbering (items_marks cs) marks
+      → SameMarks numbering (items_marks (round_first tree.Default (or_nothing cs))) marks
+  default_marks cs h = by_marks numbering
+      (first_marks tree.Default cs (λ c. codes.marks-Default (tree.Default c) c refl)) h
+
+  pub case_same : (z : ℤ) (e : Expr) (cs : List Code) {value body : c.Level → List Mark}
+      → SameMarks numbering (value_marks e) value → SameMarks numbering (items_marks cs) body
+      → SameMarks numbering (items_marks (round_first (tree.Case z e) (or_nothing cs))) (λ l. value l ++ body l)
+  case_same z e cs g h = by_marks numbering (case_marks z e cs) (marks_then numbering g h)

@@ -1,6 +1,6 @@
 -- The parts of statements: tests, steps and first parts of loops, and declarations, which give no case. What lives
 -- throughout the run is declared by declarations alone.
-use Rattle.std.proofs.Common.{◌≡◌, ℕ, Bool, false, List, [], ◌∷◌, ◌++◌, map, Option, Some, None, refl, sym}
+use Rattle.std.proofs.Common.{◌≡◌, ℕ, Bool, true, false, List, [], ◌∷◌, ◌++◌, map, Option, Some, None, refl, sym}
 use Rattle.std.proofs.Common.{ap₂, subst}
 use Rattle.std.specs.Prelude.{option_map}
 use Rattle.c_language.specs.declared.expr.Expr.{Expr as CExpr}
@@ -23,10 +23,13 @@ use Rattle.c_means.specs.Statements.{declaration, type_in_entry, name_offset, de
 use Rattle.c_means.specs.Statements as statements
 use Rattle.core_tree.specs.declared.code.Code.TheVariants as code
 use Rattle.core_tree.specs.declared.expr.Expr.{Expr}
-use Rattle.elaborate.specs.Means.{Numbering, IsCodeOf}
+use Rattle.core_marks.specs.Marks.{code_marks, items_marks, option_marks, test_marks}
+use Rattle.elaborate.specs.Means.{Numbering, SameMarks, IsCodeOf}
 use Rattle.elaborate.proofs.Codes.{value_code, empty_code, no_item, part_code, by_item, no_test, a_test, Tests}
 use Rattle.core_tree.proofs.Equations as eq
+use Rattle.core_forms.proofs.Marks.{no_marks}
 use Rattle.code_forms.specs.Contents.{AreCodesOf}
+use Rattle.code_forms.proofs.Marks.{alone_marks, effect_marks, nothing_marks, tested_marks}
 use Rattle.code_forms.proofs.Statements.{IsStepOf, no_step, a_step}
 use Rattle.code_forms.proofs.Turns.{alone_codes}
 use Rattle.core_codes.specs.declared.parts.Begun.{Begun}
@@ -98,25 +101,35 @@ module _ (numbering : Numbering) where
   pub record Tested (e : Option Expr) (t : statements.Test) (at : ℕ) (u : Scope) : Type 0 where
     pub tests : Tests numbering e t at
     pub after : u ≡ t.item.after
+    pub marks : SameMarks numbering (test_marks at e) t.item.marks
 
   pub tested : (at : ℕ) (e : Option Expr) (f : Option ExprNoted) (s t : Scope) → MaybeWorth numbering e f s t
       → Tested e (statements.maybe_test at f s) at t
-  tested at None None s t h = record { tests = no_test numbering at s; after = h }
+  tested at None None s t h = record { tests = no_test numbering at s; after = h; marks = no_marks numbering }
   tested at None (Some f) s t h = absurd h
   tested at (Some e) None s t h = absurd h
-  tested at (Some e) (Some f) s t h = record { tests = a_test numbering at e (f s) h.value; after = h.after }
+  tested at (Some e) (Some f) s t h = record {
+    tests = a_test numbering at e (f s) h.value;
+    after = h.after;
+    marks = tested_marks numbering at e h.marks;
+  }
 
   -- a step, with the names in force behind it
   pub record Stepped (e : Option Expr) (i : Item) (u : Scope) : Type 0 where
     pub steps : IsStepOf numbering e i
     pub after : u ≡ i.after
+    pub marks : SameMarks numbering (option_marks e) i.marks
 
   pub stepped : (e : Option Expr) (f : Option ExprNoted) (s t : Scope) → MaybeDone numbering e f s t
       → Stepped e (maybe_value f s) t
-  stepped None None s t h = record { steps = no_step numbering s; after = h }
+  stepped None None s t h = record { steps = no_step numbering s; after = h; marks = no_marks numbering }
   stepped None (Some f) s t h = absurd h
   stepped (Some e) None s t h = absurd h
-  stepped (Some e) (Some f) s t h = record { steps = a_step numbering e (f s) h.effect; after = h.after }
+  stepped (Some e) (Some f) s t h = record {
+    steps = a_step numbering e (f s) h.effect;
+    after = h.after;
+    marks = h.marks;
+  }
 
   -- ---- an expression that a `for` begins with
 
@@ -135,6 +148,14 @@ module _ (numbering : Numbering) where
   first_after (Some e) None s t h = absurd h
   first_after (Some e) (Some f) s t h = h.after
 
+  first_marks : (e : Option Expr) (f : Option ExprNoted) (s t : Scope) → MaybeDone numbering e f s t
+      → SameMarks numbering (items_marks (first_codes e)) (maybe_value f s).marks
+  first_marks None None s t h = no_marks numbering
+  first_marks None (Some f) s t h = absurd h
+  first_marks (Some e) None s t h = absurd h
+  first_marks (Some e) (Some f) s t h =
+      alone_marks numbering (code.Value false e) (effect_marks numbering false e h.marks)
+
   pub begun_value : (x : ForStart) (o : Option CExpr) (e : Option Expr) (y : Begun) (s t : Scope)
       → x ≡ start_.Value o → MaybeDone numbering e (option_map noted o) s t → y ≡ first_begun e
       → IsBegun numbering y (begun_by x s) t
@@ -145,6 +166,7 @@ module _ (numbering : Numbering) where
         codes = first_done e f s t h;
         lasting = none_set_of numbering (maybe_value f s).lasting (value_has_none f s);
         after = first_after e f s t h;
+        marks = first_marks e f s t h;
       }))
 
   -- ---- expression statements
@@ -155,3 +177,10 @@ module _ (numbering : Numbering) where
   effect_code None (Some f) s t h = absurd h
   effect_code (Some e) None s t h = absurd h
   effect_code (Some e) (Some f) s t h = value_code numbering e (f s) h.effect
+
+  pub effect_same : (e : Option Expr) (f : Option ExprNoted) (s t : Scope) → MaybeDone numbering e f s t
+      → SameMarks numbering (code_marks (effect_node e)) (maybe_value f s).marks
+  effect_same None None s t h = nothing_marks numbering true
+  effect_same None (Some f) s t h = absurd h
+  effect_same (Some e) None s t h = absurd h
+  effect_same (Some e) (Some f) s t h = effect_marks numbering true e h.marks

@@ -8,7 +8,8 @@ use Rattle.c_means.specs.Notes.{ExprNoted}
 use Rattle.c_means.specs.Items.{Item, Label}
 use Rattle.c_means.specs.Items as runs
 use Rattle.core_tree.specs.Numbers as numbers
-use Rattle.elaborate.specs.Means.{Numbering, IsCodeOf}
+use Rattle.core_marks.specs.Marks.{code_marks, items_marks}
+use Rattle.elaborate.specs.Means.{Numbering, SameMarks, IsCodeOf}
 use Rattle.code_forms.specs.Contents.{AreCodesOf, IsContentOf, case_values}
 use Rattle.core_codes.specs.declared.context.Context.{Context}
 use Rattle.core_codes.specs.declared.made.Body.{Body}
@@ -57,6 +58,8 @@ pub record IsMade (numbering : Numbering) (x : Context) (s : Scope) (f : runs.Co
     pub cases : (a : Around) → Returns x a → y.cases ≡ case_values (f (context_in x s a)).cases
     pub lasting : (a : Around) → Returns x a → AreAllSet numbering y.settings (f (context_in x s a)).lasting
     pub after : (a : Around) → Returns x a → t ≡ (f (context_in x s a)).after
+    pub marks : (a : Around) → Returns x a
+        → SameMarks numbering (items_marks y.codes) (f (context_in x s a)).marks
 
 -- what stands in the block that a statement is
 pub record IsContent (numbering : Numbering) (x : Context) (s : Scope) (f : runs.Context → Item) (y : Body)
@@ -73,6 +76,7 @@ pub record IsSub (numbering : Numbering) (x : Context) (s : Scope) (f : runs.Con
     pub code : (a : Around) → Returns x a → IsCodeOf numbering y.code (f (context_in x s a))
     pub lasting : (a : Around) → Returns x a → AreAllSet numbering y.settings (f (context_in x s a)).lasting
     pub after : (a : Around) → Returns x a → t ≡ (f (context_in x s a)).after
+    pub marks : (a : Around) → Returns x a → SameMarks numbering (code_marks y.code) (f (context_in x s a)).marks
 
 -- an `else`, where there is one
 abbrev pub MaybeSub : Numbering → Context → Scope → Option runs.Code → Option SubBlock → Scope → Type 0

@@ -11,7 +11,8 @@ use Rattle.core_tree.specs.declared.expr.Expr.{Expr}
 use Rattle.core_tree.specs.declared.expr.Expr.TheVariants as expr
 use Rattle.core_tree.specs.declared.program.LastingSetting.{LastingSetting}
 use Rattle.core_tree.specs.declared.types.ValueType.{ValueType}
-use Rattle.elaborate.specs.Means.{Numbering, IsValueOf, IsEffectOf}
+use Rattle.core_marks.specs.Marks.{items_marks, value_marks}
+use Rattle.elaborate.specs.Means.{Numbering, SameMarks, IsValueOf, IsEffectOf}
 use Rattle.code_forms.specs.Contents.{AreCodesOf}
 use Rattle.core_codes.specs.declared.made.Made.{Made}
 use Rattle.core_codes.specs.declared.made.SubBlock.{SubBlock}
@@ -27,15 +28,18 @@ pub record IsValued (numbering : Numbering) (y : Valued) (n : Noted) (t : Scope)
   pub told : y.told ≡ told_of n.part.typed
   pub value : IsValueOf numbering y.value n.part
   pub after : t ≡ n.part.typed.after
+  pub marks : SameMarks numbering (value_marks y.value) n.part.marks
 
 pub record IsWorth (numbering : Numbering) (e : Expr) (n : Noted) (t : Scope) : Type 0 where
   pub value : IsValueOf numbering e n.part
   pub after : t ≡ n.part.typed.after
+  pub marks : SameMarks numbering (value_marks e) n.part.marks
 
 -- one whose value isn't used
 pub record IsDone (numbering : Numbering) (e : Expr) (n : Noted) (t : Scope) : Type 0 where
   pub effect : IsEffectOf numbering e n.part
   pub after : t ≡ n.part.typed.after
+  pub marks : SameMarks numbering (value_marks e) n.part.marks
 
 -- where there is one
 abbrev pub MaybeWorth : Numbering → Option Expr → Option ExprNoted → Scope → Scope → Type 0
@@ -53,6 +57,7 @@ pub record IsBegun (numbering : Numbering) (y : Begun) (i : Item) (t : Scope) : 
   pub codes : AreCodesOf numbering y.codes i
   pub lasting : AreAllSet numbering y.settings i.lasting
   pub after : t ≡ i.after
+  pub marks : SameMarks numbering (items_marks y.codes) i.marks
 
 -- what stands in front of the body of a `for`: each part with the names in force behind it
 pub record IsForBegun (numbering : Numbering) (s : Scope) (begins : Scope → Item) (condition step : Option ExprNoted)

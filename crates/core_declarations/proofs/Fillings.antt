@@ -31,8 +31,10 @@ use Rattle.core_tree.specs.States.{Output, Level, onward, running}
 use Rattle.core_tree.specs.Values.{value}
 use Rattle.core_tree.specs.Values as values
 use Rattle.core_tree.specs.Codes as core
-use Rattle.elaborate.specs.Means.{Numbering, Like, as_done}
+use Rattle.core_marks.specs.Marks.{settings_marks, values_marks}
+use Rattle.elaborate.specs.Means.{Numbering, Like, SameMarks, as_done}
 use Rattle.elaborate.proofs.Codes.{running_same}
+use Rattle.core_forms.proofs.Marks.{as_told, marks_then, no_marks}
 use Rattle.core_declarations.specs.declared.initials.Walked.{Walked}
 use Rattle.core_declarations.specs.declared.pairing.Paired.{Paired}
 use Rattle.core_objects.specs.Given.{IsCounted, IsGiven}
@@ -173,6 +175,16 @@ module _ (n : Numbering) where
   all_counted [] ms l k like = refl
   all_counted (x ∷ xs) ms l k like = ap₂ (λ a b. a + b) (x.is_pair.size l k like) (all_counted xs ms l k like)
 
+  all_marks : (xs : List (Step n)) (ms : List Noted)
+      → SameMarks n (settings_marks (settings_of n xs)) (runs.each_marks (parts_of n xs) (noted_of n xs ++ ms))
+  all_marks [] ms = no_marks n
+  all_marks (x ∷ xs) ms = marks_then n x.is_pair.set.marks (all_marks xs ms)
+
+  counted_marks : (xs : List (Step n)) (ms : List Noted)
+      → SameMarks n (values_marks (counted_of n xs)) (runs.each_marks (parts_of n xs) (noted_of n xs ++ ms))
+  counted_marks [] ms = no_marks n
+  counted_marks (x ∷ xs) ms = marks_then n x.is_pair.marks (counted_marks xs ms)
+
   all_set : (xs : List (Step n)) (ms : List Noted) (l : c.Level) (k : Level Output) → Like n l k → (a : ℕ) (env : Env)
       (base : ℕ) (d : State) → core.sets_all (settings_of n xs) a k env base (as_done d)
       ≡ Some (as_done (runs.sets_all (parts_of n xs) (noted_of n xs ++ ms) a l env base d))
@@ -202,6 +214,7 @@ module _ (n : Numbering) where
             ∙ ap (λ (ps : List Part). runs.all_rooms ps ns l) (sym parts);
         runs = λ l k like a env base d. all_set xs ms l k like a env base d
             ∙ ap (λ (ps : List Part). Some (as_done (runs.sets_all ps ns a l env base d))) (sym parts);
+        marks = as_told n (all_marks xs ms) (λ l. ap (λ (ps : List Part). runs.each_marks ps ns l) (sym parts));
       }
 
   -- what the expressions set that have their parts is what the whole initializer sets
@@ -220,6 +233,8 @@ module _ (n : Numbering) where
         size = λ l k like. all_counted h.steps h.left l k like
             ∙ ap (λ (ps : List Part). runs.all_sizes ps (noted_of n h.steps ++ h.left) l)
             (sym h.parts ∙ parts);
+        marks = as_told n (counted_marks h.steps h.left)
+            (λ l. ap (λ (ps : List Part). runs.each_marks ps (noted_of n h.steps ++ h.left) l) (sym h.parts ∙ parts));
       }))
 
   -- an expression without braces

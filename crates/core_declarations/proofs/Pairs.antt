@@ -20,10 +20,12 @@ use Rattle.core_tree.specs.declared.expr.Expr.TheVariants as expr
 use Rattle.core_tree.specs.States.{Output, Measures}
 use Rattle.core_tree.specs.Values.{value}
 use Rattle.core_tree.proofs.Equations as eq
-use Rattle.elaborate.specs.Means.{Numbering, as_done}
+use Rattle.core_marks.proofs.ExprMarks as trees
+use Rattle.elaborate.specs.Means.{Numbering, SameMarks, as_done}
 use Rattle.elaborate.specs.Types.{value_type}
 use Rattle.elaborate.proofs.Choices.{value_sets}
 use Rattle.elaborate.proofs.Objects.{stored_in}
+use Rattle.core_forms.proofs.Marks.{as_told, by_marks, no_marks}
 use Rattle.core_declarations.specs.declared.hearing.Heard.{Heard}
 use Rattle.core_declarations.specs.declared.pairing.Paired.{Paired}
 use Rattle.core_declarations.specs.declared.pairing.Source.{Source}
@@ -46,6 +48,7 @@ source_of numbering x n s literal h is = record {
   literal = is ∙ ap (λ (told : Told). is_literal_in told.shown) h.told;
   worth = h.value;
   text = h.text;
+  marks = h.marks;
 }
 
 -- ---- an expression with its part
@@ -57,6 +60,10 @@ module _ (numbering : Numbering) (tables : Tables) (p : Part) (n : Noted) (x : S
     (t : tables ≡ n.part.typed.after.tables) where
   by_literal : (b : Bool) → (x.is_literal && is_byte_type (element_of p.type)) ≡ b → is_text_of p.type n.part.typed ≡ b
   by_literal b is = ap (λ b. b && is_byte_type (element_of p.type)) (sym h.literal) ∙ is
+
+  -- a literal in a whole array has nothing at its token
+  text_marks : is_text_of p.type n.part.typed ≡ true → SameMarks numbering [] (initials.set_marks p n)
+  text_marks a_text = as_told numbering (no_marks numbering) (λ l. ap (λ b. cond b [] (n.part.marks l)) (sym a_text))
 
   pub text_is_set : (x.is_literal && is_byte_type (element_of p.type)) ≡ true
       → IsPair numbering (text_pair tables p x.text) p n
@@ -73,8 +80,10 @@ module _ (numbering : Numbering) (tables : Tables) (p : Part) (n : Noted) (x : S
               (initials.sets_text n.part.typed.after.tables p a (unwrap_or (n.part.text l) []) d)
               (runs.with_value (n.part.run l env base d)
               (initials.stores n.part.typed.after.tables p.type (a + p.offset)))))) (sym a_text);
+          marks = text_marks a_text;
         };
         size = λ l k like. constant_size k.measures ∙ ap (λ b. cond b 1 (n.part.size l)) (sym a_text);
+        marks = by_marks numbering (trees.marks-Constant (expr.Constant (pos 0)) (pos 0) refl) (text_marks a_text);
       })
 
   pub value_is_set : (x.is_literal && is_byte_type (element_of p.type)) ≡ false
@@ -85,9 +94,11 @@ module _ (numbering : Numbering) (tables : Tables) (p : Part) (n : Noted) (x : S
       let r = value_sets numbering x.value (value_type (class_of p.type) (bytes_of here (Some p.type))) p n no_text
       (stored_in here (Some p.type)) h.worth
       in
+      let marks = as_told numbering h.marks (λ l. ap (λ b. cond b [] (n.part.marks l)) (sym no_text)) in
       subst (λ u. IsPair numbering (value_pair u p x.value) p n) (sym t) (record {
-        set = record { size = r.size; room = r.room; runs = r.runs };
+        set = record { size = r.size; room = r.room; runs = r.runs; marks = marks };
         size = λ l k like. h.worth.size l k like ∙ ap (λ b. cond b 1 (n.part.size l)) (sym no_text);
+        marks = marks;
       })
 
 -- ---- expressions that have their parts, and one more

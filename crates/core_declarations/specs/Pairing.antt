@@ -15,7 +15,8 @@ use Rattle.core_tree.specs.declared.expr.Expr.{Expr}
 use Rattle.core_tree.specs.declared.expr.Expr.TheVariants as expr
 use Rattle.core_tree.specs.States as core
 use Rattle.core_tree.specs.Values.{value}
-use Rattle.elaborate.specs.Means.{Numbering, Like, IsValueOf}
+use Rattle.core_marks.specs.Marks.{value_marks}
+use Rattle.elaborate.specs.Means.{Numbering, Like, SameMarks, IsValueOf}
 use Rattle.elaborate.specs.Types.{value_type}
 use Rattle.core_objects.specs.Given.{IsSet}
 use Rattle.core_declarations.specs.declared.pairing.Source.{Source}
@@ -30,12 +31,14 @@ pub record IsSource (numbering : Numbering) (x : Source) (n : Noted) : Type 0 wh
   pub literal : x.is_literal ≡ is_literal_in n.part.typed.shown
   pub worth : IsValueOf numbering x.value n.part
   pub text : (l : Level) → l.identity ≡ numbering.identity → x.text ≡ n.part.text l
+  pub marks : SameMarks numbering (value_marks x.value) n.part.marks
 
 -- an expression, and the part that it sets
 pub record IsPair (numbering : Numbering) (y : Pair) (p : Part) (n : Noted) : Type 0 where
   pub set : IsSet numbering y.setting p n
   pub size : (l : c.Level) (k : core.Level core.Output) → Like numbering l k
       → (value {O = core.Output} y.counted).needs.size k.measures ≡ initials.set_size p n l
+  pub marks : SameMarks numbering (value_marks y.counted) (initials.set_marks p n)
 
 -- a literal that sets a whole array counts as one node
 abbrev pub text_pair : Tables → Part → Option (List ℕ) → Pair

@@ -17,12 +17,17 @@ use Rattle.c_means.specs.Values.{bytes_of, class_in}
 use Rattle.core_tree.specs.declared.expr.Callee.{Callee}
 use Rattle.core_tree.specs.declared.expr.Expr.{Expr}
 use Rattle.core_tree.specs.declared.types.ValueType.{ValueType}
-use Rattle.elaborate.specs.Means.{Numbering, as_done, IsCallOf, AreArguments}
+use Rattle.c_means.specs.Marks.{Calls}
+use Rattle.core_tree.specs.declared.expr.Expr.TheVariants as expr
+use Rattle.core_marks.specs.Marks.{call_marks, values_marks}
+use Rattle.core_marks.proofs.ExprMarks as trees
+use Rattle.elaborate.specs.Means.{Numbering, SameMarks, as_done, IsCallOf, AreArguments}
 use Rattle.elaborate.proofs.Calls.{call_effect, call_value, needed_same}
 use Rattle.core_forms.specs.declared.built.Node.TheVariants as node
 use Rattle.core_forms.specs.declared.built.Built.{Built}
 use Rattle.core_forms.specs.Nodes.{a_part, type_as, unmeant}
 use Rattle.core_forms.proofs.Forms.{converted_does}
+use Rattle.core_forms.proofs.Marks.{by_marks, marks_then, no_marks}
 use Rattle.core_exprs.specs.declared.arguments.Passing.{Passing}
 use Rattle.core_exprs.specs.declared.found.Found.{Found}
 use Rattle.core_exprs.specs.declared.site.Site.{Site as CodeSite}
@@ -50,9 +55,23 @@ module _ (n : Numbering) where
   arguments_are tables (p ∷ ps) [] [] h = absurd h
   arguments_are tables (p ∷ ps) (t ∷ ts) [] h = absurd h
   arguments_are tables (p ∷ ps) [] (e ∷ es) h =
-      (converted_does n tables (form.promoted_type (value_type p.typed)) e p h.0, arguments_are tables ps [] es h.1)
+      (converted_does n tables (form.promoted_type (value_type p.typed)) e p h.0.value, arguments_are tables ps [] es h.1)
   arguments_are tables (p ∷ ps) (t ∷ ts) (e ∷ es) h =
-      (converted_does n tables (Some t) e p h.0, arguments_are tables ps ts es h.1)
+      (converted_does n tables (Some t) e p h.0.value, arguments_are tables ps ts es h.1)
+
+  arguments_marks : (tables : Tables) (ps : List Part) (ts : List CType) (es : List Expr) → AreValues n es ps
+      → SameMarks n (values_marks (all_converted tables (passed_types (passed ps ts)) es)) (form.all_marks (passed ps ts))
+  arguments_marks tables [] ts es h = no_marks n
+  arguments_marks tables (p ∷ ps) [] [] h = absurd h
+  arguments_marks tables (p ∷ ps) (t ∷ ts) [] h = absurd h
+  arguments_marks tables (p ∷ ps) [] (e ∷ es) h =
+      let to = type_as tables (form.promoted_type (value_type p.typed)) in
+      marks_then n (by_marks n (trees.marks-Convert (expr.Convert to e) to e refl) h.0.marks)
+      (arguments_marks tables ps [] es h.1)
+  arguments_marks tables (p ∷ ps) (t ∷ ts) (e ∷ es) h =
+      let to = type_as tables (Some t) in
+      marks_then n (by_marks n (trees.marks-Convert (expr.Convert to e) to e refl) h.0.marks)
+      (arguments_marks tables ps ts es h.1)
 
   -- what is called, at the sites that a level has
   called_at : (c : Callee) (at : ℕ) (t : ValueType) (g : Site) (h : Level → Site)
@@ -60,6 +79,10 @@ module _ (n : Numbering) where
   called_at c at t g h same i = record {
     size = λ l k like. i.size l k like ∙ ap l.size (same l like.identity);
     room = λ l k like. i.room l k like ∙ ap l.room (same l like.identity);
+    marks = record {
+      are = λ name l k like named. i.marks.are name l k like (λ x f is. named x f is)
+          ∙ ap l.marks (same l like.identity);
+    };
     runs = λ l k like env vs base s o. i.runs l k like env vs base s o
         ∙ ap (λ x. Some (as_done (l.call x env vs base s o.count))) (same l like.identity);
   }
@@ -113,6 +136,11 @@ module _ (n : Numbering) where
         let t = type_as s.tables (type_of said_) in
         let args = arguments_are s.tables ps (parameters_of s.tables (type_of f.typed)) xs.values h.values in
         let calls = called_at c.callee f.typed.at t (site_of site_ s) g site_same c.calls in
+        let standing : SameMarks n (call_marks f.typed.at c.callee) (λ l. form.call_marks (g l) l) =
+        record {
+          are = λ name l k like named.
+              ap (λ ms. Calls f.typed.at ∷ ms) (calls.marks.are name l k like named);
+        } in
         subst (λ x. IsFoundOf n x (direct_call f.typed.at said_ g passed_) s) (sym c.is) (record {
           built = record {
             told = refl;
@@ -123,6 +151,11 @@ module _ (n : Numbering) where
               value = call_value n f.typed.at values_ passed_ c.callee t said_ g args calls (λ l. refl)
                   (needed_same f.typed.at (class_in (type_of said_)) (bytes_of s.tables (type_of said_)));
               effect = call_effect n f.typed.at values_ passed_ c.callee t said_ g args calls (λ l. refl);
+              marks = λ used. by_marks n
+                  (trees.marks-Call (expr.Call f.typed.at values_ c.callee t used) f.typed.at values_ c.callee t used
+                  refl) (marks_then n standing
+                  (arguments_marks s.tables ps (parameters_of s.tables (type_of f.typed)) xs.values h.values));
+              place_marks = λ l. refl;
             };
           };
           text = λ l k. ap₂ (λ i ts. form.text_at (i e.name) ts) (sym k)

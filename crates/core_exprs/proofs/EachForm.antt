@@ -348,7 +348,7 @@ module _ (n : Numbering) where
       quietly w z (forms.binary at op p q) s q.typed.after is
       (claims.binary_claim n op at tables x k p q
       (nodes.is_constant (says.node_over_two at x.told.shown k.told.shown (says.operated tables op)
-      (x.told.faults ++ k.told.faults))) z (behind_part tables s y q t i) h (on_used tables s y q k t i j) m)
+      (x.told.faults ++ k.told.faults))) z (behind_part tables s y q t i) h (on_used tables s y q k t i j) refl m)
       (quiet_binary at op p q) i.after
 
   pub on_simple : (at : ℕ) (tables : Tables) (s : Scope) (x : Built) (y : Found) (p q : Part) (k : Used) (z : Built)

@@ -15,14 +15,14 @@ use Rattle.c_means.specs.Operators.{value_type}
 use Rattle.c_means.specs.Parts.{Level, Part}
 use Rattle.c_means.specs.Trees.{part, through}
 use Rattle.core_tree.specs.declared.expr.Expr.{Expr}
-use Rattle.elaborate.specs.Means.{Numbering, IsValueOf}
+use Rattle.elaborate.specs.Means.{Numbering}
 use Rattle.core_forms.specs.declared.built.Used.{Used}
 use Rattle.core_forms.specs.Nodes.{HasWorth}
 use Rattle.core_forms.specs.Built.{IsUsed}
 use Rattle.core_exprs.specs.declared.arguments.Passing.{Passing}
 use Rattle.core_exprs.specs.declared.found.Found.{Found}
 use Rattle.core_exprs.specs.Found.{IsFoundOf, AreFound, LeadsTo}
-use Rattle.core_exprs.specs.Passing.{AreValues, ArePassed, and_used, none_passed, texts_of, value_types}
+use Rattle.core_exprs.specs.Passing.{IsMarkedValue, AreValues, ArePassed, and_used, none_passed, texts_of, value_types}
 use Rattle.core_exprs.proofs.EachForm.{on_used}
 
 -- ---- one more
@@ -41,7 +41,7 @@ texts_more [] p l = refl
 texts_more (q ∷ ps) p l = ap (λ ts. q.text l ∷ ts) (texts_more ps p l)
 
 module _ (n : Numbering) where
-  values_more : (es : List Expr) (ps : List Part) (e : Expr) (p : Part) → AreValues n es ps → IsValueOf n e p
+  values_more : (es : List Expr) (ps : List Part) (e : Expr) (p : Part) → AreValues n es ps → IsMarkedValue n e p
       → AreValues n (es ++ e ∷ []) (ps ++ p ∷ [])
   values_more [] [] e p h v = (v, tt)
   values_more [] (q ∷ ps) e p h v = absurd h
@@ -55,7 +55,7 @@ module _ (n : Numbering) where
     said = ap₂ and_argument h.said k.told ∙ sym (said_more (no_arguments faults) ps p);
     types = ap₂ (λ ts (v : Told). ts ++ type_in v.shown ∷ []) h.types k.told ∙ sym (types_more ps p);
     texts = λ l is. ap₂ (λ ts t. ts ++ t ∷ []) (h.texts l is) (same l is) ∙ sym (texts_more ps p l);
-    values = values_more x.values ps u.value p h.values k.value;
+    values = values_more x.values ps u.value p h.values (record { value = k.value; marks = k.marks });
   }
 
   pub and_found : (faults : List Fault) (ps : List Part) (p : Part) (x : Passing) (tables : Tables) (s : Scope)

@@ -12,7 +12,8 @@ use Rattle.core_tree.specs.declared.expr.Callee.{Callee}
 use Rattle.core_tree.specs.declared.expr.Expr.{Expr}
 use Rattle.core_tree.specs.declared.expr.Expr.TheVariants as expr
 use Rattle.core_tree.specs.declared.types.ValueType.{ValueType}
-use Rattle.elaborate.specs.Means.{Numbering, IsCallOf}
+use Rattle.core_marks.specs.Marks.{value_marks}
+use Rattle.elaborate.specs.Means.{Numbering, SameMarks, IsCallOf}
 use Rattle.core_forms.specs.declared.built.Built.{Built}
 use Rattle.core_forms.specs.declared.built.Node.TheVariants as node
 use Rattle.core_forms.specs.Nodes.{type_as}
@@ -76,3 +77,4 @@ pub record IsConvertedAs (numbering : Numbering) (e : Expr) (p : Part) (t : Opti
   pub inner : Expr
   pub is : e ≡ expr.Convert to inner
   pub does : IsConverted numbering (expr.Convert to inner) p t
+  pub marks : SameMarks numbering (value_marks inner) p.marks

@@ -10,7 +10,8 @@ use Rattle.c_means.specs.Operators.{value_type}
 use Rattle.c_means.specs.Parts.{Level, Part}
 use Rattle.core_tree.specs.declared.expr.Expr.{Expr}
 use Rattle.core_tree.specs.declared.expr.Expr.TheVariants as expr
-use Rattle.elaborate.specs.Means.{Numbering, IsValueOf}
+use Rattle.core_marks.specs.Marks.{value_marks}
+use Rattle.elaborate.specs.Means.{Numbering, SameMarks, IsValueOf}
 use Rattle.core_forms.specs.declared.built.Used.{Used}
 use Rattle.core_forms.specs.Nodes.{type_as}
 use Rattle.core_exprs.specs.declared.arguments.Passing.{Passing}
@@ -49,9 +50,14 @@ all_converted tables [] es = []
 all_converted tables (t ∷ ts) [] = []
 all_converted tables (t ∷ ts) (e ∷ es) = expr.Convert (type_as tables t) e ∷ all_converted tables ts es
 
+-- the core of a part's value, with what stands at its tokens
+pub record IsMarkedValue (numbering : Numbering) (e : Expr) (p : Part) : Type 0 where
+  pub value : IsValueOf numbering e p
+  pub marks : SameMarks numbering (value_marks e) p.marks
+
 abbrev pub AreValues : Numbering → List Expr → List Part → Type 0
 AreValues numbering [] [] = Unit {0}
-AreValues numbering (e ∷ es) (p ∷ ps) = IsValueOf numbering e p × AreValues numbering es ps
+AreValues numbering (e ∷ es) (p ∷ ps) = IsMarkedValue numbering e p × AreValues numbering es ps
 AreValues numbering _ _ = ⊥
 
 -- what was found of arguments

@@ -34,7 +34,7 @@ use Rattle.core_forms.proofs.Saying.{said_postfix, said_unary}
 use Rattle.core_forms.proofs.Forms.{constant_built, unmeant_built, local_built, fixed_built, minus_built, plus_built}
 use Rattle.core_forms.proofs.Forms.{complement_built, address_built, subscript_built, member_built, and_built, or_built}
 use Rattle.core_forms.proofs.Forms.{both_built}
-use Rattle.core_forms.proofs.Assigns.{simple_built, compound_built, step_built}
+use Rattle.core_forms.proofs.Assigns.{step_marks, simple_built, compound_built, step_built}
 
 module _ (numbering : Numbering) where
   -- ---- names
@@ -66,7 +66,7 @@ module _ (numbering : Numbering) where
       → (let told = says.node_over at x.told.shown (says.unary_judged tables u.Minus) x.told.faults in
       y ≡ a_value told (turned_node at turn.Minus (kind_in (type_in x.told.shown)) (is_constant told) x.value))
       → IsBuilt numbering y (forms.unary at u.Minus p)
-  minus_claim at tables x p y t h m = minus_built numbering at tables x p _ _ y t h refl m
+  minus_claim at tables x p y t h m = minus_built numbering at tables x p _ _ y t h refl refl m
 
   pub plus_claim : (at : ℕ) (tables : Tables) (x : Used) (p : Part) (y : Built) → tables ≡ p.typed.after.tables
       → IsUsed numbering x p
@@ -110,42 +110,44 @@ module _ (numbering : Numbering) where
 
   pub binary_claim : (op : BinaryOperator) (at : ℕ) (tables : Tables) (x y : Used) (p q : Part) (c : Bool) (z : Built)
       → tables ≡ q.typed.after.tables → IsUsed numbering x p → IsUsed numbering y q
+      → c ≡ is_constant (says.node_over_two at x.told.shown y.told.shown (says.operated tables op)
+      (x.told.faults ++ y.told.faults))
       → z ≡ a_value (says.node_over_two at x.told.shown y.told.shown (says.operated tables op)
       (x.told.faults ++ y.told.faults)) (binary_node at op tables c x y) → IsBuilt numbering z (forms.binary at op p q)
-  binary_claim o.Multiply at tables x y p q c z t h i m =
-      both_built numbering o.Multiply a.Multiply refl at tables x y p q c _ z t h i refl m
-  binary_claim o.Divide at tables x y p q c z t h i m =
-      both_built numbering o.Divide a.Divide refl at tables x y p q c _ z t h i refl m
-  binary_claim o.Remainder at tables x y p q c z t h i m =
-      both_built numbering o.Remainder a.Remainder refl at tables x y p q c _ z t h i refl m
-  binary_claim o.Add at tables x y p q c z t h i m =
-      both_built numbering o.Add a.Add refl at tables x y p q c _ z t h i refl m
-  binary_claim o.Subtract at tables x y p q c z t h i m =
-      both_built numbering o.Subtract a.Subtract refl at tables x y p q c _ z t h i refl m
-  binary_claim o.ShiftLeft at tables x y p q c z t h i m =
-      both_built numbering o.ShiftLeft a.ShiftLeft refl at tables x y p q c _ z t h i refl m
-  binary_claim o.ShiftRight at tables x y p q c z t h i m =
-      both_built numbering o.ShiftRight a.ShiftRight refl at tables x y p q c _ z t h i refl m
-  binary_claim o.Less at tables x y p q c z t h i m =
-      both_built numbering o.Less a.Less refl at tables x y p q c _ z t h i refl m
-  binary_claim o.Greater at tables x y p q c z t h i m =
-      both_built numbering o.Greater a.Greater refl at tables x y p q c _ z t h i refl m
-  binary_claim o.LessEqual at tables x y p q c z t h i m =
-      both_built numbering o.LessEqual a.LessEqual refl at tables x y p q c _ z t h i refl m
-  binary_claim o.GreaterEqual at tables x y p q c z t h i m =
-      both_built numbering o.GreaterEqual a.GreaterEqual refl at tables x y p q c _ z t h i refl m
-  binary_claim o.Equal at tables x y p q c z t h i m =
-      both_built numbering o.Equal a.Equal refl at tables x y p q c _ z t h i refl m
-  binary_claim o.NotEqual at tables x y p q c z t h i m =
-      both_built numbering o.NotEqual a.NotEqual refl at tables x y p q c _ z t h i refl m
-  binary_claim o.BitAnd at tables x y p q c z t h i m =
-      both_built numbering o.BitAnd a.BitAnd refl at tables x y p q c _ z t h i refl m
-  binary_claim o.BitXor at tables x y p q c z t h i m =
-      both_built numbering o.BitXor a.BitXor refl at tables x y p q c _ z t h i refl m
-  binary_claim o.BitOr at tables x y p q c z t h i m =
-      both_built numbering o.BitOr a.BitOr refl at tables x y p q c _ z t h i refl m
-  binary_claim o.LogicalAnd at tables x y p q c z t h i m = and_built numbering at tables x y p q _ z t h i refl m
-  binary_claim o.LogicalOr at tables x y p q c z t h i m = or_built numbering at tables x y p q _ z t h i refl m
+  binary_claim o.Multiply at tables x y p q c z t h i constant m =
+      both_built numbering o.Multiply a.Multiply refl at tables x y p q c _ z t h i refl constant m
+  binary_claim o.Divide at tables x y p q c z t h i constant m =
+      both_built numbering o.Divide a.Divide refl at tables x y p q c _ z t h i refl constant m
+  binary_claim o.Remainder at tables x y p q c z t h i constant m =
+      both_built numbering o.Remainder a.Remainder refl at tables x y p q c _ z t h i refl constant m
+  binary_claim o.Add at tables x y p q c z t h i constant m =
+      both_built numbering o.Add a.Add refl at tables x y p q c _ z t h i refl constant m
+  binary_claim o.Subtract at tables x y p q c z t h i constant m =
+      both_built numbering o.Subtract a.Subtract refl at tables x y p q c _ z t h i refl constant m
+  binary_claim o.ShiftLeft at tables x y p q c z t h i constant m =
+      both_built numbering o.ShiftLeft a.ShiftLeft refl at tables x y p q c _ z t h i refl constant m
+  binary_claim o.ShiftRight at tables x y p q c z t h i constant m =
+      both_built numbering o.ShiftRight a.ShiftRight refl at tables x y p q c _ z t h i refl constant m
+  binary_claim o.Less at tables x y p q c z t h i constant m =
+      both_built numbering o.Less a.Less refl at tables x y p q c _ z t h i refl constant m
+  binary_claim o.Greater at tables x y p q c z t h i constant m =
+      both_built numbering o.Greater a.Greater refl at tables x y p q c _ z t h i refl constant m
+  binary_claim o.LessEqual at tables x y p q c z t h i constant m =
+      both_built numbering o.LessEqual a.LessEqual refl at tables x y p q c _ z t h i refl constant m
+  binary_claim o.GreaterEqual at tables x y p q c z t h i constant m =
+      both_built numbering o.GreaterEqual a.GreaterEqual refl at tables x y p q c _ z t h i refl constant m
+  binary_claim o.Equal at tables x y p q c z t h i constant m =
+      both_built numbering o.Equal a.Equal refl at tables x y p q c _ z t h i refl constant m
+  binary_claim o.NotEqual at tables x y p q c z t h i constant m =
+      both_built numbering o.NotEqual a.NotEqual refl at tables x y p q c _ z t h i refl constant m
+  binary_claim o.BitAnd at tables x y p q c z t h i constant m =
+      both_built numbering o.BitAnd a.BitAnd refl at tables x y p q c _ z t h i refl constant m
+  binary_claim o.BitXor at tables x y p q c z t h i constant m =
+      both_built numbering o.BitXor a.BitXor refl at tables x y p q c _ z t h i refl constant m
+  binary_claim o.BitOr at tables x y p q c z t h i constant m =
+      both_built numbering o.BitOr a.BitOr refl at tables x y p q c _ z t h i refl constant m
+  binary_claim o.LogicalAnd at tables x y p q c z t h i constant m = and_built numbering at tables x y p q _ z t h i refl m
+  binary_claim o.LogicalOr at tables x y p q c z t h i constant m = or_built numbering at tables x y p q _ z t h i refl m
 
   -- ---- assignment
 
@@ -172,10 +174,18 @@ module _ (numbering : Numbering) where
       (stepped_node at o.Add answered.Stored tables x) → IsBuilt numbering y (forms.unary at u.Increment p)
   increment_claim at tables x p y t h m =
       let v = step_built numbering o.Add at answered.Stored tables x p t h u.Increment in
+      let stands = step_marks numbering o.Add at answered.Stored tables x p t h in
       subst (λ y. IsBuilt numbering y (forms.unary at u.Increment p)) (sym m) (record {
         told = said_unary u.Increment at tables x.told _ p.typed t h.told refl;
         rooted = refl;
-        node = record { is_value = refl; nowhere = record { reaches = λ l env base d. refl }; value = v; effect = v };
+        node = record {
+          is_value = refl;
+          nowhere = record { reaches = λ l env base d. refl };
+          value = v;
+          effect = v;
+          marks = stands;
+          place_marks = λ l. refl;
+        };
       })
 
   pub decrement_claim : (at : ℕ) (tables : Tables) (x : Built) (p : Part) (y : Built) → tables ≡ p.typed.after.tables
@@ -184,10 +194,18 @@ module _ (numbering : Numbering) where
       (stepped_node at o.Subtract answered.Stored tables x) → IsBuilt numbering y (forms.unary at u.Decrement p)
   decrement_claim at tables x p y t h m =
       let v = step_built numbering o.Subtract at answered.Stored tables x p t h u.Decrement in
+      let stands = step_marks numbering o.Subtract at answered.Stored tables x p t h in
       subst (λ y. IsBuilt numbering y (forms.unary at u.Decrement p)) (sym m) (record {
         told = said_unary u.Decrement at tables x.told _ p.typed t h.told refl;
         rooted = refl;
-        node = record { is_value = refl; nowhere = record { reaches = λ l env base d. refl }; value = v; effect = v };
+        node = record {
+          is_value = refl;
+          nowhere = record { reaches = λ l env base d. refl };
+          value = v;
+          effect = v;
+          marks = stands;
+          place_marks = λ l. refl;
+        };
       })
 
   pub postfix_claim : (op : PostfixOperator) (at : ℕ) (tables : Tables) (x : Built) (p : Part) (y : Built)
@@ -196,15 +214,31 @@ module _ (numbering : Numbering) where
       (stepped_node at (step_behind op) answered.Before tables x) → IsBuilt numbering y (forms.postfix at op p)
   postfix_claim after.Increment at tables x p y t h m =
       let v = step_built numbering o.Add at answered.Before tables x p t h in
+      let stands = step_marks numbering o.Add at answered.Before tables x p t h in
       subst (λ y. IsBuilt numbering y (forms.postfix at after.Increment p)) (sym m) (record {
         told = said_postfix at tables x.told _ p.typed t h.told refl;
         rooted = refl;
-        node = record { is_value = refl; nowhere = record { reaches = λ l env base d. refl }; value = v; effect = v };
+        node = record {
+          is_value = refl;
+          nowhere = record { reaches = λ l env base d. refl };
+          value = v;
+          effect = v;
+          marks = stands;
+          place_marks = λ l. refl;
+        };
       })
   postfix_claim after.Decrement at tables x p y t h m =
       let v = step_built numbering o.Subtract at answered.Before tables x p t h in
+      let stands = step_marks numbering o.Subtract at answered.Before tables x p t h in
       subst (λ y. IsBuilt numbering y (forms.postfix at after.Decrement p)) (sym m) (record {
         told = said_postfix at tables x.told _ p.typed t h.told refl;
         rooted = refl;
-        node = record { is_value = refl; nowhere = record { reaches = λ l env base d. refl }; value = v; effect = v };
+        node = record {
+          is_value = refl;
+          nowhere = record { reaches = λ l env base d. refl };
+          value = v;
+          effect = v;
+          marks = stands;
+          place_marks = λ l. refl;
+        };
       })

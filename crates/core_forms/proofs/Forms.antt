@@ -1,6 +1,6 @@
 -- Each form's core, by the cores of its parts.
 use Rattle.std.proofs.Common.{◌≡◌, ℕ, ℤ, pos, Bool, false, true, List, Option, Some, None, Ok, refl, sym, ap, ap₂, ◌∙◌, subst}
-use Rattle.std.specs.Prelude.{◌++◌, unwrap_or}
+use Rattle.std.specs.Prelude.{◌++◌, is_some, unwrap_or}
 use Rattle.std.proofs.lemmas.Bool.{false≢true}
 use Rattle.c_language.specs.declared.token.IntegerConstant.{IntegerConstant}
 use Rattle.c_language.specs.declared.expr.BinaryOperator.{BinaryOperator}
@@ -30,7 +30,12 @@ use Rattle.core_tree.specs.declared.types.ValueType.{ValueType}
 use Rattle.core_tree.specs.declared.types.ValueType.TheVariants as v
 use Rattle.core_tree.specs.Values.{value}
 use Rattle.core_tree.proofs.Equations as eq
-use Rattle.elaborate.specs.Means.{Numbering, IsValueOf, IsAddressOf, as_found}
+use Rattle.c_means.specs.Marks.{minus_kinds, operator_kinds, unless}
+use Rattle.c_means.specs.Marks as c_marks
+use Rattle.core_marks.specs.Marks.{value_marks}
+use Rattle.core_marks.specs.Marks as core_marks
+use Rattle.core_marks.proofs.ExprMarks as trees
+use Rattle.elaborate.specs.Means.{Numbering, SameMarks, IsValueOf, IsAddressOf, as_found}
 use Rattle.elaborate.specs.Operators.{operator_of}
 use Rattle.elaborate.specs.Types as types
 use Rattle.elaborate.specs.Types.{word_type}
@@ -41,6 +46,7 @@ use Rattle.elaborate.proofs.Refused.{nowhere_address, unturned_value, refused_va
 use Rattle.core_forms.specs.declared.built.Built.{Built}
 use Rattle.core_forms.specs.declared.built.Node.{Node}
 use Rattle.core_forms.specs.declared.built.Node.TheVariants as node
+use Rattle.core_forms.specs.Nodes as nodes
 use Rattle.core_forms.specs.Nodes.{a_part, a_value, a_place, address_in, call_node, operand_by, cast_type, type_as, type_by}
 use Rattle.core_forms.specs.Nodes.{member_node, member_rooted, operated_node, target_of_sum, turned_node, unmeant}
 use Rattle.c_language.specs.declared.scope.Duration.TheVariants as duration
@@ -51,6 +57,9 @@ use Rattle.core_forms.specs.Built.{IsConverted}
 use Rattle.core_forms.proofs.Saying.{value_told, said_unary, said_size, said_binary, said_subscript, said_comma}
 use Rattle.core_forms.proofs.Saying.{said_choice, said_cast, said_member, said_arrow}
 use Rattle.core_forms.proofs.KindLaws.{converts_same, extracts_same, operates_on}
+use Rattle.core_forms.proofs.Marks.{kinds_in, kinds_on, operated_marks, sum_marks, minus_marks, plus_marks}
+use Rattle.core_forms.proofs.Marks.{complement_marks, by_marks, as_told, no_marks, marks_then, own_then}
+use Rattle.core_forms.proofs.Marks.{stops_then}
 
 module _ (numbering : Numbering) where
   -- ---- constants
@@ -60,7 +69,18 @@ module _ (numbering : Numbering) where
   constant_built y told e z x is made said =
       let h = subst (λ e. IsValueOf numbering e (forms.constant x z)) (sym made) (values.constant_value numbering z x) in
       subst (λ y. IsBuilt numbering y (forms.constant x z)) (sym is)
-      (record { told = said; rooted = refl; node = record { is_value = refl; nowhere = record { reaches = λ l env base d. refl }; value = h; effect = h } })
+      (record {
+        told = said;
+        rooted = refl;
+        node = record {
+          is_value = refl;
+          nowhere = record { reaches = λ l env base d. refl };
+          value = h;
+          effect = h;
+          marks = by_marks numbering (trees.marks-Constant e z made) (no_marks numbering);
+          place_marks = λ l. refl;
+        };
+      })
 
   pub size_built : (at : ℕ) (tables : Tables) (x : Told) (p : Part) (told : Told) (y : Built) (z : ℤ)
       → tables ≡ p.typed.after.tables → x ≡ told_of p.typed
@@ -99,6 +119,8 @@ module _ (numbering : Numbering) where
           address = values.local_address numbering at x;
           value = λ l env base d. refl;
           effect = λ l env base d. refl;
+          marks = by_marks numbering (trees.marks-Local (expr.Local at) at refl) (no_marks numbering);
+          reads = λ l. refl;
         };
       })
 
@@ -116,6 +138,9 @@ module _ (numbering : Numbering) where
           address = values.fixed_address numbering at x;
           value = λ l env base d. refl;
           effect = λ l env base d. refl;
+          marks = by_marks numbering (trees.marks-Fixed (expr.Fixed (numbering.place at)) (numbering.place at) refl)
+              (no_marks numbering);
+          reads = λ l. refl;
         };
       })
 
@@ -133,6 +158,9 @@ module _ (numbering : Numbering) where
           address = values.literal_address numbering at (says.string_literal at pieces s);
           value = λ l env base d. refl;
           effect = λ l env base d. refl;
+          marks = by_marks numbering (trees.marks-Fixed (expr.Fixed (numbering.place at)) (numbering.place at) refl)
+              (no_marks numbering);
+          reads = λ l. refl;
         };
       })
 
@@ -150,6 +178,9 @@ module _ (numbering : Numbering) where
           address = values.literal_address numbering at (says.function_name at name s);
           value = λ l env base d. refl;
           effect = λ l env base d. refl;
+          marks = by_marks numbering (trees.marks-Fixed (expr.Fixed (numbering.place at)) (numbering.place at) refl)
+              (no_marks numbering);
+          reads = λ l. refl;
         };
       })
 
@@ -164,7 +195,14 @@ module _ (numbering : Numbering) where
       subst (λ y. IsBuilt numbering y (forms.unary at u.Not p)) (sym is) (record {
         told = said_unary u.Not at tables x.told told p.typed t h.told s;
         rooted = refl;
-        node = record { is_value = refl; nowhere = record { reaches = λ l env base d. refl }; value = v; effect = v };
+        node = record {
+          is_value = refl;
+          nowhere = record { reaches = λ l env base d. refl };
+          value = v;
+          effect = v;
+          marks = by_marks numbering (trees.marks-Not (expr.Not x.value) x.value refl) h.marks;
+          place_marks = λ l. refl;
+        };
       })
 
   -- what breaks a rule
@@ -177,6 +215,18 @@ module _ (numbering : Numbering) where
       → kind_in (type_in x.told.shown) ≡ kind → kind_in (value_type p.typed) ≡ kind
   kind_used x p kind h e = sym (ap (λ (a : Told). kind_in (type_in a.shown)) h.told) ∙ e
 
+  minus_told : (x : Used) (at : ℕ) (p : Part) (told : Told) (is_constant : Bool) → IsUsed numbering x p
+      → is_constant ≡ nodes.is_constant told → told ≡ told_of (says.unary at u.Minus p.typed)
+      → SameMarks numbering
+      (value_marks (turned_node at turn.Minus (kind_in (type_in x.told.shown)) is_constant x.value))
+      (forms.unary at u.Minus p).marks
+  minus_told x at p told is_constant h c said =
+      by_marks numbering (minus_marks at (kind_in (type_in x.told.shown)) is_constant x.value)
+      (stops_then numbering at (unless is_constant (minus_kinds (kind_in (type_in x.told.shown))))
+      (unless (is_some (says.constant_of (says.unary at u.Minus p.typed))) (minus_kinds (kind_in (value_type p.typed))))
+      (ap₂ (λ b k. unless b (minus_kinds k)) (c ∙ ap nodes.is_constant said)
+      (sym (kind_used x p (kind_in (type_in x.told.shown)) h refl))) h.marks)
+
   minus_by : (x : Used) (at : ℕ) (is_constant : Bool) (p : Part) (kind : Option IntegerKind) → IsUsed numbering x p
       → kind_in (value_type p.typed) ≡ kind
       → IsValueOf numbering (turned_node at turn.Minus kind is_constant x.value) (forms.unary at u.Minus p)
@@ -186,14 +236,23 @@ module _ (numbering : Numbering) where
   pub minus_built : (at : ℕ) (tables : Tables) (x : Used) (p : Part) (told : Told) (is_constant : Bool) (y : Built)
       → tables ≡ p.typed.after.tables → IsUsed numbering x p
       → told ≡ says.node_over at x.told.shown (says.unary_judged tables u.Minus) x.told.faults
+      → is_constant ≡ nodes.is_constant told
       → y ≡ a_value told (turned_node at turn.Minus (kind_in (type_in x.told.shown)) is_constant x.value)
       → IsBuilt numbering y (forms.unary at u.Minus p)
-  minus_built at tables x p told is_constant y t h s is =
+  minus_built at tables x p told is_constant y t h s c is =
       let v = minus_by x at is_constant p _ h (kind_used x p _ h refl) in
       subst (λ y. IsBuilt numbering y (forms.unary at u.Minus p)) (sym is) (record {
         told = said_unary u.Minus at tables x.told told p.typed t h.told s;
         rooted = refl;
-        node = record { is_value = refl; nowhere = record { reaches = λ l env base d. refl }; value = v; effect = v };
+        node = record {
+          is_value = refl;
+          nowhere = record { reaches = λ l env base d. refl };
+          value = v;
+          effect = v;
+          marks = minus_told x at p told is_constant h c
+              (said_unary u.Minus at tables x.told told p.typed t h.told s);
+          place_marks = λ l. refl;
+        };
       })
 
   plus_by : (x : Used) (at : ℕ) (is_constant : Bool) (p : Part) (kind : Option IntegerKind) → IsUsed numbering x p
@@ -212,7 +271,14 @@ module _ (numbering : Numbering) where
       subst (λ y. IsBuilt numbering y (forms.unary at u.Plus p)) (sym is) (record {
         told = said_unary u.Plus at tables x.told told p.typed t h.told s;
         rooted = refl;
-        node = record { is_value = refl; nowhere = record { reaches = λ l env base d. refl }; value = v; effect = v };
+        node = record {
+          is_value = refl;
+          nowhere = record { reaches = λ l env base d. refl };
+          value = v;
+          effect = v;
+          marks = by_marks numbering (plus_marks at (kind_in (type_in x.told.shown)) is_constant x.value) h.marks;
+          place_marks = λ l. refl;
+        };
       })
 
   complement_by : (x : Used) (at : ℕ) (is_constant : Bool) (p : Part) (kind : Option IntegerKind) → IsUsed numbering x p
@@ -232,7 +298,15 @@ module _ (numbering : Numbering) where
       subst (λ y. IsBuilt numbering y (forms.unary at u.Complement p)) (sym is) (record {
         told = said_unary u.Complement at tables x.told told p.typed t h.told s;
         rooted = refl;
-        node = record { is_value = refl; nowhere = record { reaches = λ l env base d. refl }; value = v; effect = v };
+        node = record {
+          is_value = refl;
+          nowhere = record { reaches = λ l env base d. refl };
+          value = v;
+          effect = v;
+          marks = by_marks numbering
+              (complement_marks at (kind_in (type_in x.told.shown)) is_constant x.value) h.marks;
+          place_marks = λ l. refl;
+        };
       })
 
   -- ---- addresses
@@ -243,6 +317,16 @@ module _ (numbering : Numbering) where
   address_of (node.Value e) p h = nowhere_address numbering e p h.value h.nowhere
   address_of (node.Call c) p h = nowhere_address numbering (call_node c true) p h.value h.nowhere
 
+  pub address_marks : (n : Node) (p : Part) → IsNodeOf numbering n p
+      → SameMarks numbering (value_marks (address_in n)) p.place_marks
+  address_marks (node.Place e) p h = h.marks
+  address_marks (node.Value e) p h =
+      by_marks numbering (trees.marks-Convert (expr.Convert v.Void e) v.Void e refl)
+      (as_told numbering h.marks h.place_marks)
+  address_marks (node.Call c) p h =
+      by_marks numbering (trees.marks-Convert (expr.Convert v.Void (call_node c true)) v.Void (call_node c true) refl)
+      (as_told numbering (h.marks true) h.place_marks)
+
   pub address_built : (at : ℕ) (tables : Tables) (x : Built) (p : Part) (told : Told) (y : Built)
       → tables ≡ p.typed.after.tables → IsBuilt numbering x p
       → told ≡ says.node_over at x.told.shown (says.unary_judged tables u.Address) x.told.faults
@@ -252,7 +336,16 @@ module _ (numbering : Numbering) where
       subst (λ y. IsBuilt numbering y (forms.unary at u.Address p)) (sym is) (record {
         told = said_unary u.Address at tables x.told told p.typed t h.told s;
         rooted = refl;
-        node = record { is_value = refl; nowhere = record { reaches = λ l env base d. refl }; value = v; effect = v };
+        node = record {
+          is_value = refl;
+          nowhere = record { reaches = λ l env base d. refl };
+          value = v;
+          effect = v;
+          marks = by_marks numbering
+              (trees.marks-Pointer (expr.Pointer (address_in x.node)) (address_in x.node) refl)
+              (address_marks x.node p h.node);
+          place_marks = λ l. refl;
+        };
       })
 
   pub indirection_built : (at : ℕ) (tables : Tables) (x : Used) (p : Part) (told : Told) (y : Built)
@@ -268,6 +361,8 @@ module _ (numbering : Numbering) where
           address = values.target_address numbering x.value at p h.value;
           value = λ l env base d. refl;
           effect = λ l env base d. refl;
+          marks = by_marks numbering (trees.marks-Target (expr.Target x.value) x.value refl) h.marks;
+          reads = λ l. refl;
         };
       })
 
@@ -281,6 +376,17 @@ module _ (numbering : Numbering) where
       ∙ ap₂ (λ (a b : Told). operated at op (operand_of q.typed.after.tables (type_in a.shown) v)
       (operand_of q.typed.after.tables (type_in b.shown) w) d) h.told i.told)
       ∙ refuses op (operand_by tables x.told) (operand_by tables y.told) none at v w d
+
+  -- what an operator on two operands may meet
+  operand_kinds_of : (op : BinaryOperator) (tables : Tables) (x y : Used) (p q : Part) → IsUsed numbering x p
+      → IsUsed numbering y q
+      → kinds_in (operator_of op (operand_by tables x.told) (operand_by tables y.told))
+      ≡ forms.operand_kinds op p.typed q.typed
+  operand_kinds_of op tables x y p q h i =
+      let first = operand_by tables x.told in
+      let second = operand_by tables y.told in
+      kinds_on op first.kind second.kind first.element second.element
+      ∙ ap₂ (operator_kinds op) (sym (kind_used x p first.kind h refl)) (sym (kind_used y q second.kind i refl))
 
   subscript_by : (at : ℕ) (tables : Tables) (x y : Used) (p q : Part) (chosen : Option Operator)
       → tables ≡ q.typed.after.tables → IsUsed numbering x p → IsUsed numbering y q
@@ -308,19 +414,31 @@ module _ (numbering : Numbering) where
           address = subscript_by at tables x y p q _ t h i refl;
           value = λ l env base d. refl;
           effect = λ l env base d. refl;
+          marks = by_marks numbering
+              (sum_marks at (operator_of o.Add (operand_by tables x.told) (operand_by tables y.told)) x.value y.value)
+              (stops_then numbering at
+              (kinds_in (operator_of o.Add (operand_by tables x.told) (operand_by tables y.told)))
+              (forms.operand_kinds o.Add p.typed q.typed) (operand_kinds_of o.Add tables x y p q h i)
+              (marks_then numbering h.marks i.marks));
+          reads = λ l. refl;
         };
       })
 
+  marks_behind : (offset : ℕ) (e : Expr) → value_marks (expr.Offset offset e) ≡ value_marks e
+  marks_behind offset e = trees.marks-Offset (expr.Offset offset e) offset e refl
+
   member_place : (b : Bool) (offset : ℕ) (at : ℕ) (name : Name) (e : Expr) (p : Part) → b ≡ true
-      → IsAddressOf numbering e p
+      → IsAddressOf numbering e p → SameMarks numbering (value_marks e) p.place_marks
       → IsPlaceOf numbering (expr.Offset offset e) (forms.member_by b offset (says.member at name p.typed) p)
-  member_place true offset at name e p is h = record {
+  member_place true offset at name e p is h m = record {
     is_place = refl;
+    marks = by_marks numbering (marks_behind offset e) m;
+    reads = λ l. refl;
     address = pointers.member_address numbering offset (says.member at name p.typed) e p h;
     value = λ l env base d. refl;
     effect = λ l env base d. refl;
   }
-  member_place false offset at name e p is h = absurd (false≢true is)
+  member_place false offset at name e p is h m = absurd (false≢true is)
 
   rooted_same : (b : Bool) (offset : ℕ) (x : Typed) (p : Part) → b ≡ true
       → p.rooted ≡ (forms.member_by b offset x p).rooted
@@ -344,16 +462,25 @@ module _ (numbering : Numbering) where
         told = said_member at name tables x told p.typed t h.told s
             ∙ member_typed p.is_place _ (says.member at name p.typed) p;
         rooted = h.rooted ∙ rooted_same p.is_place _ (says.member at name p.typed) p h.node.is_place;
-        node = member_place p.is_place _ at name e p h.node.is_place h.node.address;
+        node = member_place p.is_place _ at name e p h.node.is_place h.node.address h.node.marks;
       })
 
   -- a member of a value
   member_worth : (b : Bool) (offset : ℕ) (x : Typed) (p : Part) (e : Expr) → b ≡ false → IsValueOf numbering e p
+      → SameMarks numbering (value_marks e) p.marks
       → IsWorthOf numbering (expr.Extract offset (type_as x.after.tables (type_of x)) e) (forms.member_by b offset x p)
-  member_worth true offset x p e is h = absurd (false≢true (sym is))
-  member_worth false offset x p e is h =
+  member_worth true offset x p e is h m = absurd (false≢true (sym is))
+  member_worth false offset x p e is h m =
       let v = pointers.member_value numbering offset (type_as x.after.tables (type_of x)) x e p h (extracts_same x offset) in
-      record { is_value = refl; nowhere = record { reaches = λ l env base d. refl }; value = v; effect = v }
+      let t = type_as x.after.tables (type_of x) in
+      record {
+        is_value = refl;
+        nowhere = record { reaches = λ l env base d. refl };
+        value = v;
+        effect = v;
+        marks = by_marks numbering (trees.marks-Extract (expr.Extract offset t e) offset t e refl) m;
+        place_marks = λ l. refl;
+      }
 
   unrooted : (b : Bool) (offset : ℕ) (x : Typed) (p : Part) → b ≡ false → false ≡ (forms.member_by b offset x p).rooted
   unrooted true offset x p is = absurd (false≢true (sym is))
@@ -361,10 +488,11 @@ module _ (numbering : Numbering) where
 
   extract_built : (at : ℕ) (name : Name) (tables : Tables) (x : Told) (e : Expr) (p : Part) (told : Told) (y : Built)
       → tables ≡ p.typed.after.tables → x ≡ told_of p.typed → p.is_place ≡ false → IsValueOf numbering e p
+      → SameMarks numbering (value_marks e) p.marks
       → told ≡ says.node_over at x.shown (says.member_shown_of tables name) x.faults
       → y ≡ a_value told (expr.Extract (forms.offset_of tables (type_in x.shown) name) (type_by tables told) e)
       → IsBuilt numbering y (forms.member at name p)
-  extract_built at name tables x e p told y h i not_place v s is =
+  extract_built at name tables x e p told y h i not_place v m s is =
       let offset = forms.offset_of p.typed.after.tables (type_of p.typed) name in
       let n = ap₂ (λ a (b : Told). forms.offset_of a (type_in b.shown) name) h i in
       let said = said_member at name tables x told p.typed h i s in
@@ -373,7 +501,7 @@ module _ (numbering : Numbering) where
       (sym (is ∙ ap₂ (λ m t. a_value told (expr.Extract m t e)) n t)) (record {
         told = said ∙ member_typed p.is_place offset (says.member at name p.typed) p;
         rooted = unrooted p.is_place offset (says.member at name p.typed) p not_place;
-        node = member_worth p.is_place offset (says.member at name p.typed) p e not_place v;
+        node = member_worth p.is_place offset (says.member at name p.typed) p e not_place v m;
       })
 
   pub member_built : (at : ℕ) (name : Name) (tables : Tables) (x : Told) (rooted : Bool) (n : Node) (p : Part)
@@ -385,9 +513,10 @@ module _ (numbering : Numbering) where
   member_built at name tables x rooted (node.Place e) p told y t h s is =
       lvalue_built at name tables x rooted e p (forms.offset_of tables (type_in x.shown) name) told y t h refl s is
   member_built at name tables x rooted (node.Value e) p told y t h s is =
-      extract_built at name tables x e p told y t h.told h.node.is_value h.node.value s is
+      extract_built at name tables x e p told y t h.told h.node.is_value h.node.value h.node.marks s is
   member_built at name tables x rooted (node.Call c) p told y t h s is =
-      extract_built at name tables x (call_node c true) p told y t h.told h.node.is_value h.node.value s is
+      extract_built at name tables x (call_node c true) p told y t h.told h.node.is_value h.node.value
+      (h.node.marks true) s is
 
   pub arrow_built : (at : ℕ) (name : Name) (tables : Tables) (x : Used) (p : Part) (offset : ℕ) (told : Told)
       (y : Built)
@@ -407,6 +536,10 @@ module _ (numbering : Numbering) where
           address = pointers.arrow_address numbering at name x.value p h.value;
           value = λ l env base d. refl;
           effect = λ l env base d. refl;
+          marks = by_marks numbering (marks_behind (forms.offset_of p.typed.after.tables
+              (target_in (value_type p.typed)) name) (expr.Convert v.Pointer x.value)
+              ∙ trees.marks-Convert (expr.Convert v.Pointer x.value) v.Pointer x.value refl) h.marks;
+          reads = λ l. refl;
         };
       })
 
@@ -422,7 +555,16 @@ module _ (numbering : Numbering) where
       subst (λ z. IsBuilt numbering z (forms.binary at o.LogicalAnd p q)) (sym is) (record {
         told = said_binary o.LogicalAnd at tables x.told y.told told p.typed q.typed t h.told i.told s;
         rooted = refl;
-        node = record { is_value = refl; nowhere = record { reaches = λ l env base d. refl }; value = v; effect = v };
+        node = record {
+          is_value = refl;
+          nowhere = record { reaches = λ l env base d. refl };
+          value = v;
+          effect = v;
+          marks = by_marks numbering
+              (trees.marks-And (expr.And at x.value y.value) at x.value y.value refl)
+              (own_then numbering (core_marks.sides at) (c_marks.sides at) (λ name. refl) (marks_then numbering h.marks i.marks));
+          place_marks = λ l. refl;
+        };
       })
 
   pub or_built : (at : ℕ) (tables : Tables) (x y : Used) (p q : Part) (told : Told) (z : Built)
@@ -435,7 +577,16 @@ module _ (numbering : Numbering) where
       subst (λ z. IsBuilt numbering z (forms.binary at o.LogicalOr p q)) (sym is) (record {
         told = said_binary o.LogicalOr at tables x.told y.told told p.typed q.typed t h.told i.told s;
         rooted = refl;
-        node = record { is_value = refl; nowhere = record { reaches = λ l env base d. refl }; value = v; effect = v };
+        node = record {
+          is_value = refl;
+          nowhere = record { reaches = λ l env base d. refl };
+          value = v;
+          effect = v;
+          marks = by_marks numbering
+              (trees.marks-Or (expr.Or at x.value y.value) at x.value y.value refl)
+              (own_then numbering (core_marks.sides at) (c_marks.sides at) (λ name. refl) (marks_then numbering h.marks i.marks));
+          place_marks = λ l. refl;
+        };
       })
 
   both_by : (op : BinaryOperator) (a : Arithmetic) → types.arithmetic op ≡ Some a → (at : ℕ) (tables : Tables)
@@ -452,15 +603,30 @@ module _ (numbering : Numbering) where
       (operates_on op tables x.told y.told p.typed q.typed chosen t h.told i.told
       (operates op (operand_by tables x.told) (operand_by tables y.told) chosen some) at))
 
+  both_told : (op : BinaryOperator) (at : ℕ) (tables : Tables) (x y : Used) (p q : Part) (is_constant : Bool)
+      (told : Told) → IsUsed numbering x p → IsUsed numbering y q → is_constant ≡ nodes.is_constant told
+      → told ≡ told_of (says.binary at op p.typed q.typed)
+      → SameMarks numbering (value_marks (operated_node at
+      (operator_of op (operand_by tables x.told) (operand_by tables y.told)) is_constant x.value y.value))
+      (forms.both_evaluated at op p q).marks
+  both_told op at tables x y p q is_constant told h i c said =
+      let chosen = operator_of op (operand_by tables x.told) (operand_by tables y.told) in
+      by_marks numbering (operated_marks at chosen is_constant x.value y.value)
+      (stops_then numbering at (unless is_constant (kinds_in chosen))
+      (unless (is_some (says.constant_of (says.binary at op p.typed q.typed))) (forms.operand_kinds op p.typed q.typed))
+      (ap₂ unless (c ∙ ap nodes.is_constant said) (operand_kinds_of op tables x y p q h i))
+      (marks_then numbering h.marks i.marks))
+
   pub both_built : (op : BinaryOperator) (a : Arithmetic) → types.arithmetic op ≡ Some a → (at : ℕ) (tables : Tables)
       (x y : Used) (p q : Part) (is_constant : Bool) (told : Told) (z : Built)
       → tables ≡ q.typed.after.tables → IsUsed numbering x p → IsUsed numbering y q
       → told ≡ says.node_over_two at x.told.shown y.told.shown (says.operated tables op)
       (x.told.faults ++ y.told.faults)
+      → is_constant ≡ nodes.is_constant told
       → z ≡ a_value told (operated_node at (operator_of op (operand_by tables x.told) (operand_by tables y.told))
       is_constant x.value y.value)
       → IsBuilt numbering z (forms.binary at op p q)
-  both_built op a is_one at tables x y p q is_constant told z t h i s is =
+  both_built op a is_one at tables x y p q is_constant told z t h i s c is =
       let v = both_by op a is_one at tables x y p q _ is_constant t h i refl in
       subst (λ z. IsBuilt numbering z (forms.binary at op p q)) (sym is)
       (subst (λ r. IsBuilt numbering (a_value told (operated_node at
@@ -468,7 +634,15 @@ module _ (numbering : Numbering) where
       (sym (values.evaluates_both numbering op a is_one at p q)) (record {
         told = said_binary op at tables x.told y.told told p.typed q.typed t h.told i.told s;
         rooted = refl;
-        node = record { is_value = refl; nowhere = record { reaches = λ l env base d. refl }; value = v; effect = v };
+        node = record {
+          is_value = refl;
+          nowhere = record { reaches = λ l env base d. refl };
+          value = v;
+          effect = v;
+          marks = both_told op at tables x y p q is_constant told h i c
+              (said_binary op at tables x.told y.told told p.typed q.typed t h.told i.told s);
+          place_marks = λ l. refl;
+        };
       }))
 
   pub comma_built : (at : ℕ) (x y : Used) (p q : Part) (told : Told) (z : Built)
@@ -481,7 +655,15 @@ module _ (numbering : Numbering) where
       subst (λ z. IsBuilt numbering z (forms.comma at p q)) (sym is) (record {
         told = said_comma at x.told y.told told p.typed q.typed h.told i.told s;
         rooted = refl;
-        node = record { is_value = refl; nowhere = record { reaches = λ l env base d. refl }; value = v; effect = v };
+        node = record {
+          is_value = refl;
+          nowhere = record { reaches = λ l env base d. refl };
+          value = v;
+          effect = v;
+          marks = by_marks numbering (trees.marks-Comma (expr.Comma x.value y.value) x.value y.value refl)
+              (marks_then numbering h.marks i.marks);
+          place_marks = λ l. refl;
+        };
       })
 
   -- ---- choices and casts
@@ -504,7 +686,19 @@ module _ (numbering : Numbering) where
       subst (λ z. IsBuilt numbering z (forms.choice at r p q)) (sym is) (record {
         told = said;
         rooted = refl;
-        node = record { is_value = refl; nowhere = record { reaches = λ l env base d. refl }; value = v; effect = v };
+        node = record {
+          is_value = refl;
+          nowhere = record { reaches = λ l env base d. refl };
+          value = v;
+          effect = v;
+          marks = by_marks numbering
+              (trees.marks-Choose (expr.Choose at w.value (expr.Convert t x.value) (expr.Convert t y.value)) at w.value
+              (expr.Convert t x.value) (expr.Convert t y.value) refl)
+              (own_then numbering (core_marks.sides at) (c_marks.sides at) (λ name. refl) (marks_then numbering g.marks (marks_then numbering
+              (by_marks numbering (trees.marks-Convert (expr.Convert t x.value) t x.value refl) h.marks)
+              (by_marks numbering (trees.marks-Convert (expr.Convert t y.value) t y.value refl) i.marks))));
+          place_marks = λ l. refl;
+        };
       })
 
   pub cast_built : (at : ℕ) (named : NamedType) (faults : List Fault) (x : Used) (p : Part) (told : Told)
@@ -519,7 +713,15 @@ module _ (numbering : Numbering) where
       subst (λ y. IsBuilt numbering y (forms.cast at named faults p)) (sym is) (record {
         told = said_cast at named faults x.told told p.typed h.told s;
         rooted = refl;
-        node = record { is_value = refl; nowhere = record { reaches = λ l env base d. refl }; value = v; effect = v };
+        node = record {
+          is_value = refl;
+          nowhere = record { reaches = λ l env base d. refl };
+          value = v;
+          effect = v;
+          marks = by_marks numbering
+              (trees.marks-Cast (expr.Cast (cast_type named) x.value) (cast_type named) x.value refl) h.marks;
+          place_marks = λ l. refl;
+        };
       })
 
   -- ---- conversions as by assignment

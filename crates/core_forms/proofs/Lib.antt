@@ -1,5 +1,6 @@
 pub mod Saying
 pub mod KindLaws
+pub mod Marks
 pub mod Loads
 pub mod Forms
 pub mod Assigns

@@ -35,9 +35,11 @@ use Rattle.core_tree.specs.declared.types.ValueType.{ValueType}
 use Rattle.core_tree.specs.Codes.{code, in_turn}
 use Rattle.core_tree.specs.Numbers as numbers
 use Rattle.core_tree.specs.States.{Output}
-use Rattle.elaborate.specs.Means.{Numbering, Acts, AreParameters}
+use Rattle.core_marks.specs.Marks.{items_marks}
+use Rattle.elaborate.specs.Means.{Numbering, SameMarks, Acts, AreParameters}
 use Rattle.core_forms.specs.Nodes.{type_as}
 use Rattle.core_forms.proofs.KindLaws.{converts_same, none_some, some_same}
+use Rattle.core_forms.proofs.Marks.{no_marks}
 use Rattle.code_forms.specs.Contents.{AreCodesOf, noded}
 use Rattle.core_codes.specs.declared.context.Context.{Context}
 use Rattle.core_codes.specs.declared.made.Body.{Body}
@@ -122,6 +124,7 @@ was_read numbering f b h y u k inside block =
       items = content.items;
       lasting = inside.lasting (around f b) r;
       after = inside.after (around f b) r;
+      marks = content.marks;
     }
 
 abbrev no_body : Body
@@ -135,6 +138,7 @@ not_read numbering f = record {
   items = none;
   lasting = record { each = []; all = refl; set = tt };
   after = refl;
+  marks = no_marks numbering;
 } where
   none : AreCodesOf numbering [] (nothing f.inside)
   none = record {
@@ -208,6 +212,8 @@ module _ (numbering : Numbering) (f : FunctionSaid) (unread : Option ℕ) (c : O
         body = inside.is;
       };
       lasting = subst (λ xs. AreAllSet numbering xs (body_item f c).lasting) (sym m.settings) inside.lasting;
+      marks = subst (λ (xs : List Code). SameMarks numbering (items_marks xs) (body_item f c).marks) (sym m.items)
+          inside.marks;
     }
 
     made_by : (is_prelude : Bool) (x : Definition) (ns whole : Names) (s : Scope) (o : Option Entry) → f.entry ≡ o

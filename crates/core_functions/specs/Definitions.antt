@@ -12,7 +12,9 @@ use Rattle.core_tree.specs.declared.code.Code.TheVariants as code
 use Rattle.core_tree.specs.declared.expr.Expr.{Expr}
 use Rattle.core_tree.specs.Programs.{body_of}
 use Rattle.core_tree.specs.States.{Output}
-use Rattle.elaborate.specs.Means.{Numbering, AreParameters, IsBodyOf}
+use Rattle.core_marks.specs.Marks.{items_marks}
+use Rattle.core_marks.specs.Programs.{function_marks}
+use Rattle.elaborate.specs.Means.{Numbering, SameMarks, AreParameters, IsBodyOf}
 use Rattle.core_forms.specs.Nodes.{type_as}
 use Rattle.code_forms.specs.Contents.{AreCodesOf}
 use Rattle.core_codes.specs.declared.made.Body.{Body}
@@ -46,6 +48,7 @@ pub record IsInside (numbering : Numbering) (f : FunctionSaid) (b : Option runs.
     pub items : AreCodesOf numbering y.content.items item
     pub lasting : AreAllSet numbering y.settings (body_item f b).lasting
     pub after : t ≡ (body_item f b).after
+    pub marks : SameMarks numbering (items_marks y.content.items) (body_item f b).marks
 
 -- an item that is a `return`
 pub record IsReturn (c : Code) : Type 0 where
@@ -90,6 +93,7 @@ pub record IsDefinitionOf (numbering : Numbering) (x : Definition) (is_prelude :
   pub item : Item
   pub is_body : IsBodyOf numbering (body_of {O = Output} x.function) function item
   pub lasting : AreAllSet numbering x.settings function.body.lasting
+  pub marks : SameMarks numbering (function_marks x.function) function.body.marks
 
 -- none where it defines no function
 abbrev pub MaybeDefinitionOf : Numbering → Option Definition → Bool → Outer → Type 0

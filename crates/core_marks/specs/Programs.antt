@@ -5,21 +5,24 @@ use Rattle.core_tree.specs.declared.program.Core.{Core}
 use Rattle.core_tree.specs.declared.program.Function.{Function}
 use Rattle.core_marks.specs.declared.mark.Mark.{Mark}
 use Rattle.core_marks.specs.declared.mark.Mark.TheVariants.{Body}
-use Rattle.core_marks.specs.Marks.{each, items_marks}
+use Rattle.core_marks.specs.Marks.{items_marks}
 
 abbrev pub function_marks : Function → List Mark
 function_marks f = items_marks f.items
 
--- of a function of the source
-abbrev pub source_function_marks : Function → List Mark
-source_function_marks f = cond f.is_prelude [] (function_marks f)
+-- A program has the functions of its source that are reached in front of those of the library.
+abbrev pub own_functions : List Function → List Function
+own_functions [] = []
+own_functions (f ∷ fs) = cond f.is_prelude [] (f ∷ own_functions fs)
 
-abbrev pub source_functions_marks : List Function → List Mark
-source_functions_marks fs = each source_function_marks fs
+-- what stands at their tokens
+abbrev pub marks_in_front : List Function → List Mark
+marks_in_front [] = []
+marks_in_front (f ∷ fs) = cond f.is_prelude [] (function_marks f ++ marks_in_front fs)
 
--- of the functions of the source: a program has those that are reached
+-- of the functions of the source that are reached
 abbrev pub source_marks : Core → List Mark
-source_marks p = source_functions_marks p.functions
+source_marks p = marks_in_front p.functions
 
 -- the mark is a call of the function of this number by its body
 abbrev pub calls_body : ℕ → Mark → Bool

@@ -8,35 +8,25 @@ use core_tree::{Core, Function};
 use plain_data::Items;
 use std::alloc::{AllocError, Global};
 
-/// A function, where it is one of the source.
-fn put_source_function(
-    alloc: Global,
-    function: &Function,
-    out: &mut Items<Mark>,
-) -> Result<(), AllocError>
-    ensures { OnOk result (out.new ≡ out.old ++ programs.source_function_marks function.now) }
-{
-    if !function.is_prelude {
-        put_items(alloc, function.items.as_slice(), out)?;
-    }
-    Ok(())
-}
-
+/// The functions in front of the library's.
 fn put_source_functions(
     alloc: Global,
     functions: &[Function],
     out: &mut Items<Mark>,
 ) -> Result<(), AllocError>
-    ensures { OnOk result (out.new ≡ out.old ++ programs.source_functions_marks functions.now) }
+    ensures { OnOk result (out.new ≡ out.old ++ programs.marks_in_front functions.now) }
 {
-    'functions: for function in functions {
-        put_source_function(alloc, function, out)?;
+    for function in functions {
+        if function.is_prelude {
+            return Ok(());
+        }
+        put_items(alloc, function.items.as_slice(), out)?;
     }
     Ok(())
 }
 
-/// What stands at the tokens of the functions of the source, of which a program has those that are reached. It fails
-/// for want of memory alone.
+/// What stands at the tokens of the functions of the source that are reached: a program has them in front of those of
+/// the library. It fails for want of memory alone.
 pub fn source_marks(alloc: Global, core: &Core) -> Result<Items<Mark>, AllocError>
     ensures { IfOk result (λ marks. marks ≡ programs.source_marks core.now) }
 {

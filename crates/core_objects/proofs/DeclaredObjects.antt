@@ -1,5 +1,5 @@
 -- The core of a declared name is what the name's declaration does, by what it means.
-use Rattle.std.proofs.Common.{◌≡◌, ℕ, ◌+◌, Bool, true, false, List, [], ◌∷◌, map, Option, Some, None}
+use Rattle.std.proofs.Common.{◌≡◌, ℕ, ◌+◌, Bool, true, false, cond, List, [], ◌∷◌, map, Option, Some, None}
 use Rattle.std.proofs.Common.{refl, sym, ap, ◌∙◌, subst}
 use Rattle.std.proofs.lemmas.List.{append-nil}
 use Rattle.c_store.specs.Store.{start}
@@ -21,9 +21,12 @@ use Rattle.core_tree.specs.declared.expr.Expr.{Expr}
 use Rattle.core_tree.specs.declared.program.LastingSetting.{LastingSetting}
 use Rattle.core_tree.specs.Codes as core
 use Rattle.core_tree.proofs.Equations as eq
-use Rattle.elaborate.specs.Means.{Numbering, as_done, IsCodeOf}
+use Rattle.core_marks.specs.Marks.{code_marks}
+use Rattle.elaborate.specs.Means.{Numbering, SameMarks, as_done, IsCodeOf}
 use Rattle.elaborate.proofs.Codes.{by_item, running_same}
+use Rattle.core_forms.proofs.Marks.{no_marks}
 use Rattle.code_forms.proofs.Turns.{alone_codes}
+use Rattle.code_forms.proofs.Marks.{alone_marks, lasting_marks, object_marks}
 use Rattle.core_objects.specs.declared.begun.Begun.{Begun}
 use Rattle.core_objects.specs.declared.given.Initial.{Initial}
 use Rattle.core_objects.specs.Begun.{AreAllSet, IsBegun, bare, nothing_begun, one_begun}
@@ -43,6 +46,7 @@ none_is_given m numbering y is = subst (λ y. IsInitial m numbering y initials.u
       size = λ l k like. refl;
       room = λ l k like. refl;
       runs = λ l k like a env base d. refl;
+      marks = no_marks n;
     }
 
     by : (m : Means)
@@ -50,7 +54,7 @@ none_is_given m numbering y is = subst (λ y. IsInitial m numbering y initials.u
     by (means.Object t duration.Automatic l) = nothing_given numbering
     by (means.Object t duration.Static l) = record {
       given = nothing_given (bare numbering);
-      counted = record { size = λ l k like. refl };
+      counted = record { size = λ l k like. refl; marks = no_marks numbering };
       quiet = record { room = λ l k last. refl; prints = λ l k last a env base d. refl };
     }
     by (means.Function t l) = tt
@@ -97,6 +101,13 @@ module _ (numbering : Numbering) where
     runs = λ l k like env base d. refl;
   })
 
+  -- what is declared elsewhere has no initializer
+  lasting_same : (defined : Bool) (es : List Expr) (x : initials.Initial) → IsCounted numbering es x
+      → SameMarks numbering (code_marks (tree.Static defined (counted_if defined es)))
+      (λ l. cond defined (x.marks l) [])
+  lasting_same true es x h = lasting_marks numbering true es h.marks
+  lasting_same false es x h = lasting_marks numbering false [] (no_marks numbering)
+
   none_set : AreAllSet numbering [] []
   none_set = record { each = []; all = refl; set = tt }
 
@@ -111,6 +122,7 @@ module _ (numbering : Numbering) where
             (automatic_code en n z xs x s zeroed h);
         lasting = none_set;
         after = refl;
+        marks = alone_marks numbering (tree.Declare en.at n z xs) (object_marks numbering en.at n z xs h.marks);
       })
 
   -- an object that lives throughout the run
@@ -133,6 +145,8 @@ module _ (numbering : Numbering) where
           set = (settled numbering en i.settings x h.given h.quiet at n defined, tt);
         };
         after = refl;
+        marks = alone_marks numbering (tree.Static defined (counted_if defined i.counted))
+            (lasting_same defined i.counted x h.counted);
       })
 
   -- ---- what does nothing
@@ -148,6 +162,7 @@ module _ (numbering : Numbering) where
     };
     lasting = none_set;
     after = refl;
+    marks = no_marks numbering;
   })
 
   -- broken rules are no part of the core
@@ -162,6 +177,7 @@ module _ (numbering : Numbering) where
     };
     lasting = h.lasting;
     after = h.after;
+    marks = h.marks;
   }
 
   -- by what the name means

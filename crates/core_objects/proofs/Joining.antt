@@ -7,6 +7,7 @@ use Rattle.core_tree.specs.declared.code.Code.{Code}
 use Rattle.core_tree.specs.declared.program.LastingSetting.{LastingSetting}
 use Rattle.elaborate.specs.Means.{Numbering}
 use Rattle.code_forms.proofs.Turns.{joined_codes}
+use Rattle.code_forms.proofs.Marks.{both_marks}
 use Rattle.core_programs.specs.Programs.{AllSettings}
 use Rattle.core_programs.specs.Programs as programs
 use Rattle.core_objects.specs.declared.begun.Begun.{Begun}
@@ -50,4 +51,5 @@ module _ (numbering : Numbering) where
     codes = joined_codes numbering x.codes y.codes i j h.codes g.codes;
     lasting = both_set x.settings y.settings i.lasting j.lasting h.lasting g.lasting;
     after = g.after;
+    marks = both_marks numbering x.codes y.codes h.marks g.marks;
   }

@@ -4,7 +4,8 @@ use Rattle.c_language.specs.Scopes.{Scope}
 use Rattle.c_means.specs.Items.{Item, Lasting}
 use Rattle.core_tree.specs.declared.code.Code.{Code}
 use Rattle.core_tree.specs.declared.program.LastingSetting.{LastingSetting}
-use Rattle.elaborate.specs.Means.{Numbering}
+use Rattle.core_marks.specs.Marks.{items_marks}
+use Rattle.elaborate.specs.Means.{Numbering, SameMarks}
 use Rattle.code_forms.specs.Contents.{AreCodesOf}
 use Rattle.core_programs.specs.Programs.{AllSettings, no_calls}
 use Rattle.core_programs.specs.Programs as programs
@@ -25,6 +26,7 @@ pub record IsBegun (numbering : Numbering) (y : Begun) (i : Item) (t : Scope) : 
   pub codes : AreCodesOf numbering y.codes i
   pub lasting : AreAllSet numbering y.settings i.lasting
   pub after : t ≡ i.after
+  pub marks : SameMarks numbering (items_marks y.codes) i.marks
 
 abbrev pub nothing_begun : Begun
 nothing_begun = record { codes = []; settings = [] }

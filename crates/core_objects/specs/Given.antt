@@ -1,5 +1,5 @@
--- What an initializer gives to an object: what its expressions set, one behind the other, and how many nodes they
--- count.
+-- What an initializer gives to an object: what its expressions set, one behind the other, how many nodes they count,
+-- and what stands at their tokens.
 use Rattle.std.specs.Prelude.{◌≡◌, ℕ, Bool, true, false, List, [], map, Some}
 use Rattle.c_language.specs.declared.scope.Duration.TheVariants as duration
 use Rattle.c_language.specs.declared.scope.Means.{Means}
@@ -15,7 +15,8 @@ use Rattle.core_tree.specs.declared.program.LastingSetting.{LastingSetting}
 use Rattle.core_tree.specs.States.{Output, Level}
 use Rattle.core_tree.specs.Values.{value, all_sizes}
 use Rattle.core_tree.specs.Codes as core
-use Rattle.elaborate.specs.Means.{Numbering, Like, as_done}
+use Rattle.core_marks.specs.Marks.{setting_marks, settings_marks, values_marks}
+use Rattle.elaborate.specs.Means.{Numbering, Like, SameMarks, as_done}
 use Rattle.core_programs.specs.Quiet.{IsQuiet}
 use Rattle.core_objects.specs.declared.given.Initial.{Initial}
 use Rattle.core_objects.specs.Begun.{bare}
@@ -28,6 +29,7 @@ pub record IsSet (numbering : Numbering) (x : Setting) (p : Part) (n : Noted) : 
       ≡ initials.set_room p n l
   pub runs : (l : c.Level) (k : Level Output) → Like numbering l k → (a : ℕ) (env : Env) (base : ℕ) (d : State)
       → core.sets x a k env base (as_done d) ≡ Some (as_done (initials.sets p n a l env base d))
+  pub marks : SameMarks numbering (setting_marks x) (initials.set_marks p n)
 
 -- what a whole initializer sets
 pub record IsGiven (numbering : Numbering) (xs : List Setting) (x : initials.Initial) : Type 0 where
@@ -37,11 +39,13 @@ pub record IsGiven (numbering : Numbering) (xs : List Setting) (x : initials.Ini
       ≡ x.room l
   pub runs : (l : c.Level) (k : Level Output) → Like numbering l k → (a : ℕ) (env : Env) (base : ℕ) (d : State)
       → core.sets_all xs a k env base (as_done d) ≡ Some (as_done (x.run a l env base d))
+  pub marks : SameMarks numbering (settings_marks xs) x.marks
 
--- expressions that count as many nodes as a whole initializer does
+-- expressions that count as many nodes as a whole initializer does, with the same at their tokens
 pub record IsCounted (numbering : Numbering) (es : List Expr) (x : initials.Initial) : Type 0 where
   pub size : (l : c.Level) (k : Level Output) → Like numbering l k
       → all_sizes (map (value {O = Output}) es) k.measures ≡ x.size l
+  pub marks : SameMarks numbering (values_marks es) x.marks
 
 -- An object that lives throughout the run is set where no function runs, which prints nothing; its nodes are counted
 -- where it is declared.

@@ -3,4 +3,5 @@ pub mod CodeCalls
 pub mod CalleesAgree
 pub mod ValuesAgree
 pub mod CodesAgree
+pub mod MarksBelow
 pub mod RunsAgree

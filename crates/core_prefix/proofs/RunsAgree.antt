@@ -15,11 +15,12 @@ use Rattle.core_tree.specs.Programs.{size_by, room_by, measures_of, level_of, ca
 use Rattle.core_tree.specs.Programs.{given_arguments, main_arguments, behind, called_main, end_of, main_needs}
 use Rattle.core_tree.specs.Programs.{nothing_left, maybe_ran, room_of, unrolled_size}
 use Rattle.core_tree.specs.States.{Taking, plain, along, Done, Arrow, Measures, entered, onward, running}
-use Rattle.core_prefix.specs.Calls.{function_below}
-use Rattle.core_prefix.specs.Prefixes.{is_closed, prefix, cut}
+use Rattle.core_prefix.specs.Calls.{code_below}
+use Rattle.core_prefix.specs.Prefixes.{calls_below, is_closed, prefix, cut}
 use Rattle.core_prefix.specs.Runs.{RunsAs}
 use Rattle.core_prefix.proofs.CalleesAgree.{Levels, one, other}
 use Rattle.core_prefix.proofs.CodesAgree.{Work, work, lasting, items_agree}
+use Rattle.core_prefix.proofs.MarksBelow.{function_told}
 use Rattle.core_prefix.proofs.ValuesAgree.{and_left, and_right}
 
 -- ---- the first functions of a list
@@ -27,18 +28,18 @@ use Rattle.core_prefix.proofs.ValuesAgree.{and_left, and_right}
 -- the function of a number, where there is one, calls functions below the bound alone
 abbrev IsBelow : ℕ → Option Function → Type 0
 IsBelow n None = Unit {0}
-IsBelow n (Some f) = function_below n f ≡ true
+IsBelow n (Some f) = calls_below n f ≡ true
 
-found_below : (n : ℕ) (fs : List Function) (g : ℕ) → list_all (function_below n) fs ≡ true → IsBelow n (slice_get fs g)
+found_below : (n : ℕ) (fs : List Function) (g : ℕ) → list_all (calls_below n) fs ≡ true → IsBelow n (slice_get fs g)
 found_below n [] g below = tt
-found_below n (f ∷ fs) zero below = and_left (function_below n f) (list_all (function_below n) fs) below
+found_below n (f ∷ fs) zero below = and_left (calls_below n f) (list_all (calls_below n) fs) below
 found_below n (f ∷ fs) (suc g) below =
-    found_below n fs g (and_right (function_below n f) (list_all (function_below n) fs) below)
+    found_below n fs g (and_right (calls_below n f) (list_all (calls_below n) fs) below)
 
 nothing_below : (g : ℕ) → nat_lt g 0 ≡ true → ⊥
 nothing_below g h = grind (arith, h)
 
-kept : (fs : List Function) (n g : ℕ) → nat_lt g n ≡ true → slice_get (take n fs) g ≡ slice_get fs g
+pub kept : (fs : List Function) (n g : ℕ) → nat_lt g n ≡ true → slice_get (take n fs) g ≡ slice_get fs g
 kept fs zero g h = absurd (nothing_below g h)
 kept [] (suc n) g h = refl
 kept (f ∷ fs) (suc n) zero h = refl
@@ -64,7 +65,7 @@ module _ {O : Type 0} where
   measures_are m zero f = refl
   measures_are m (suc k) f = refl
 
-module _ {O : Type 0} (n : ℕ) (p : Core) (bodies : list_all (function_below n) (take n p.functions) ≡ true)
+module _ {O : Type 0} (n : ℕ) (p : Core) (bodies : list_all (calls_below n) (take n p.functions) ≡ true)
     (t : Taking O) (world : World) (limits : Limits) (depth : ℕ) where
   abbrev whole : Machine O
   whole = machine t p world limits depth
@@ -96,9 +97,9 @@ module _ {O : Type 0} (n : ℕ) (p : Core) (bodies : list_all (function_below n)
       calls = a.calls;
     }
 
-    works : (f : Function) → function_below n f ≡ true
+    works : (f : Function) → calls_below n f ≡ true
         → work (one (levels f)) (in_turn (map code f.items)) ≡ work (other (levels f)) (in_turn (map code f.items))
-    works f below = items_agree (levels f) f.items below
+    works f below = items_agree (levels f) f.items (function_told n f ∙ below)
 
     size_agrees : (x : Option Function) → IsBelow n x
         → size_by {O = O} (measures_of whole k) (maybe_body x) ≡ size_by {O = O} (measures_of short k) (maybe_body x)
@@ -154,6 +155,15 @@ module _ {O : Type 0} (n : ℕ) (p : Core) (bodies : list_all (function_below n)
   agrees zero = record { sizes = λ g h. refl; rooms = λ g h. refl; calls = λ g h at. refl }
   agrees (suc k) = one_more k (agrees k)
 
+  -- a function that calls others below the bound alone unrolls to as many nodes in both, and takes as many places
+  pub function_size : (k : ℕ) (f : Function) → calls_below n f ≡ true
+      → body_size {O = O} (body_of f) (measures_of whole k f) ≡ body_size {O = O} (body_of f) (measures_of short k f)
+  function_size k f below = size_agrees k (agrees k) (Some f) below
+
+  pub function_room : (k : ℕ) (f : Function) → calls_below n f ≡ true
+      → body_room {O = O} (body_of f) (measures_of whole k f) ≡ body_room {O = O} (body_of f) (measures_of short k f)
+  function_room k f below = room_agrees k (agrees k) (Some f) below
+
   -- ---- whole runs
 
   module _ (main : nat_lt p.main n ≡ true) where
@@ -202,15 +212,15 @@ module _ {O : Type 0} (n : ℕ) (p : Core) (bodies : list_all (function_below n)
 -- ---- a core without its last functions
 
 module _ (n : ℕ) (p : Core) (closed : is_closed n p ≡ true) where
-  inner : (nat_lt p.main n && list_all (function_below n) (take n p.functions)) ≡ true
+  inner : (nat_lt p.main n && list_all (calls_below n) (take n p.functions)) ≡ true
   inner = and_right (nat_le n (length p.functions))
-      (nat_lt p.main n && list_all (function_below n) (take n p.functions)) closed
+      (nat_lt p.main n && list_all (calls_below n) (take n p.functions)) closed
 
   main_below : nat_lt p.main n ≡ true
-  main_below = and_left (nat_lt p.main n) (list_all (function_below n) (take n p.functions)) inner
+  main_below = and_left (nat_lt p.main n) (list_all (calls_below n) (take n p.functions)) inner
 
-  bodies_below : list_all (function_below n) (take n p.functions) ≡ true
-  bodies_below = and_right (nat_lt p.main n) (list_all (function_below n) (take n p.functions)) inner
+  bodies_below : list_all (calls_below n) (take n p.functions) ≡ true
+  bodies_below = and_right (nat_lt p.main n) (list_all (calls_below n) (take n p.functions)) inner
 
   pub prefix_runs : RunsAs (prefix n p) p
   prefix_runs = record {

@@ -1,5 +1,5 @@
 -- Whether all functions that are called by their bodies have numbers below a bound: one line a form, over what stands
--- in it.
+-- in it, as it is found without a list of what stands at tokens.
 use Rattle.std.specs.Prelude.{ℕ, Bool, true, nat_lt, ◌&&◌, List, Option, Some, None}
 use Rattle.std.specs.List.{list_all}
 use Rattle.core_tree.specs.declared.code.Code.{Code, fold-Code}
@@ -10,7 +10,6 @@ use Rattle.core_tree.specs.declared.expr.Callee.{Callee}
 use Rattle.core_tree.specs.declared.expr.Callee.TheVariants as callee
 use Rattle.core_tree.specs.declared.expr.Expr.{Expr, fold-Expr}
 use Rattle.core_tree.specs.declared.expr.Expr.TheOpen as expr_open
-use Rattle.core_tree.specs.declared.program.Function.{Function}
 
 -- each of them is true
 abbrev pub all_true : List Bool → Bool
@@ -90,7 +89,3 @@ code_step n (code_open.Return e) = option_below n e
 -- each call in code is of a function below the bound
 unfoldable pub code_below : ℕ → Code → Bool
 code_below n c = fold-Code Bool (code_step n) c
-
--- each call in a function's body
-abbrev pub function_below : ℕ → Function → Bool
-function_below n f = list_all (code_below n) f.items

@@ -1,7 +1,6 @@
 //! A core without its last functions.
 ghost use Rattle.std.specs.Prelude.{◌≡◌, take};
 ghost use Rattle.std.specs.List.{list_all};
-ghost use Rattle.core_prefix.specs.Calls as calls;
 ghost use Rattle.core_prefix.specs.Prefixes as prefixes;
 ghost use Rattle.core_prefix.specs.Runs.{RunsAs};
 
@@ -10,13 +9,13 @@ use core_tree::{Core, Function};
 use plain_data::Items;
 
 fn function_below(bound: u32, function: &Function) -> bool
-    ensures { result ≡ calls.function_below bound function.now }
+    ensures { result ≡ prefixes.calls_below bound function.now }
 {
     items_below(bound, function.items.as_slice())
 }
 
 fn functions_below(bound: u32, functions: &[Function]) -> bool
-    ensures { result ≡ list_all (calls.function_below bound) functions.now }
+    ensures { result ≡ list_all (prefixes.calls_below bound) functions.now }
 {
     functions
         .iter()

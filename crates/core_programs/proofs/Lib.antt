@@ -1,7 +1,7 @@
 pub mod Starts
 pub mod Programs
 pub mod Machines
-pub mod Callings
+pub mod Marked
 pub mod OffsetLaws
 pub mod QuietSteps
 pub mod QuietParts

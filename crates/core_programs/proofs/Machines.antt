@@ -37,10 +37,10 @@ use Rattle.core_programs.specs.Programs.{machine_for}
 use Rattle.core_programs.specs.Numberings.{Numbers, placed, ruling_by, number_by, numbering_of, IsFunctionOf}
 use Rattle.core_programs.specs.Numberings.{AreFunctions}
 
-none_some : {A : Type 0} {x : A} → None ≡ Some x → ⊥
+pub none_some : {A : Type 0} {x : A} → None ≡ Some x → ⊥
 none_some e = cc
 
-some_same : {A : Type 0} (x y : A) → Some x ≡ Some y → x ≡ y
+pub some_same : {A : Type 0} (x y : A) → Some x ≡ Some y → x ≡ y
 some_same x y e = cc
 
 -- ---- a log call does the same whatever the turns of loops are
@@ -145,6 +145,7 @@ module _ (l : c.Level) (n : ℕ) where
 record Ruled (m : whole.Machine) (f : Function) (g : c.Site) (rule : Rules Function) (r : Ruling) : Type 0 where
   pub size : (below : whole.Below) → 0 ≡ whole.size_by m below rule
   pub room : (below : whole.Below) → r.room ≡ whole.room_by m below g rule
+  pub marks : r.marks ≡ whole.marks_by m f g rule
   pub runs : (turns : ℕ) (below : whole.Below) (env : Env) (vs : List ℤ) (base : ℕ) (s : Store) (n : ℕ)
       → r.acts m.world m.limits env vs base (c.entered s n) ≡ whole.call_by m f turns below rule g env vs base s n
 
@@ -154,24 +155,28 @@ module _ (m : whole.Machine) (world : c.World) (limits : c.Limits) (depth : ℕ)
   ruled f g (LogCall text) r e = subst (Ruled (placed m world limits depth) f g (LogCall text)) (some_same _ r e) (record {
     size = λ below. refl;
     room = λ below. refl;
+    marks = refl;
     runs = λ turns below env vs base s n. log_turned (whole.bare (placed m world limits depth) turns) 0
         (watched_lasting m.program.scope f) text g env vs base (c.entered s n);
   })
   ruled f g (IdentityCall i) r e = subst (Ruled (placed m world limits depth) f g (IdentityCall i)) (some_same _ r e) (record {
     size = λ below. refl;
     room = λ below. refl;
+    marks = refl;
     runs = λ turns below env vs base s n. refl;
   })
   ruled f g (BodyCall h) r e = absurd (none_some e)
   ruled f g (LibraryCall x) r e = subst (Ruled (placed m world limits depth) f g (LibraryCall x)) (some_same _ r e) (record {
     size = λ below. refl;
     room = λ below. refl;
+    marks = refl;
     runs = λ turns below env vs base s n. refl;
   })
   ruled f g (PreludeCall h) r e = absurd (none_some e)
   ruled f g OutsideCall r e = subst (Ruled (placed m world limits depth) f g OutsideCall) (some_same _ r e) (record {
     size = λ below. refl;
     room = λ below. refl;
+    marks = refl;
     runs = λ turns below env vs base s n. outside_turned (whole.bare (placed m world limits depth) turns) 0
         (fill_of m.profile g.callee.name) (whole.is_never_null m g) g vs base (c.entered s n);
   })
@@ -179,7 +184,7 @@ module _ (m : whole.Machine) (world : c.World) (limits : c.Limits) (depth : ℕ)
 -- ---- calls by body
 
 -- the function that a rule runs is the one of this name
-body_found : (log : Option LogFunction) (identity : Option ℕ) (body : Option Function) (library : Option Library)
+pub body_found : (log : Option LogFunction) (identity : Option ℕ) (body : Option Function) (library : Option Library)
     (prelude : Option Function) (f : Function) → rule_by log identity body library prelude ≡ BodyCall f → body ≡ Some f
 body_found (Some x) identity body library prelude f e = cc
 body_found None (Some i) body library prelude f e = cc
@@ -188,7 +193,7 @@ body_found None None None (Some x) prelude f e = cc
 body_found None None None None (Some h) f e = cc
 body_found None None None None None f e = cc
 
-prelude_found : (log : Option LogFunction) (identity : Option ℕ) (body : Option Function) (library : Option Library)
+pub prelude_found : (log : Option LogFunction) (identity : Option ℕ) (body : Option Function) (library : Option Library)
     (prelude : Option Function) (f : Function) → rule_by log identity body library prelude ≡ PreludeCall f
     → prelude ≡ Some f
 prelude_found (Some x) identity body library prelude f e = cc
@@ -203,7 +208,7 @@ taken : (b : Bool) (h f : Function) → cond b (Some h) None ≡ Some f → Some
 taken true h f e = e
 taken false h f e = absurd (none_some e)
 
-prelude_named : (t : Option Taking) (x : Option Function) (f : Function) → whole.prelude_if t x ≡ Some f → x ≡ Some f
+pub prelude_named : (t : Option Taking) (x : Option Function) (f : Function) → whole.prelude_if t x ≡ Some f → x ≡ Some f
 prelude_named t None f e = absurd (none_some e)
 prelude_named t (Some h) f e = taken (same_taking t (declared_taking h.inside.tables h.means)) h f e
 
@@ -263,5 +268,5 @@ module _ (m : whole.Machine) (ns : Numbers) (p : Core) (h : AreFunctions m ns p)
     bodies = λ f g n e. numbered g (whole.rule_of m g) refl n e;
     rules = λ f g r e.
         let q = ruled m world limits depth f g (whole.rule_of m g) r e in
-        record { size = q.size; room = q.room; runs = q.runs };
+        record { size = q.size; room = q.room; marks = q.marks; runs = q.runs };
   }

@@ -147,7 +147,7 @@ module _ (l : Level) (k : core.Level Output) (last : IsLast l k) where
 
   pub subscript_quiet : (at : ℕ) (x y : Part) → Q x → Q y → Q (subscript at x y)
   subscript_quiet at x y hx hy =
-      place_quiet (says.subscript at x.typed y.typed) false (over_both x y) _ (both_room x y hx hy)
+      place_quiet (says.subscript at x.typed y.typed) false _ _ (both_room x y hx hy)
       (behind (both_run x y l)
       (λ env base v. operated_on at o.Add x.typed y.typed v.0.0 v.0.1 v.1 >>= (λ a. Ok (address a.0, a.1)))
       (both x y hx hy)
@@ -157,17 +157,17 @@ module _ (l : Level) (k : core.Level Output) (last : IsLast l k) where
 
   pub member_quiet : (b : Bool) (offset : ℕ) (t : Typed) (x : Part) → Q x → Q (member_by b offset t x)
   member_quiet true offset t x h =
-      place_quiet t x.rooted (over_one x) _ h.room
+      place_quiet t x.rooted _ _ h.room
       (behind (x.reach l) (λ env base a. Ok (forms.behind offset a.0, a.1)) h.reach
       (λ env base a. record { holds = refl }))
   member_quiet false offset t x h =
-      value_quiet t (over_one x) _ h.room
+      value_quiet t _ _ h.room
       (behind (x.run l) (λ env base v. Ok (part_of_value offset t v.0, v.1)) h.run
       (λ env base v. record { holds = refl }))
 
   pub arrow_quiet : (at : ℕ) (name : Name) (x : Part) → Q x → Q (arrow at name x)
   arrow_quiet at name x h =
-      place_quiet (says.arrow at name x.typed) false (over_one x) _ h.room
+      place_quiet (says.arrow at name x.typed) false _ _ h.room
       (behind (x.run l) (λ env base v. Ok (target v.0, v.1)) h.run (λ env base v. record { holds = refl }))
     where
       target : ℤ → ℕ
@@ -204,7 +204,7 @@ module _ (l : Level) (k : core.Level Output) (last : IsLast l k) where
 
   postfix_by_quiet : (at : ℕ) (op : BinaryOperator) (x : Part) → Q x → Q (postfix_by at op x)
   postfix_by_quiet at op x h =
-      value_quiet (says.postfix at x.typed) (over_one x) _ h.room
+      value_quiet (says.postfix at x.typed) _ _ h.room
       (behind (stepped at op x l) (λ env base v. Ok (v.0.0, v.1)) (steps at op x h)
       (λ env base v. record { holds = refl }))
 
@@ -215,7 +215,7 @@ module _ (l : Level) (k : core.Level Output) (last : IsLast l k) where
   prefix_quiet : (at : ℕ) (operator : UnaryOperator) (op : BinaryOperator) (x : Part) → Q x
       → Q (prefix at operator op x)
   prefix_quiet at operator op x h =
-      value_quiet (says.unary at operator x.typed) (over_one x) _ h.room
+      value_quiet (says.unary at operator x.typed) _ _ h.room
       (behind (stepped at op x l) (λ env base v. Ok (v.0.1, v.1)) (steps at op x h)
       (λ env base v. record { holds = refl }))
 
@@ -224,19 +224,21 @@ module _ (l : Level) (k : core.Level Output) (last : IsLast l k) where
   on_value_quiet : (at : ℕ) (operator : UnaryOperator) (f : Operand → State → Outcome ℤ) (x : Part)
       → ((y : Operand) (d : State) → Leaves d.printed (f y d)) → Q x → Q (on_value at operator f x)
   on_value_quiet at operator f x q h =
-      value_quiet (says.unary at operator x.typed) (over_one x) _ h.room
+      value_quiet (says.unary at operator x.typed) _ _ h.room
       (behind (x.run l) (λ env base v. f (operand x.typed.after.tables x.typed v.0) v.1) h.run
       (λ env base v. q (operand x.typed.after.tables x.typed v.0) v.1))
 
   pub unary_quiet : (at : ℕ) (op : UnaryOperator) (x : Part) → Q x → Q (unary at op x)
   unary_quiet at u.Address x h =
-      value_quiet (says.unary at u.Address x.typed) (over_one x) _ h.room
+      value_quiet (says.unary at u.Address x.typed) _ _ h.room
       (behind (x.reach l) (λ env base a. Ok (pos a.0, a.1)) h.reach (λ env base a. record { holds = refl }))
   unary_quiet at u.Indirection x h =
-      place_quiet (says.unary at u.Indirection x.typed) false (over_one x) _ h.room
+      place_quiet (says.unary at u.Indirection x.typed) false _ _ h.room
       (behind (x.run l) (λ env base v. Ok (address v.0, v.1)) h.run (λ env base v. record { holds = refl }))
   unary_quiet at u.Plus x h = on_value_quiet at u.Plus (turned_value at u.Plus) x (turns at u.Plus) h
-  unary_quiet at u.Minus x h = on_value_quiet at u.Minus (turned_value at u.Minus) x (turns at u.Minus) h
+  unary_quiet at u.Minus x h =
+      let value = on_value_quiet at u.Minus (turned_value at u.Minus) x (turns at u.Minus) h in
+      record { room = value.room; reach = value.reach; run = value.run; effect = value.effect }
   unary_quiet at u.Complement x h =
       on_value_quiet at u.Complement (turned_value at u.Complement) x (turns at u.Complement) h
   unary_quiet at u.Not x h = on_value_quiet at u.Not negated x (λ y d. record { holds = refl }) h
@@ -255,7 +257,7 @@ module _ (l : Level) (k : core.Level Output) (last : IsLast l k) where
 
   pub cast_quiet : (cl : Class) (t : Typed) (x : Part) → Q x → Q (cast_as cl t x)
   cast_quiet cl t x h =
-      value_quiet t (over_one x) _ h.room
+      value_quiet t _ _ h.room
       (behind (cast_operand cl x l) (λ env base v. Ok (converted_to cl v.0, v.1)) (cast_silent cl x h)
       (λ env base v. record { holds = refl }))
 
@@ -263,7 +265,7 @@ module _ (l : Level) (k : core.Level Output) (last : IsLast l k) where
 
   both_evaluated_quiet : (at : ℕ) (op : BinaryOperator) (x y : Part) → Q x → Q y → Q (both_evaluated at op x y)
   both_evaluated_quiet at op x y hx hy =
-      value_quiet (says.binary at op x.typed y.typed) (over_both x y) _ (both_room x y hx hy)
+      value_quiet (says.binary at op x.typed y.typed) _ _ (both_room x y hx hy)
       (behind (both_run x y l) (λ env base v. operated_on at op x.typed y.typed v.0.0 v.0.1 v.1) (both x y hx hy)
       (λ env base v. operates_on at op x.typed y.typed v.0.0 v.0.1 v.1))
 
@@ -293,7 +295,7 @@ module _ (l : Level) (k : core.Level Output) (last : IsLast l k) where
   logical_quiet : (at : ℕ) (op : BinaryOperator) (f : Part → Level → Env → ℕ → Bool → State → Outcome ℤ)
       (x y : Part) → Q x → Q y → ((b : Bool) → Silent (λ env base d. f y l env base b d)) → Q (logical at op f x y)
   logical_quiet at op f x y hx hy hf =
-      value_quiet (says.binary at op x.typed y.typed) (over_both x y) _ (both_room x y hx hy)
+      value_quiet (says.binary at op x.typed y.typed) _ _ (both_room x y hx hy)
       (in_order (x.room l) (x.run l) (λ z env base d. on_branch at z (f y l env base) d) hx.run
       (branches at (f y l) hf))
 
@@ -312,7 +314,7 @@ module _ (l : Level) (k : core.Level Output) (last : IsLast l k) where
 
   pub choice_quiet : (at : ℕ) (t : Typed) (c x y : Part) → Q c → Q x → Q y → Q (choice_as at t c x y)
   choice_quiet at t c x y hc hx hy =
-      value_quiet t (over_three c x y) _ (ap₂ (λ a b. a + b) hc.room (both_room x y hx hy))
+      value_quiet t _ _ (ap₂ (λ a b. a + b) hc.room (both_room x y hx hy))
       (in_order (c.room l) (c.run l) (λ z env base d. on_branch at z (chosen (class_in (type_of t)) x y l env base) d)
       hc.run
       (branches at (chosen (class_in (type_of t)) x y l) (chosen_silent (class_in (type_of t)) x y hx hy)))
@@ -355,12 +357,12 @@ module _ (l : Level) (k : core.Level Output) (last : IsLast l k) where
 
   pub assignment_quiet : (at : ℕ) (op : Option BinaryOperator) (x y : Part) → Q x → Q y → Q (assignment at op x y)
   assignment_quiet at op x y hx hy =
-      value_quiet (says.assignment at op x.typed y.typed) (over_both x y) _ (both_room x y hx hy)
+      value_quiet (says.assignment at op x.typed y.typed) _ _ (both_room x y hx hy)
       (assigned_silent at op x y hx hy)
 
   pub comma_quiet : (at : ℕ) (x y : Part) → Q x → Q y → Q (comma at x y)
   comma_quiet at x y hx hy =
-      value_quiet (says.comma at x.typed y.typed) (over_both x y) _ (both_room x y hx hy)
+      value_quiet (says.comma at x.typed y.typed) _ _ (both_room x y hx hy)
       (in_order (x.room l) (x.effect l) (λ v env base d. y.run l env base d) hx.effect (λ v. hy.run))
 
   -- ---- calls: each leaves the bounds, and has printed nothing then

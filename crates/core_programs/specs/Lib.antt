@@ -1,4 +1,5 @@
 pub mod Programs
 pub mod Numberings
+pub mod Marked
 pub mod Offsets
 pub mod Quiet

@@ -1,10 +1,11 @@
 -- How the functions of a program are numbered in its core, and what a call of one of them is then.
-use Rattle.std.specs.Prelude.{◌≡◌, ℕ, ◌+◌, Bool, true, false, Option, Some, None, slice_get}
+use Rattle.std.specs.Prelude.{◌≡◌, ℕ, ◌+◌, Bool, true, false, [], Option, Some, None, slice_get}
 use Rattle.c_language.specs.Scopes.{Name}
 use Rattle.c_means.specs.Parts.{State, Env}
 use Rattle.c_means.specs.Parts as c
 use Rattle.c_means.specs.Items as runs
 use Rattle.c_means.specs.Calls.{log_call, log_pieces, pointers_in, identity_call, library_call, outside_call}
+use Rattle.c_means.specs.Calls.{log_marks, library_marks, fill_marks}
 use Rattle.c_means.specs.Programs.{Function, functions_of, function_named, watched_lasting}
 use Rattle.c_means.specs.Rules.{Rules, LogCall, IdentityCall, BodyCall, LibraryCall, PreludeCall, OutsideCall}
 use Rattle.c_means.specs.Rules.{identity_index, fill_of}
@@ -13,7 +14,8 @@ use Rattle.core_tree.specs.declared.program.Core.{Core}
 use Rattle.core_tree.specs.declared.program.Function.{Function as CoreFunction}
 use Rattle.core_tree.specs.States.{Output}
 use Rattle.core_tree.specs.Programs.{body_of}
-use Rattle.elaborate.specs.Means.{Numbering, Ruling, IsBodyOf}
+use Rattle.core_marks.specs.Programs.{function_marks}
+use Rattle.elaborate.specs.Means.{Numbering, Ruling, SameMarks, IsBodyOf}
 
 -- the numbers of the functions of the source and of those of the prelude, by name; that of a name which is no
 -- function's is of no account
@@ -31,21 +33,25 @@ placed m world limits depth = record m { world = world; limits = limits; depth =
 abbrev pub ruling_by : whole.Machine → Function → c.Site → Rules Function → Option Ruling
 ruling_by m f g (LogCall text) = Some (record {
   room = 4 + pointers_in (log_pieces text g);
+  marks = log_marks (watched_lasting m.program.scope f) text g;
   acts = λ world limits env vs base d. log_call (whole.bare (placed m world limits 0) 0)
       (watched_lasting m.program.scope f) text g env vs base d;
 })
 ruling_by m f g (IdentityCall i) = Some (record {
   room = 4;
+  marks = [];
   acts = λ world limits env vs base d. identity_call i g vs d;
 })
 ruling_by m f g (BodyCall h) = None
 ruling_by m f g (LibraryCall x) = Some (record {
   room = 4;
+  marks = library_marks x g;
   acts = λ world limits env vs base d. library_call (whole.bare (placed m world limits 0) 0) x g vs base d;
 })
 ruling_by m f g (PreludeCall h) = None
 ruling_by m f g OutsideCall = Some (record {
   room = 4;
+  marks = fill_marks (fill_of m.profile g.callee.name) g;
   acts = λ world limits env vs base d. outside_call (whole.bare (placed m world limits 0) 0)
       (fill_of m.profile g.callee.name) (whole.is_never_null m g) g vs base d;
 })
@@ -76,8 +82,10 @@ pub record IsFunctionOf (m : whole.Machine) (ns : Numbers) (p : Core) (f : Funct
     pub function : CoreFunction
     pub found : slice_get p.functions n ≡ Some function
     pub kind : function.is_prelude ≡ is_prelude
+    pub name : function.name ≡ f.name
     pub item : runs.Item
     pub is_body : IsBodyOf (numbering_of m ns f) (body_of {O = Output} function) f item
+    pub marks : SameMarks (numbering_of m ns f) (function_marks function) f.body.marks
 
 -- each function has its core at its number
 pub record AreFunctions (m : whole.Machine) (ns : Numbers) (p : Core) : Type 0 where

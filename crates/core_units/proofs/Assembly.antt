@@ -17,7 +17,8 @@ use Rattle.core_tree.specs.Programs.{maybe_body, body_of}
 use Rattle.core_programs.specs.Numberings.{IsFunctionOf, AreFunctions, numbering_of}
 use Rattle.core_programs.specs.Programs.{IsCoreOf, IsStartOf, IsMainOf, machine_for}
 use Rattle.core_programs.proofs.Machines.{is_machine}
-use Rattle.core_units.specs.Numbers.{reached_among, number_from, position_from, first_other}
+use Rattle.core_units.specs.Numbers.{number_from, position_from, first_other}
+use Rattle.core_programs.specs.Marked.{reached_among}
 use Rattle.core_units.specs.Plans.{program_in, reached_in, numbers_in}
 use Rattle.core_units.specs.Units.{IsUnitCore, IsAssembled}
 use Rattle.core_units.specs.Walked.{IsCoreFunction}
@@ -35,12 +36,14 @@ module _ (xs : List External) (profile : Profile) (p : Core) (h : IsAssembled xs
     function = x.core;
     found = subst (λ fs. slice_get fs n ≡ Some x.core) (sym h.all.all) x.found;
     kind = x.is.kind;
+    name = x.is.name;
     item = x.is.item;
     is_body = x.is.is_body;
+    marks = x.is.marks;
   }
 
   -- how many stand in front of the prelude, and in front of the others
-  in_front : length (reached_among (reached_in xs profile) (functions_of m.program)) ≡ length h.all.sources
+  pub in_front : length (reached_among (reached_in xs profile) (functions_of m.program)) ≡ length h.all.sources
   in_front = same_length (IsCoreFunction m (numbers_in xs profile) false)
       (reached_among (reached_in xs profile) (functions_of m.program)) h.all.sources h.all.walk.cores
 

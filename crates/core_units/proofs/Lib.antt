@@ -2,6 +2,7 @@ pub mod NumberLaws
 pub mod WalkLaws
 pub mod OneOuter
 pub mod Assembly
+pub mod Functions
 pub mod Tables
 pub mod Making
 pub mod OverviewLaws

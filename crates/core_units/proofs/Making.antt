@@ -20,7 +20,8 @@ use Rattle.core_tree.specs.declared.program.Function.{Function as CoreFunction}
 use Rattle.core_tree.specs.declared.program.LastingSetting.{LastingSetting}
 use Rattle.core_tree.specs.Programs.{body_of}
 use Rattle.core_tree.specs.States.{Output}
-use Rattle.elaborate.specs.Means.{Numbering, IsBodyOf}
+use Rattle.core_marks.specs.Programs.{function_marks}
+use Rattle.elaborate.specs.Means.{Numbering, SameMarks, IsBodyOf}
 use Rattle.core_programs.specs.Numberings.{Numbers, numbering_of}
 use Rattle.core_programs.specs.Programs.{AllSettings, no_calls}
 use Rattle.core_callees.specs.Known.{Known, numbering_in}
@@ -36,7 +37,8 @@ use Rattle.core_units.specs.Numbers.{position_from}
 use Rattle.core_units.specs.Plans.{program_in, reached_in, words_in, numbers_in}
 use Rattle.core_units.specs.Surroundings.{IsAroundOf, AreMadeIn, AreSetIn, AreLibrary, externals_of, profile_of, machine_of}
 use Rattle.core_units.specs.Surroundings.{watched_in, reached_by, plan_in, outers_of, made_by}
-use Rattle.core_units.specs.Walked.{AllAre, AreSet, IsCoreFunction}
+use Rattle.core_units.specs.Walked.{AreSet, IsCoreFunction}
+use Rattle.core_programs.specs.Marked.{AllAre}
 use Rattle.core_units.proofs.OneOuter.{watched_by, walk_reached, walk_unreached, walk_nameless}
 use Rattle.core_units.proofs.OneOuter.{walk_needed, walk_unneeded}
 use Rattle.core_units.proofs.WalkLaws.{all_append, walk_none, walk_append}
@@ -93,8 +95,10 @@ module _ (x : Around) (h : IsAroundOf x) where
       (knows f es (watched_by m.program f es watches)) in
       record {
         kind = i.kind;
+        name = i.name;
         item = i.item;
         is_body = subst (λ n. IsBodyOf n (body_of {O = Output} d.function) f i.item) same i.is_body;
+        marks = subst (λ n. SameMarks n (function_marks d.function) f.body.marks) same i.marks;
       }
 
   made_is : (b : Bool) (es : List Entry) (o : Outer) (d : Definition) → o.item.lasting ≡ []

@@ -6,8 +6,8 @@ use Rattle.std.specs.Str.{bytes_eq}
 use Rattle.c_language.specs.Scopes.{Name}
 use Rattle.c_means.specs.Programs.{Function, function_named, has_function}
 use Rattle.core_tree.specs.declared.program.Function.{Function as CoreFunction}
-use Rattle.core_units.specs.Numbers.{reached_among, others_among, next_number, number_from, position_from}
-use Rattle.core_units.specs.Walked.{AllAre}
+use Rattle.core_units.specs.Numbers.{others_among, next_number, number_from, position_from}
+use Rattle.core_programs.specs.Marked.{AllAre, reached_among}
 
 -- what is related to a function stands at a number
 pub record Stands (R : Function → CoreFunction → Type 0) (f : Function) (cs : List CoreFunction) (k : ℕ) : Type 0 where

@@ -10,9 +10,9 @@ use Rattle.c_means.specs.Runs as whole
 use Rattle.core_tree.specs.declared.program.Function.{Function as CoreFunction}
 use Rattle.core_tree.specs.declared.program.LastingSetting.{LastingSetting}
 use Rattle.core_programs.specs.Numberings.{Numbers}
-use Rattle.core_units.specs.Numbers.{reached_among}
+use Rattle.core_programs.specs.Marked.{AllAre, reached_among}
 use Rattle.core_units.specs.Plans.{watched_if}
-use Rattle.core_units.specs.Walked.{AllAre, AreSet, IsCoreFunction, IsWalkOf}
+use Rattle.core_units.specs.Walked.{AreSet, IsCoreFunction, IsWalkOf}
 use Rattle.core_units.proofs.WalkLaws.{set_none}
 
 append_none : {A : Type 0} (xs : List A) → xs ++ [] ≡ xs

@@ -21,7 +21,8 @@ use Rattle.c_program_notes.specs.Watched as noted
 use Rattle.c_program_notes.specs.Wholes.{overview_of}
 use Rattle.core_programs.specs.Programs.{HasArguments}
 use Rattle.core_units.specs.declared.plan.Plan.{Plan}
-use Rattle.core_units.specs.Numbers.{reached_among, next_number}
+use Rattle.core_units.specs.Numbers.{next_number}
+use Rattle.core_programs.specs.Marked.{reached_among}
 use Rattle.core_units.specs.Overviews as spec
 use Rattle.core_units.specs.Plans.{plan_of, watched_if, reached_if}
 use Rattle.core_units.specs.Surroundings.{numbered_from}

@@ -10,8 +10,9 @@ use Rattle.core_tree.specs.declared.program.Function.{Function as CoreFunction}
 use Rattle.core_tree.specs.declared.program.LastingSetting.{LastingSetting}
 use Rattle.core_programs.specs.Numberings.{Numbers}
 use Rattle.core_programs.specs.Programs.{AllSettings, AreSettings, bare_numbering, joined}
-use Rattle.core_units.specs.Numbers.{reached_among, others_among}
-use Rattle.core_units.specs.Walked.{AllAre, AreSet, IsCoreFunction, IsWalkOf}
+use Rattle.core_units.specs.Numbers.{others_among}
+use Rattle.core_programs.specs.Marked.{AllAre, reached_among}
+use Rattle.core_units.specs.Walked.{AreSet, IsCoreFunction, IsWalkOf}
 
 append_none : {A : Type 0} (xs : List A) → xs ++ [] ≡ xs
 append_none [] = refl

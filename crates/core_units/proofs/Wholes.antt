@@ -24,12 +24,16 @@ use Rattle.core_tree.specs.declared.program.Core.{Core}
 use Rattle.core_units.specs.declared.plan.Plan.{Plan}
 use Rattle.core_units.specs.declared.unit.Parts.{Parts}
 use Rattle.core_units.specs.declared.walk.Around.{Around}
-use Rattle.core_units.specs.Numbers.{reached_among, number_from, first_other}
+use Rattle.core_units.specs.Numbers.{number_from, first_other}
+use Rattle.core_programs.specs.Marked.{reached_among, told_core}
 use Rattle.core_units.specs.Overviews as spec
 use Rattle.core_units.specs.Plans.{program_in, reached_in, numbers_in, watched_if}
 use Rattle.core_units.specs.Surroundings.{IsAround, plan_in, outers_of, numbered_from, externals_of, profile_of, watched_in}
-use Rattle.core_units.specs.Units.{IsUnitCore, AreParts, AreAll}
-use Rattle.core_units.proofs.Assembly.{is_unit_core}
+use Rattle.core_units.specs.Units.{IsAssembled, IsCoreOfUnit, AreParts, AreAll}
+use Rattle.core_prefix.specs.Prefixes.{cut}
+use Rattle.core_prefix.specs.Runs.{RunsAs}
+use Rattle.core_units.proofs.Assembly.{in_front, is_unit_core}
+use Rattle.core_units.proofs.Functions.{cut_told}
 use Rattle.core_units.proofs.OverviewLaws.{plans_same, watched_same, numbers_same, count_same, main_same, has_arguments}
 use Rattle.core_units.proofs.Tables.{table_tells, nine}
 
@@ -177,14 +181,15 @@ module _ (xs : List External) (profile : Profile) (v : Overview) (is : v ≡ ove
       (sym (ap (λ (v : Overview). spec.main_takes_two v.program.outers) is
       ∙ main_same (told xs profile) (program_in xs profile).program.outers) ∙ h)
 
-  pub unit_core : (p : Core) (x : Parts) → AreParts xs profile x → p.functions ≡ x.functions → p.settings ≡ x.settings
+  -- the parts are those of a core of the source
+  pub assembled : (p : Core) (x : Parts) → AreParts xs profile x → p.functions ≡ x.functions → p.settings ≡ x.settings
       → p.main ≡ x.main → p.places ≡ length v.places → spec.main_takes_two v.program.outers ≡ Some p.has_arguments
       → p.met ≡ met_by (machine (told xs profile)) (needs_in (told xs profile))
-      → p.objects ≡ objects_of (machine (told xs profile)) (needs_in (told xs profile)) → IsUnitCore xs profile p
+      → p.objects ≡ objects_of (machine (told xs profile)) (needs_in (told xs profile)) → IsAssembled xs profile p
   unfolding overview machine needs_in
-  unit_core p x parts functions settings main places two met objects =
+  assembled p x parts functions settings main places two met objects =
       let taken = main_told p.has_arguments two in
-      is_unit_core xs profile p (record {
+      record {
         all = subst (λ fs. AreAll xs profile fs p.settings) (sym functions)
             (subst (λ ss. AreAll xs profile x.functions ss) (sym settings) parts.all);
         met = met;
@@ -194,4 +199,21 @@ module _ (xs : List External) (profile : Profile) (v : Overview) (is : v ≡ ove
         is_main = taken.is_main;
         number = parts.number ∙ sym main;
         arguments = taken.arguments;
-      })
+      }
+
+  -- what is made of the source is its core, and so without the functions behind the first so many
+  pub is_core : (p q : Core) (n k : ℕ) → IsAssembled xs profile p → q ≡ cut n p → RunsAs q p
+      → k ≡ spec.count_noted v.reached 0 v.program.outers → n ≡ k + 9 → IsCoreOfUnit xs profile q
+  unfolding overview
+  is_core p q n k h made runs counted nine_more =
+      let first_is : k ≡ length (reached_among found all) = counted
+      ∙ ap (λ (v : Overview). spec.count_noted v.reached 0 v.program.outers) is
+      ∙ count_same (told xs profile) found (program_in xs profile).program.outers 0
+      ∙ zero_plus (length (reached_among found all)) in
+      record {
+        whole_core = p;
+        is = is_unit_core xs profile p h;
+        runs = runs;
+        functions = ap told_core made
+            ∙ cut_told xs profile p h n (nine_more ∙ ap (λ j. j + 9) (first_is ∙ in_front xs profile p h));
+      }

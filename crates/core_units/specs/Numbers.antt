@@ -4,14 +4,10 @@ use Rattle.std.specs.Prelude.{ℕ, suc, ◌+◌, Bool, true, false, not, cond, L
 use Rattle.std.specs.Str.{bytes_eq}
 use Rattle.c_language.specs.Scopes.{Name}
 use Rattle.c_means.specs.Programs.{Function, Program, functions_of, has_function}
+use Rattle.core_programs.specs.Marked.{reached_among}
 use Rattle.core_programs.specs.Numberings.{Numbers}
 
--- those that are reached, in order
-abbrev pub reached_among : List Function → List Function → List Function
-reached_among found [] = []
-reached_among found (f ∷ fs) = cond (has_function f found) (f ∷ reached_among found fs) (reached_among found fs)
-
--- and the others
+-- those that aren't reached, in order
 abbrev pub others_among : List Function → List Function → List Function
 others_among found [] = []
 others_among found (f ∷ fs) = cond (has_function f found) (others_among found fs) (f ∷ others_among found fs)

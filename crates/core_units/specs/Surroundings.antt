@@ -16,10 +16,11 @@ use Rattle.core_units.specs.declared.plan.Plan.{Plan}
 use Rattle.core_units.specs.declared.walk.Around.{Around}
 use Rattle.core_units.specs.declared.unit.All.{All}
 use Rattle.core_units.specs.declared.walk.Made.{Made}
-use Rattle.core_units.specs.Numbers.{reached_among, next_number}
+use Rattle.core_units.specs.Numbers.{next_number}
+use Rattle.core_programs.specs.Marked.{AllAre, reached_among}
 use Rattle.core_units.specs.Plans.{program_in, reached_in, words_in, numbers_in, plan_of, watched_if, reached_if}
 use Rattle.core_units.specs.Units.{AreAll}
-use Rattle.core_units.specs.Walked.{AllAre, AreSet, IsCoreFunction, IsWalkOf}
+use Rattle.core_units.specs.Walked.{AreSet, IsCoreFunction, IsWalkOf}
 
 -- the places of what lives throughout the run, by offset; the functions with a body, by name; and how many of them are
 -- reached

@@ -15,7 +15,8 @@ use Rattle.core_programs.specs.Numberings.{numbering_of}
 use Rattle.core_programs.specs.Programs.{HasArguments, IsCoreOf, met_by, objects_of}
 use Rattle.core_units.specs.declared.unit.Parts.{Parts}
 use Rattle.core_units.specs.Plans.{program_in, reached_in, words_in, numbers_in}
-use Rattle.core_units.specs.Walked.{AllAre, IsCoreFunction, IsWalkOf}
+use Rattle.core_units.specs.Walked.{IsCoreFunction, IsWalkOf}
+use Rattle.core_programs.specs.Marked.{AllAre, told_core, told_source}
 
 abbrev pub IsUnitCore : List External → Profile → Core → Type 0
 IsUnitCore xs profile p =
@@ -57,11 +58,13 @@ abbrev pub MaybeParts : List External → Profile → Option Parts → Type 0
 MaybeParts xs profile None = whole.main_of (program_in xs profile) ≡ None
 MaybeParts xs profile (Some x) = AreParts xs profile x
 
--- it runs as a core of the whole source does
+-- it runs as a core of the whole source does, and has the functions of the source that are reached, with what stands at
+-- their tokens
 pub record IsCoreOfUnit (xs : List External) (profile : Profile) (p : Core) : Type 0 where
   pub whole_core : Core
   pub is : IsUnitCore xs profile whole_core
   pub runs : RunsAs p whole_core
+  pub functions : told_core p ≡ told_source xs profile
 
 -- there is a core exactly where there is a `main`
 abbrev pub MaybeCore : List External → Profile → Option Core → Type 0

@@ -37,6 +37,10 @@ use Rattle.core_tree.specs.Values.{Value, value, arguments, acting, needed, all_
 use Rattle.core_tree.specs.Callees as core
 use Rattle.core_tree.proofs.Equations as eq
 use Rattle.c_store.specs.Store.{Store}
+use Rattle.c_language.specs.Scopes.{Name}
+use Rattle.c_means.specs.Marks.{Enters}
+use Rattle.core_marks.specs.Marks.{callee_marks}
+use Rattle.elaborate.specs.Tokens.{all_told}
 use Rattle.elaborate.specs.Means.{Numbering, Ruling}
 use Rattle.elaborate.specs.Means.{as_done, as_found, Like, Does, IsValueOf, IsEffectOf, IsCallOf, AreArguments}
 use Rattle.elaborate.proofs.States.{then_same}
@@ -239,6 +243,10 @@ pub body_call_of :
 body_call_of numbering at t g f is same_at = record {
   size = λ l k like. (like.bodies (g l) f (is l)).size;
   room = λ l k like. (like.bodies (g l) f (is l)).room;
+  marks = record {
+    are = λ name l k like named. ap (λ a. Enters a (name f) ∷ []) (sym (same_at l))
+        ∙ named (g l) f (is l);
+  };
   runs = λ l k like env vs base s o. ap (λ a. core.body_call k.call k.taking a f vs base s o) (sym (same_at l))
       ∙ (like.bodies (g l) f (is l)).runs env vs base s o;
 }
@@ -248,14 +256,16 @@ pub rule_call_of :
     (numbering : Numbering) (x : Callee) (at : ℕ) (t : ValueType) (g : c.Level → c.Site) (r : Ruling)
     → ((l : c.Level) → numbering.rule (g l) ≡ Some r) → ((k : Level Output) → core.callee_size x k.measures ≡ 0)
     → ((k : Level Output) → core.callee_room x k.measures ≡ r.room)
+    → ((name : ℕ → Name) → all_told name (callee_marks at x) ≡ r.marks)
     → ((l : c.Level) (k : Level Output) → Like numbering l k → (env : Env) (vs : List ℤ) (base : ℕ) (s : Store)
     (o : Output)
     → core.called k x at t env vs base s o
     ≡ Some (as_done (r.acts l.world l.limits env vs base (c.entered s o.count))))
     → IsCallOf numbering x at t g
-rule_call_of numbering x at t g r is size room runs = record {
+rule_call_of numbering x at t g r is size room marks runs = record {
   size = λ l k like. size k ∙ (like.rules (g l) r (is l)).size;
   room = λ l k like. room k ∙ (like.rules (g l) r (is l)).room;
+  marks = record { are = λ name l k like named. marks name ∙ (like.rules (g l) r (is l)).marks };
   runs = λ l k like env vs base s o. runs l k like env vs base s o
       ∙ ap (λ d. Some (as_done d)) ((like.rules (g l) r (is l)).runs env vs base s o.count);
 }

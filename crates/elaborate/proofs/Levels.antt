@@ -63,6 +63,7 @@ module _ (numbering : Function → Numbering) (m : whole.Machine) (k : Machine O
       rules = λ g r is. let q = h.rules f g r is in record {
         size = q.size None;
         room = q.room None;
+        marks = q.marks;
         runs = q.runs turns None;
       };
       bodies = λ g i is. let b = h.bodies f g i is in record {
@@ -83,6 +84,7 @@ module _ (numbering : Function → Numbering) (m : whole.Machine) (k : Machine O
       rules = λ g r is. let q = h.rules f g r is in record {
         size = q.size (Some (whole.level_of m n));
         room = q.room (Some (whole.level_of m n));
+        marks = q.marks;
         runs = q.runs turns (Some (whole.level_of m n));
       };
       bodies = λ g i is.

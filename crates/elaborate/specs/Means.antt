@@ -10,6 +10,7 @@ use Rattle.c_means.specs.Values as values
 use Rattle.c_means.specs.Objects as objects
 use Rattle.c_means.specs.Parts.{State, Env, Part}
 use Rattle.c_means.specs.Parts as c
+use Rattle.c_means.specs.Marks.{Mark, Enters}
 use Rattle.c_means.specs.Items.{Made}
 use Rattle.c_means.specs.Items as runs
 use Rattle.c_language.specs.declared.scope.Entry.{Entry}
@@ -30,6 +31,9 @@ use Rattle.core_tree.specs.Numbers.{size_of, value_of_bytes, bytes_of_value, con
 use Rattle.core_tree.specs.States.{Output, plain, Done, Outcome, Level}
 use Rattle.core_tree.specs.Values.{Value, value}
 use Rattle.core_tree.specs.Codes.{Item, code}
+use Rattle.core_marks.specs.declared.mark.Mark.{Mark as CoreMark}
+use Rattle.core_marks.specs.Marks.{callee_marks}
+use Rattle.elaborate.specs.Tokens.{all_told}
 
 -- ---- states
 
@@ -54,9 +58,10 @@ as_value (Err d) = Err d
 -- ---- levels
 
 -- What a call by rule does, in a world and bounds, from the objects in force, the values of its arguments, its first
--- place and the state in which it begins; and how many places it takes.
+-- place and the state in which it begins; how many places it takes, and what stands at the callee's name.
 pub record Ruling : Type 0 where
   pub room : ℕ
+  pub marks : List Mark
   pub acts : c.World → c.Limits → Env → List ℤ → ℕ → State → State
 
 -- What a function's calls are: the places of what lives throughout the run, by offset; which argument a function of a
@@ -72,6 +77,7 @@ pub record Numbering : Type 0 where
 pub record Follows (l : c.Level) (g : c.Site) (r : Ruling) : Type 0 where
   pub size : 0 ≡ l.size g
   pub room : r.room ≡ l.room g
+  pub marks : r.marks ≡ l.marks g
   pub runs : (env : Env) (vs : List ℤ) (base : ℕ) (s : Store) (n : ℕ)
       → r.acts l.world l.limits env vs base (c.entered s n) ≡ l.call g env vs base s n
 
@@ -92,6 +98,18 @@ pub record Like (numbering : Numbering) (l : c.Level) (k : Level Output) : Type 
   pub identity : l.identity ≡ numbering.identity
   pub bodies : (g : c.Site) (f : ℕ) → numbering.body g ≡ Some f → Calls l k g f
   pub rules : (g : c.Site) (r : Ruling) → numbering.rule g ≡ Some r → Follows l g r
+
+-- ---- what stands at tokens
+
+-- the functions whose bodies are called have these names, by their numbers
+abbrev pub AreNamed : Numbering → (ℕ → Name) → c.Level → Type 0
+AreNamed numbering name l =
+    (g : c.Site) (f : ℕ) → numbering.body g ≡ Some f → Enters g.at (name f) ∷ [] ≡ l.marks g
+
+-- these marks of the core are those in each level
+pub record SameMarks (numbering : Numbering) (ms : List CoreMark) (marks : c.Level → List Mark) : Type 0 where
+  pub are : (name : ℕ → Name) (l : c.Level) (k : Level Output) → Like numbering l k → AreNamed numbering name l
+      → all_told name ms ≡ marks l
 
 -- ---- expressions
 
@@ -170,6 +188,7 @@ pub record IsCallOf (numbering : Numbering) (callee : Callee) (at : ℕ) (t : Va
     Type 0 where
   pub size : (l : c.Level) (k : Level Output) → Like numbering l k → callee_size callee k.measures ≡ l.size (site l)
   pub room : (l : c.Level) (k : Level Output) → Like numbering l k → callee_room callee k.measures ≡ l.room (site l)
+  pub marks : SameMarks numbering (callee_marks at callee) (λ l. l.marks (site l))
   pub runs : (l : c.Level) (k : Level Output) → Like numbering l k → (env : Env) (vs : List ℤ) (base : ℕ) (s : Store)
       (o : Output)
       → called k callee at t env vs base s o ≡ Some (as_done (l.call (site l) env vs base s o.count))
@@ -232,6 +251,7 @@ pub record Numbered (numbering : Function → Numbering) (m : whole.Machine) (k 
 pub record HasRule (m : whole.Machine) (f : Function) (g : c.Site) (r : Ruling) : Type 0 where
   pub size : (below : whole.Below) → 0 ≡ whole.size_by m below (whole.rule_of m g)
   pub room : (below : whole.Below) → r.room ≡ whole.room_by m below g (whole.rule_of m g)
+  pub marks : r.marks ≡ whole.marks_by m f g (whole.rule_of m g)
   pub runs : (turns : ℕ) (below : whole.Below) (env : Env) (vs : List ℤ) (base : ℕ) (s : Store) (n : ℕ)
       → r.acts m.world m.limits env vs base (c.entered s n) ≡ whole.call_by m f turns below (whole.rule_of m g) g env
       vs base s n

@@ -100,12 +100,12 @@ fn read_questions(alloc: Global, text: &str, usual: u32) -> Result<(Formula, Vec
     Ok((formula, questions))
 }
 
-fn solver_of(alloc: Global, formula: &Formula) -> Result<Solver> {
-    let mut solver = Solver::new(alloc);
+/// Adds the clauses of a formula to a solver.
+fn add_all(alloc: Global, solver: &mut Solver, formula: &Formula) -> Result<()> {
     for index in 0..formula.len() {
         solver.add(Clause::from_vec(formula.clause(index).to_vec(alloc)?))?;
     }
-    Ok(solver)
+    Ok(())
 }
 
 fn asked<C: Chooser>(
@@ -120,7 +120,7 @@ fn asked<C: Chooser>(
     examined(alloc, formula, &whole, answer)
 }
 
-/// The answers of a solver to all questions, in order.
+/// The answers to all questions about a formula, in order, of a solver that has no clause yet.
 fn ask_all<C: Chooser>(
     alloc: Global,
     solver: &mut Solver,
@@ -128,6 +128,7 @@ fn ask_all<C: Chooser>(
     formula: &Formula,
     questions: &[Question],
 ) -> Result<Vec<Verdict>> {
+    add_all(alloc, solver, formula)?;
     let mut verdicts = Vec::new(alloc);
     for question in questions {
         verdicts.push(asked(alloc, solver, chooser, formula, question)?)?;
@@ -142,8 +143,10 @@ fn examine_all<C: Chooser>(
     formula: &Formula,
     questions: &[Question],
 ) -> Result<Vec<Verdict>> {
-    let mut solver = solver_of(alloc, formula)?;
-    ask_all(alloc, &mut solver, chooser, formula, questions)
+    let mut solver = Solver::new(alloc);
+    let verdicts = ask_all(alloc, &mut solver, chooser, formula, questions);
+    solver.discard();
+    verdicts
 }
 
 /// The answers to a text's questions about its formula.

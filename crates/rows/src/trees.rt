@@ -4,8 +4,7 @@
 use anyhow::{Result, anyhow};
 use c_language::Tokens;
 use c_lexer::{LexFault, lex};
-use c_parser::ParseFault;
-use c_parser::unit::parse;
+use c_parser::{ParseFault, discard, parse};
 use plain_data::Bytes;
 use std::alloc::{AllocError, Global};
 use tree_text::{placed_text, unit_text};
@@ -40,7 +39,11 @@ fn syntactic(alloc: Global, fault: ParseFault) -> Result<Bytes> {
 
 fn tree_of(alloc: Global, tokens: &Tokens) -> Result<Bytes> {
     match parse(alloc, tokens) {
-        Ok(unit) => Ok(unit_text(alloc, unit.externals.as_slice())?),
+        Ok(unit) => {
+            let text = unit_text(alloc, unit.externals.as_slice());
+            discard(unit);
+            Ok(text?)
+        }
         Err(fault) => syntactic(alloc, fault),
     }
 }
@@ -79,6 +82,8 @@ pub fn answer_placed(alloc: Global, row: &str) -> Result<String> {
     }
     let tokens = lex(alloc, "source", source)?;
     let unit = parse(alloc, &tokens)?;
-    let text = placed_text(alloc, unit.externals.as_slice())?;
+    let text = placed_text(alloc, unit.externals.as_slice());
+    discard(unit);
+    let text = text?;
     Ok(String::from_utf8_lossy(alloc, text.as_slice())?)
 }

@@ -29,7 +29,9 @@ fn all_sites(alloc: Global, program: &Accepted) -> Result<Items<Site>, AllocErro
         profile: &program.profile,
     };
     let overview = read_source(alloc, &source)?;
-    sites(alloc, &source, &overview)
+    let found = sites(alloc, &source, &overview);
+    overview.discard();
+    found
 }
 
 /// Whether one of these log calls stands at an offset.

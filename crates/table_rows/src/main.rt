@@ -145,10 +145,10 @@ fn found(
 /// The answer to a source and a log.
 fn answer(alloc: Global, word: &str, bounds: &Bounds, input: &[u8]) -> Result<Bytes> {
     let (source, log) = split(input)?;
-    match program_of(alloc, source) {
-        Ok(program) => found(alloc, word, &program, log, bounds),
-        Err(fault) => Err(fault),
-    }
+    let program = program_of(alloc, source)?;
+    let text = found(alloc, word, &program, log, bounds);
+    program.discard();
+    text
 }
 
 /// Answers the source and the log in standard input.

@@ -4,7 +4,7 @@
 ghost use Rattle.bitvectors.specs.Blasts.{HasWidth};
 
 use crate::blasting::blast_nodes;
-use crate::solving::{model_of, push, solver_of};
+use crate::solving::{add_all, model_of, push};
 use crate::terms::{Terms, Wish, read_terms};
 use anyhow::Result;
 use bitvectors::Blasted;
@@ -122,25 +122,41 @@ fn put_others(
     Ok(())
 }
 
-/// The answer where the root has clauses, and nodes are to be something.
-fn answer_blasted(alloc: Global, blasted: &mut Blasted, wishes: &[Wish]) -> Result<String>
+/// The answer where the root has clauses, and nodes are to be something, by a solver that has no clause yet.
+fn answer_solved(
+    alloc: Global,
+    blasted: &mut Blasted,
+    solver: &mut Solver,
+    wishes: &[Wish],
+) -> Result<String>
     requires words { HasWidth 64 blasted.old.inputs.words }
     requires bytes { HasWidth 8 blasted.old.inputs.bytes }
 {
     let mut out = String::new(alloc);
     push_wishes(&mut blasted.formula, &blasted.roots, wishes)?;
-    let mut solver = solver_of(alloc, &blasted.formula)?;
-    match model_of(alloc, &blasted.formula, &mut solver)? {
+    add_all(alloc, solver, &blasted.formula)?;
+    match model_of(alloc, &blasted.formula, solver)? {
         Some(values) => {
             let world = blasted.decode(alloc, &values)?;
             let value = number_of(bits_of(&blasted.roots, 0), &values);
             write!(out, "{value}")?;
-            put_others(alloc, &mut out, blasted, &mut solver, &values)?;
+            put_others(alloc, &mut out, blasted, solver, &values)?;
             put_world(&mut out, &world)?;
         }
         None => out.push_str("none\n")?,
     }
     Ok(out)
+}
+
+/// The answer where the root has clauses, and nodes are to be something.
+fn answer_blasted(alloc: Global, blasted: &mut Blasted, wishes: &[Wish]) -> Result<String>
+    requires words { HasWidth 64 blasted.old.inputs.words }
+    requires bytes { HasWidth 8 blasted.old.inputs.bytes }
+{
+    let mut solver = Solver::new(alloc);
+    let answer = answer_solved(alloc, blasted, &mut solver, wishes);
+    solver.discard();
+    answer
 }
 
 /// The answer of terms.

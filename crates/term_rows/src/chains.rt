@@ -5,10 +5,11 @@ ghost use Rattle.term_bank.specs.declared.sort.Sort.TheVariants.{Truth};
 ghost use Rattle.bitvectors.specs.Blasts.{HasWidth};
 
 use crate::blasting::blast_nodes;
-use crate::solving::{model_of, solver_of};
+use crate::solving::{add_all, model_of};
 use crate::terms::node_of;
 use anyhow::{Result, anyhow};
 use bitvectors::Blasted;
+use cdcl::Solver;
 use plain_data::Width;
 use std::alloc::Global;
 use term_bank::{Bank, Connective, Node, Sort, WordTest};
@@ -60,12 +61,14 @@ fn blast_chain(alloc: Global, count: u32) -> Result<Blasted>
     blast_nodes(alloc, &mut bank, &[root])
 }
 
-/// The answer to a chain: how many clauses it takes, and how many words the world of a model has.
-pub fn answer_chain(alloc: Global, count: u32) -> Result<String> {
-    let blasted = blast_chain(alloc, count)?;
+/// The answer of a chain's clauses, by a solver that has none yet.
+fn answer_solved(alloc: Global, blasted: &Blasted, solver: &mut Solver) -> Result<String>
+    requires words { HasWidth 64 blasted.now.inputs.words }
+    requires bytes { HasWidth 8 blasted.now.inputs.bytes }
+{
     let clauses = blasted.formula.len();
-    let mut solver = solver_of(alloc, &blasted.formula)?;
-    match model_of(alloc, &blasted.formula, &mut solver)? {
+    add_all(alloc, solver, &blasted.formula)?;
+    match model_of(alloc, &blasted.formula, solver)? {
         Some(values) => {
             let world = blasted.decode(alloc, &values)?;
             let words = world.words().count();
@@ -73,4 +76,13 @@ pub fn answer_chain(alloc: Global, count: u32) -> Result<String> {
         }
         None => Err(anyhow!("no model")),
     }
+}
+
+/// The answer to a chain: how many clauses it takes, and how many words the world of a model has.
+pub fn answer_chain(alloc: Global, count: u32) -> Result<String> {
+    let blasted = blast_chain(alloc, count)?;
+    let mut solver = Solver::new(alloc);
+    let answer = answer_solved(alloc, &blasted, &mut solver);
+    solver.discard();
+    answer
 }

@@ -9,13 +9,12 @@ use std::alloc::Global;
 /// The most conflicts of a question.
 const CONFLICTS: u32 = 1_000_000;
 
-/// A solver over the clauses of a formula.
-pub fn solver_of(alloc: Global, formula: &Formula) -> Result<Solver> {
-    let mut solver = Solver::new(alloc);
+/// Adds the clauses of a formula to a solver.
+pub fn add_all(alloc: Global, solver: &mut Solver, formula: &Formula) -> Result<()> {
     for index in 0..formula.len() {
         solver.add(Clause::from_vec(formula.clause(index).to_vec(alloc)?))?;
     }
-    Ok(solver)
+    Ok(())
 }
 
 /// Puts a clause at the end of a formula, and adds it to the formula's solver.

@@ -17,7 +17,7 @@ mod text;
 use anyhow::{Result, anyhow};
 use c_language::{Tokens, Unit};
 use c_lexer::lex;
-use c_parser::parse;
+use c_parser::{discard, parse};
 use declaring::{Answer, put_unit};
 use plain_data::Bytes;
 use std::alloc::Global;
@@ -64,7 +64,9 @@ fn run(rt: &HostRuntime, word: &str) -> Result<()> {
     let mut source = Vec::new(rt.alloc());
     rt.reader().read_to_end(&mut source)?;
     let unit = unit_of(rt.alloc(), source.as_slice())?;
-    print_answer(rt, answer, &unit)
+    let printed = print_answer(rt, answer, &unit);
+    discard(unit);
+    printed
 }
 
 fn main(rt: HostRuntime) -> Result<()> {

@@ -42,7 +42,9 @@ fn define_structures(
 {
     let source = Source { externals, profile };
     let program = program_notes(alloc, &source)?;
-    Ok(some_is_defined(program.scope.tables().aggregates.as_slice()))
+    let defines = some_is_defined(program.scope.tables().aggregates.as_slice());
+    program.discard();
+    Ok(defines)
 }
 
 // ---- texts and pointers in log calls
@@ -102,6 +104,24 @@ fn log_calls_show_one(
 
 // ---- all of them
 
+/// Whether a source that was read has a form that isn't read yet.
+fn has_unread_in(
+    alloc: Global,
+    source: &Source<'_>,
+    overview: &Overview,
+) -> Result<bool, AllocError>
+    requires { overview.now ≡ overview_in (judged source.now) }
+    ensures { IfOk result (λ b. b ≡ spec.has_unread source.now.externals.now source.now.profile.now) }
+{
+    let needed = kept(alloc, source, overview)?;
+    let defines = define_structures(alloc, needed.as_slice(), source.profile)?;
+    if defines {
+        return Ok(true);
+    }
+    let shows = log_calls_show_one(alloc, source, overview)?;
+    Ok(shows)
+}
+
 /// Whether a source has a form that isn't read yet where it is diagnosed: what is needed of it defines a structure or
 /// union, or a log call of a function that is reached shows a text or a pointer.
 pub fn has_unread(
@@ -113,11 +133,7 @@ pub fn has_unread(
 {
     let source = Source { externals, profile };
     let overview = read_source(alloc, &source)?;
-    let needed = kept(alloc, &source, &overview)?;
-    let defines = define_structures(alloc, needed.as_slice(), profile)?;
-    if defines {
-        return Ok(true);
-    }
-    let shows = log_calls_show_one(alloc, &source, &overview)?;
-    Ok(shows)
+    let unread = has_unread_in(alloc, &source, &overview);
+    overview.discard();
+    unread
 }

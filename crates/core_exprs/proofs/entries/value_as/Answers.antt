@@ -10,4 +10,5 @@ returns-clause-value g c = record {
   is = c.in_ok-e.ensures;
   does = converted_does _ c.tables.result.now c.args.ctype.now c.in_ok-u.u.value
       (part c.args.expr.now c.args.scope.now) c.in_ok-u.ensures.value.value;
+  marks = c.in_ok-u.ensures.value.marks;
 }

@@ -7,4 +7,5 @@ returns g c =
       codes = h.codes;
       lasting = record { each = h.lasting.each; all = h.lasting.all; set = h.lasting.set };
       after = h.after;
+      marks = h.marks;
     }

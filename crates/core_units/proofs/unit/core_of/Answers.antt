@@ -1,6 +1,6 @@
 use Rattle.std.proofs.Common.{◌∙◌, refl, sym, subst}
 use Rattle.core_units.specs.Units.{MaybeParts}
-use Rattle.core_units.proofs.Wholes.{unit_core, no_main_told, none_of}
+use Rattle.core_units.proofs.Wholes.{assembled, is_core, no_main_told, none_of}
 use Rattle.core_units.proofs.unit.core_of.Goals as goal
 
 pub returns-in_default : goal.returns-in_default
@@ -15,12 +15,10 @@ returns-in_default-2 c =
 
 pub returns : goal.returns
 returns c =
-    let parts = subst (MaybeParts c.args.source.now.externals.now c.args.source.now.profile.now) c.in-Some-2.is
-    c.in_ok-parts.ensures in
-    record {
-      whole_core = _;
-      is = unit_core c.args.source.now.externals.now c.args.source.now.profile.now c.args.overview.now c.requires _
-          c.in-Some-2.parts parts refl refl refl c.count.ensures (sym c.main_takes_two.ensures ∙ c.in-Some.is)
-          c.in_ok-met.ensures.met c.in_ok-met.ensures.objects;
-      runs = c.cut.ensures.runs;
-    }
+    let xs = c.args.source.now.externals.now in
+    let profile = c.args.source.now.profile.now in
+    let parts = subst (MaybeParts xs profile) c.in-Some-2.is c.in_ok-parts.ensures in
+    let whole = assembled xs profile c.args.overview.now c.requires _ c.in-Some-2.parts parts refl refl refl
+    c.count.ensures (sym c.main_takes_two.ensures ∙ c.in-Some.is) c.in_ok-met.ensures.met c.in_ok-met.ensures.objects in
+    is_core xs profile c.args.overview.now c.requires _ c.cut.result c.in_ok-count.count c.in_ok-reached.reached whole
+    c.cut.ensures.value c.cut.ensures.runs c.in_ok-reached.ensures c.in_ok-count.ensures

@@ -1,5 +1,5 @@
 use Rattle.acceptance.proofs.Keeping.{kept_ok}
-use Rattle.acceptance.proofs.accepting.core_in.Goals as goal
+use Rattle.acceptance.proofs.accepting.core_by.Goals as goal
 
 pub returns-in-None-clause-kept : goal.returns-in-None-clause-kept
 returns-in-None-clause-kept c =
