@@ -1,5 +1,5 @@
 -- From what was got and read to the output of a command, and why there is none.
-use Rattle.std.proofs.Common.{◌≡◌, ◌≤◌, ◌<◌, ◌+◌, ◌*◌, ◌∙◌, ℕ, true, List, [], Option, Some, Ok, Err, min, arith, ap, subst, sym, refl, inl, inr}
+use Rattle.std.proofs.Common.{◌≡◌, ◌≤◌, ◌<◌, ◌+◌, ◌*◌, ◌∙◌, ℕ, Bool, true, List, [], Option, Some, Result, Ok, Err, IfOk, IfErr, min, arith, ap, subst, sym, refl, inl, inr}
 use Rattle.plain_data.specs.declared.bounds.Bounds.{Bounds}
 use Rattle.plain_data.specs.declared.run.Run.{Run}
 use Rattle.plain_data.specs.Worlds.{WorldTables}
@@ -7,6 +7,7 @@ use Rattle.accepted.specs.declared.program.Accepted.{Accepted}
 use Rattle.c_means.specs.declared.profile.Profile.{Profile}
 use Rattle.c_means.specs.Units.{IsAcceptedSource, source_run, source_size}
 use Rattle.c_language.specs.declared.unit.External.{External}
+use Rattle.c_language.specs.PlaceTables.{PlaceTable}
 use Rattle.cert_text.specs.WorldTexts.{ReadsWorld}
 use Rattle.config_text.specs.declared.config.Config.{Config as ConfigType}
 use Rattle.diagnoses.specs.declared.diagnosis.Kept.{Kept}
@@ -14,7 +15,7 @@ use Rattle.log_text.specs.Lines.{line_count}
 use Rattle.must_facts.specs.Inquiries.{measure_of}
 use Rattle.site_text.specs.Lines.{AreMatchLines, site_lines}
 use Rattle.sl_io.specs.Counts.{Rose}
-use Rattle.sl_io.specs.ShelfStates.{Files, ShelfState}
+use Rattle.sl_io.specs.ShelfStates.{CountsOn, Files, ShelfState}
 use Rattle.sl_io.specs.SinkStates.{SinkState}
 use Rattle.sl_io.specs.Writes.{AppendedPrefix}
 use Rattle.source_sites.specs.declared.listing.Site.{Site}
@@ -22,9 +23,9 @@ use Rattle.sherlog.specs.Words.{Asked}
 use Rattle.sherlog.specs.Inputs.{IsInput}
 use Rattle.sherlog.specs.Sources.{IsRefusedFor}
 use Rattle.sherlog.specs.Causes.{AreInForce, Cause, IsAccepted, IsLogRead, IsRead, IsWorldRead, takes_log}
-use Rattle.sherlog.specs.Answers.{AreSitesIn, HasSites, IsOutputOf, IsReportOn}
+use Rattle.sherlog.specs.Answers.{AreSitesIn, HasSites, IsOutput, IsOutputOf, IsReportOn}
 use Rattle.sherlog.specs.Lines.{end_line}
-use Rattle.sherlog.specs.Stages.{Forms, GetsLog, IsNotServed, IsParsed, Lists, Parses, ReadsWorldFile, Serves}
+use Rattle.sherlog.specs.Stages.{Forms, GetsLog, IsNotServed, IsParsed, IsProgramOf, IsTraced, Lists, Parses, ReadsWorldFile, Serves}
 use Rattle.sherlog.specs.declared.getting.Parsed.{Parsed}
 use Rattle.sherlog.specs.declared.output.Output.{Output}
 use Rattle.sherlog.specs.declared.request.Command.{Command}
@@ -55,6 +56,53 @@ still_accepted : (asked : Asked) (before mid : ShelfState) (x : Parsed) → Pars
 still_accepted asked before mid x h kept =
     subst (λ (fs : Option Files). IsAccepted asked fs x.config x.unit.externals) (sym h.files)
     (accepted_of asked before.files x h.parsed kept)
+
+-- what was read stays read
+at_most_itself : (n : ℕ) → n ≤ n
+at_most_itself n = omega arith
+
+pub here : (asked : Asked) (s : ShelfState) (x : Parsed) → IsParsed asked s.files x → Parses asked s s (Ok x)
+here asked s x h = record {
+  counts = record {
+    taken = at_most_itself s.taken;
+    get_faults = λ name. at_most_itself (s.get_faults name);
+    put_faults = λ name. at_most_itself (s.put_faults name);
+    long_reads = λ name limit. at_most_itself (s.long_reads name limit);
+  };
+  files = refl;
+  parsed = h;
+  refused = tt;
+}
+
+caused_before : (asked : Asked) (before mid after : ShelfState) (r : Result Output Refusal) → CountsOn before mid
+    → mid.files ≡ before.files → IfErr r (Cause asked mid after) → IfErr r (Cause asked before after)
+caused_before asked before mid after (Ok output) counts files h = tt
+caused_before asked before mid after (Err refusal) counts files h = cause_later asked before mid after refusal counts files h
+
+-- what is formed of a source that was read is formed of its files
+pub formed_of : (asked : Asked) (before mid after : ShelfState) (x : Parsed) (r : Result Output Refusal)
+    → Parses asked before mid (Ok x) → Forms asked mid after r → Forms asked before after r
+formed_of asked before mid after x r h f = record {
+  files = f.files ∙ h.files;
+  formed = subst (λ (fs : Option Files). IfOk r (IsOutput asked fs)) h.files f.formed;
+  refused = caused_before asked before mid after r h.counts h.files f.refused;
+}
+
+-- an accepted program of what was read
+pub program_of : (asked : Asked) (before mid : ShelfState) (x : Parsed) (p : Accepted) (bounds : Bounds)
+    → Parses asked before mid (Ok x) → p.externals ≡ x.unit.externals → p.profile ≡ x.config.profile
+    → AreInForce asked x.config bounds → IsProgramOf asked mid.files x p bounds
+program_of asked before mid x p bounds h externals profile in_force = record {
+  parsed = subst (λ (fs : Option Files). IsParsed asked fs x) (sym h.files) h.parsed;
+  externals = externals;
+  profile = profile;
+  in_force = in_force;
+}
+
+pub kept_of : (asked : Asked) (files : Option Files) (x : Parsed) (p : Accepted) (bounds : Bounds)
+    → IsProgramOf asked files x p bounds → IsAcceptedSource x.unit.externals x.config.profile
+kept_of asked files x p bounds of = subst (λ xs. IsAcceptedSource xs x.config.profile) of.externals
+    (subst (λ f. IsAcceptedSource p.externals f) of.profile p.kept)
 
 -- ---- refused for a rule
 
@@ -104,64 +152,75 @@ log_not_read asked before mid after x r told command h kept log is =
           (log.refused x.config x.unit.externals command (still_accepted asked before mid x h kept));
     })
 
--- an accepted program of a source
-pub record IsOf (p : Accepted) (x : Parsed) : Type 0 where
-  pub externals : p.externals ≡ x.unit.externals
-  pub profile : p.profile ≡ x.config.profile
+-- a log is got as the program's configuration has it
+got_by : (asked : Asked) (files : Option Files) (p : Accepted) (bounds : Bounds) (places : PlaceTable)
+    (prefix : Option (List ℕ)) (drops : Bool) (before after : ShelfState) (r : Result (List ℕ) Refusal)
+    → (t : IsTraced asked files p bounds places prefix drops) → GetsLog asked prefix drops before after r
+    → GetsLog asked t.of.config.prefix t.of.config.drop_unmatched before after r
+got_by asked files p bounds places prefix drops before after r t log =
+    subst (λ pattern. GetsLog asked pattern t.of.config.drop_unmatched before after r) (sym t.is_prefix)
+    (subst (λ is. GetsLog asked prefix is before after r) (sym t.is_drops) log)
 
-kept_of : (p : Accepted) (x : Parsed) → IsOf p x → IsAcceptedSource x.unit.externals x.config.profile
-kept_of p x of = subst (λ xs. IsAcceptedSource xs x.config.profile) of.externals
-    (subst (λ f. IsAcceptedSource p.externals f) of.profile p.kept)
+pub log_not_read_of : (asked : Asked) (before after : ShelfState) (p : Accepted) (bounds : Bounds) (places : PlaceTable)
+    (prefix : Option (List ℕ)) (drops : Bool) (r told : Refusal) → asked.command ≡ Diagnose
+    → IsTraced asked before.files p bounds places prefix drops → GetsLog asked prefix drops before after (Err r) → told ≡ r
+    → Forms asked before after (Err told)
+log_not_read_of asked before after p bounds places prefix drops r told command t log is =
+    log_not_read asked before before after t.of r told (ap takes_log command) (here asked before t.of t.program.parsed)
+    (kept_of asked before.files t.of p bounds t.program)
+    (got_by asked before.files p bounds places prefix drops before after (Err r) t log) is
 
-pub log_not_read_of : (asked : Asked) (before mid after : ShelfState) (x : Parsed) (p : Accepted) (r told : Refusal)
-    → asked.command ≡ Diagnose → Parses asked before mid (Ok x) → IsOf p x
-    → GetsLog asked x.config.prefix x.config.drop_unmatched mid after (Err r) → told ≡ r → Forms asked before after (Err told)
-log_not_read_of asked before mid after x p r told command h of log is =
-    log_not_read asked before mid after x r told (ap takes_log command) h (kept_of p x of) log is
+traced_log : (asked : Asked) (before after : ShelfState) (p : Accepted) (bounds : Bounds) (places : PlaceTable)
+    (prefix : Option (List ℕ)) (drops : Bool) (log : List ℕ) → asked.command ≡ Diagnose
+    → (t : IsTraced asked before.files p bounds places prefix drops) → GetsLog asked prefix drops before after (Ok log)
+    → IsLogRead asked before.files t.of.config log
+traced_log asked before after p bounds places prefix drops log command t got =
+    log_read asked before before after t.of log (ap takes_log command) (here asked before t.of t.program.parsed)
+    (got_by asked before.files p bounds places prefix drops before after (Ok log) t got)
 
-pub report_formed : (asked : Asked) (before mid after : ShelfState) (x : Parsed) (p : Accepted) (bounds : Bounds)
-    (log : List ℕ) (output : Output) → asked.command ≡ Diagnose → Parses asked before mid (Ok x) → IsOf p x
-    → AreInForce asked x.config bounds → GetsLog asked x.config.prefix x.config.drop_unmatched mid after (Ok log)
-    → IsReportOn asked x.unit.places p bounds log output → Forms asked before after (Ok output)
-report_formed asked before mid after x p bounds log output command h of in_force got on = record {
-  files = got.files ∙ h.files;
+pub report_formed : (asked : Asked) (before after : ShelfState) (p : Accepted) (bounds : Bounds) (places : PlaceTable)
+    (prefix : Option (List ℕ)) (drops : Bool) (log : List ℕ) (output : Output) → asked.command ≡ Diagnose
+    → IsTraced asked before.files p bounds places prefix drops → GetsLog asked prefix drops before after (Ok log)
+    → IsReportOn asked places p bounds log output → Forms asked before after (Ok output)
+report_formed asked before after p bounds places prefix drops log output command t got on = record {
+  files = got.files;
   formed = subst (λ (c : Command). IsOutputOf c asked before.files output) (sym command) (record {
-    config = x.config;
-    externals = x.unit.externals;
-    accepted = accepted_of asked before.files x h.parsed (kept_of p x of);
+    config = t.of.config;
+    externals = t.of.unit.externals;
+    accepted = accepted_of asked before.files t.of t.program.parsed (kept_of asked before.files t.of p bounds t.program);
     log = log;
-    read = log_read asked before mid after x log (ap takes_log command) h got;
+    read = traced_log asked before after p bounds places prefix drops log command t got;
     bounds = bounds;
-    in_force = in_force;
+    in_force = t.program.in_force;
     program = p;
-    of_source = of.externals;
-    of_profile = of.profile;
-    places = x.unit.places;
-    is_places = h.parsed.is_unit.places;
-    is_files = h.parsed.is_unit.files;
-    on = on;
+    of_source = t.program.externals;
+    of_profile = t.program.profile;
+    places = t.of.unit.places;
+    is_places = t.program.parsed.is_unit.places;
+    is_files = t.program.parsed.is_unit.files;
+    on = subst (λ table. IsReportOn asked table p bounds log output) (sym t.is_places) on;
   });
   refused = tt;
 }
 
-pub too_large_to_diagnose : (asked : Asked) (before mid after : ShelfState) (x : Parsed) (p : Accepted) (bounds : Bounds)
-    (log : List ℕ) → asked.command ≡ Diagnose → Parses asked before mid (Ok x) → IsOf p x
-    → AreInForce asked x.config bounds → GetsLog asked x.config.prefix x.config.drop_unmatched mid after (Ok log)
+pub too_large_to_diagnose : (asked : Asked) (before after : ShelfState) (p : Accepted) (bounds : Bounds)
+    (places : PlaceTable) (prefix : Option (List ℕ)) (drops : Bool) (log : List ℕ) → asked.command ≡ Diagnose
+    → IsTraced asked before.files p bounds places prefix drops → GetsLog asked prefix drops before after (Ok log)
     → 2000000 < measure_of p bounds log → Forms asked before after (Err TooLarge)
-too_large_to_diagnose asked before mid after x p bounds log command h of in_force got larger = record {
-  files = got.files ∙ h.files;
+too_large_to_diagnose asked before after p bounds places prefix drops log command t got larger = record {
+  files = got.files;
   formed = tt;
   refused = inr (record {
     diagnosed = command;
-    config = x.config;
-    externals = x.unit.externals;
-    accepted = accepted_of asked before.files x h.parsed (kept_of p x of);
+    config = t.of.config;
+    externals = t.of.unit.externals;
+    accepted = accepted_of asked before.files t.of t.program.parsed (kept_of asked before.files t.of p bounds t.program);
     log = log;
-    read = log_read asked before mid after x log (ap takes_log command) h got;
+    read = traced_log asked before after p bounds places prefix drops log command t got;
     bounds = bounds;
-    in_force = in_force;
-    larger = subst (λ xs. 2000000 < source_size xs x.config.profile bounds * (line_count log + 1)) of.externals
-        (subst (λ f. 2000000 < source_size p.externals f bounds * (line_count log + 1)) of.profile larger);
+    in_force = t.program.in_force;
+    larger = subst (λ xs. 2000000 < source_size xs t.of.config.profile bounds * (line_count log + 1)) t.program.externals
+        (subst (λ f. 2000000 < source_size p.externals f bounds * (line_count log + 1)) t.program.profile larger);
   });
 }
 
@@ -185,14 +244,17 @@ unserved_cause asked before after x (BadWorld line) command h kept other = absur
 unserved_cause asked before after x Fault command h kept other = absurd other
 unserved_cause asked before after x (TooLong file) command h kept other = absurd other
 
-pub not_served : (asked : Asked) (before mid after : ShelfState) (x : Parsed) (p : Accepted) (log : List ℕ) (r : Refusal)
-    → asked.command ≡ Diagnose → Parses asked before mid (Ok x) → IsOf p x
-    → GetsLog asked x.config.prefix x.config.drop_unmatched mid after (Ok log) → IsNotServed x.unit.externals x.config.profile r
-    → Forms asked before after (Err r)
-not_served asked before mid after x p log r command h of got other = record {
-  files = got.files ∙ h.files;
+pub not_served : (asked : Asked) (before after : ShelfState) (p : Accepted) (bounds : Bounds) (places : PlaceTable)
+    (prefix : Option (List ℕ)) (drops : Bool) (log : List ℕ) (r : Refusal) → asked.command ≡ Diagnose
+    → IsTraced asked before.files p bounds places prefix drops → GetsLog asked prefix drops before after (Ok log)
+    → IsNotServed p.externals p.profile r → Forms asked before after (Err r)
+not_served asked before after p bounds places prefix drops log r command t got other = record {
+  files = got.files;
   formed = tt;
-  refused = unserved_cause asked before after x r command h.parsed (kept_of p x of) other;
+  refused = unserved_cause asked before after t.of r command t.program.parsed
+      (kept_of asked before.files t.of p bounds t.program)
+      (subst (λ xs. IsNotServed xs t.of.config.profile r) t.program.externals
+      (subst (λ f. IsNotServed p.externals f r) t.program.profile other));
 }
 
 -- ---- `replay`
@@ -245,13 +307,13 @@ too_large asked before mid after x world bounds found command h kept w in_force 
 }
 
 pub run_formed : (asked : Asked) (before mid after : ShelfState) (x : Parsed) (world : WorldTables) (bounds : Bounds)
-    (found : ℕ) (run : Run) (output : Output) → asked.command ≡ Replay → Parses asked before mid (Ok x)
+    (found : ℕ) (run : Run) (bytes : List ℕ) (output : Output) → asked.command ≡ Replay → Parses asked before mid (Ok x)
     → IsAcceptedSource x.unit.externals x.config.profile → ReadsWorldFile asked mid after (Ok world)
     → AreInForce asked x.config bounds → found ≡ min (source_size x.unit.externals x.config.profile bounds) 2000001
     → found ≤ 2000000 → run ≡ source_run x.unit.externals x.config.profile world bounds
-    → output.text ≡ run.printed → output.end ≡ end_line asked.source x.bytes run.finish → output.status ≡ 0
+    → x.bytes ≡ bytes → output.text ≡ run.printed → output.end ≡ end_line asked.source bytes run.finish → output.status ≡ 0
     → Forms asked before after (Ok output)
-run_formed asked before mid after x world bounds found run output command h kept w in_force is within ran text end status =
+run_formed asked before mid after x world bounds found run bytes output command h kept w in_force is within ran read text end status =
     record {
       files = w.files ∙ h.files;
       formed = subst (λ (c : Command). IsOutputOf c asked before.files output) (sym command) (record {
@@ -263,7 +325,8 @@ run_formed asked before mid after x world bounds found run output command h kept
         in_force = in_force;
         within = at_most 2000000 (source_size x.unit.externals x.config.profile bounds) found is within;
         text = text ∙ ap (λ (r : Run). r.printed) ran;
-        end = end ∙ ap (λ (r : Run). end_line asked.source x.bytes r.finish) ran;
+        end = end ∙ ap (λ bs. end_line asked.source bs run.finish) (sym read)
+            ∙ ap (λ (r : Run). end_line asked.source x.bytes r.finish) ran;
         status = status;
       });
       refused = tt;

@@ -1,5 +1,6 @@
 -- The steps from a command line to its output, each as what it answers and why it doesn't.
 use Rattle.std.specs.Prelude.{◌≡◌, ◌≤◌, ◌<◌, ℕ, List, Bool, true, Option, Result, Ok, Err, IfOk, IfErr, ⊤}
+use Rattle.plain_data.specs.declared.bounds.Bounds.{Bounds}
 use Rattle.plain_data.specs.Worlds.{WorldTables}
 use Rattle.c_lexer.specs.Places.{located}
 use Rattle.c_language.specs.declared.token.Token.{Token}
@@ -8,6 +9,7 @@ use Rattle.c_reading.specs.declared.fault.ParseFault.TheVariants as parser
 use Rattle.c_means.specs.declared.profile.Profile.{Profile}
 use Rattle.c_language.specs.declared.unit.External.{External}
 use Rattle.c_language.specs.declared.unit.Unit.{Unit}
+use Rattle.c_language.specs.PlaceTables.{PlaceTable}
 use Rattle.cert_text.specs.WorldTexts.{ReadsWorld}
 use Rattle.cert_text.specs.declared.fault.CertFault.{CertFault}
 use Rattle.cert_text.specs.declared.fault.CertFault.TheVariants as cert
@@ -27,7 +29,7 @@ use Rattle.source_sites.specs.declared.listing.Site.{Site}
 use Rattle.sherlog.specs.Words.{Asked}
 use Rattle.sherlog.specs.Inputs.{IsInput, Failed, IsTooLong}
 use Rattle.sherlog.specs.Sources.{IsUnit, HasFaultIn, IsRefusedFor, start_at}
-use Rattle.sherlog.specs.Causes.{Cause, IsAccepted, IsConfigured, IsLogRead, IsPatternOf, Takes, takes_log}
+use Rattle.sherlog.specs.Causes.{AreInForce, Cause, IsAccepted, IsConfigured, IsLogRead, IsPatternOf, Takes, takes_log}
 use Rattle.sherlog.specs.Answers.{Answered, AreSitesIn, IsOutput, Refused}
 use Rattle.sherlog.specs.declared.getting.Parsed.{Parsed}
 use Rattle.sherlog.specs.declared.refusal.InputFile.{InputFile}
@@ -108,11 +110,27 @@ IsNotServed externals profile NotYetRead = HasUnread externals profile
 IsNotServed externals profile Memory = ⊤
 IsNotServed externals profile _ = ⊥
 
--- the program of a source that is derived, where it is accepted
-pub record Accepts (name bytes : List ℕ) (xs : List External) (f : Profile) (result : Result Accepted Refusal) : Type 0 where
-  pub externals : IfOk result (λ p. p.externals ≡ xs)
-  pub profile : IfOk result (λ p. p.profile ≡ f)
-  pub refused : IfErr result (IsRefusedFor name bytes xs f)
+-- an accepted program of what was read, and the bounds in force
+pub record IsProgramOf (asked : Asked) (files : Option Files) (x : Parsed) (p : Accepted) (bounds : Bounds) : Type 0 where
+  pub parsed : IsParsed asked files x
+  pub externals : p.externals ≡ x.unit.externals
+  pub profile : p.profile ≡ x.config.profile
+  pub in_force : AreInForce asked x.config bounds
+
+-- so is a program, with the places of the source's tokens, and how the lines of its log begin
+pub record IsTraced (asked : Asked) (files : Option Files) (p : Accepted) (bounds : Bounds) (places : PlaceTable)
+    (prefix : Option (List ℕ)) (drops : Bool) : Type 0 where
+  pub of : Parsed
+  pub program : IsProgramOf asked files of p bounds
+  pub is_places : of.unit.places ≡ places
+  pub is_prefix : of.config.prefix ≡ prefix
+  pub is_drops : of.config.drop_unmatched ≡ drops
+
+-- so is a program of a source with these bytes
+pub record IsRunnable (asked : Asked) (files : Option Files) (p : Accepted) (bounds : Bounds) (bytes : List ℕ) : Type 0 where
+  pub of : Parsed
+  pub program : IsProgramOf asked files of p bounds
+  pub is_bytes : of.bytes ≡ bytes
 
 -- ---- what is listed
 

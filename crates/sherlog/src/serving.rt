@@ -4,7 +4,7 @@ ghost use Rattle.config_text.specs.Values.{InRanges};
 ghost use Rattle.sl_io.specs.Writes.{Writes};
 ghost use Rattle.sherlog.specs.Causes.{AreInForce};
 ghost use Rattle.sherlog.specs.Inputs.{asked_in};
-ghost use Rattle.sherlog.specs.Stages.{Forms, Serves};
+ghost use Rattle.sherlog.specs.Stages.{Forms, IsRunnable, IsTraced, Serves};
 ghost use Rattle.sherlog.specs.declared.request.Command.{Command as CommandType};
 
 use crate::getting::{Parsed, get_log, read_source, world};
@@ -13,13 +13,16 @@ use crate::output::Output;
 use crate::refusal::Refusal;
 use crate::reporting::report_on;
 use crate::request::{Command, Request};
-use crate::source::{accepted, diagnosable, listed, unserved};
+use crate::source::{accepted, listed, unserved};
+use accepted::Accepted;
+use c_language::{Places, Unit};
 use config_text::Config;
 use diagnoses::Kept;
 use must_facts::DiagnoseFault;
 use plain_data::{Bounds, Bytes};
 use replayer::{replay, unrolled_size};
 use site_text::{match_lines, site_lines};
+use sl_config::Name;
 use sl_io::{Shelf, Sink, SinkFault, tell};
 use std::alloc::Global;
 
@@ -41,6 +44,36 @@ fn bounds_of(request: &Request<'_>, config: &Config) -> Bounds
     }
 }
 
+/// A program, with what its diagnosis takes besides its log.
+struct Traced<'a> {
+    program: &'a Accepted,
+    bounds: &'a Bounds,
+    places: &'a Places,
+    prefix: &'a Option<Name>,
+    drops: bool,
+}
+
+/// Gets the log of a program, and forms the whole report.
+fn report_along<H: Shelf>(
+    alloc: Global,
+    request: &Request<'_>,
+    traced: &Traced<'_>,
+    shelf: &mut H,
+) -> Result<Output, Refusal>
+    requires command { request.now.command ≡ CommandType.Diagnose }
+    requires traced { IsTraced (asked_in request.now) (H.state shelf.old).files traced.now.program.now
+        traced.now.bounds.now traced.now.places.now traced.now.prefix.now traced.now.drops }
+    ensures { Forms (asked_in request.now) (H.state shelf.old) (H.state shelf.new) result }
+{
+    let log = get_log(alloc, request, traced.prefix, traced.drops, shelf)?;
+    match report_on(alloc, request, traced.places, traced.program, traced.bounds, &log) {
+        Ok(output) => Ok(output),
+        Err(DiagnoseFault::TooLarge) => Err(Refusal::TooLarge),
+        Err(DiagnoseFault::Unwalked) => Err(unserved(alloc, traced.program)),
+        Err(DiagnoseFault::Memory) => Err(Refusal::Memory),
+    }
+}
+
 /// Gets and reads the files of `diagnose`, and forms the whole report. Nothing is written.
 fn form_report<H: Shelf>(
     alloc: Global,
@@ -58,20 +91,51 @@ fn form_report<H: Shelf>(
     let bounds = bounds_of(request, &config);
     let prefix = config.prefix;
     let drops = config.drop_unmatched;
-    let program = diagnosable(
+    let Unit { externals, places } = unit;
+    let program = accepted(
         alloc,
         request.source,
         bytes.as_slice(),
-        &unit,
+        externals,
         config.profile,
     )?;
-    let log = get_log(alloc, request, &prefix, drops, shelf)?;
-    match report_on(alloc, request, unit.places.get(), &program, &bounds, &log) {
-        Ok(output) => Ok(output),
-        Err(DiagnoseFault::TooLarge) => Err(Refusal::TooLarge),
-        Err(DiagnoseFault::Unwalked) => Err(unserved(alloc, &program)),
-        Err(DiagnoseFault::Memory) => Err(Refusal::Memory),
+    let traced = Traced {
+        program: &program,
+        bounds: &bounds,
+        places: places.get(),
+        prefix: &prefix,
+        drops,
+    };
+    let output = report_along(alloc, request, &traced, shelf);
+    program.discard();
+    output
+}
+
+/// Gets the world, and runs a program of the source that has these bytes.
+fn run_in_world<H: Shelf>(
+    alloc: Global,
+    request: &Request<'_>,
+    bytes: &[u8],
+    program: &Accepted,
+    bounds: &Bounds,
+    shelf: &mut H,
+) -> Result<Output, Refusal>
+    requires command { request.now.command ≡ CommandType.Replay }
+    requires runnable { IsRunnable (asked_in request.now) (H.state shelf.old).files program.now bounds.now bytes.now }
+    ensures { Forms (asked_in request.now) (H.state shelf.old) (H.state shelf.new) result }
+{
+    let world = world(alloc, request, shelf)?;
+    if MAX_SIZE < unrolled_size(alloc, program, bounds, MAX_SIZE + 1)? {
+        return Err(Refusal::TooLarge);
     }
+    let run = replay(alloc, program, &world, bounds)?;
+    let end = end_line(alloc, request.source, bytes, run.finish)?;
+    Ok(Output {
+        text: run.printed,
+        end,
+        status: 0,
+        evidence: Kept::new(alloc),
+    })
 }
 
 /// Gets and reads the files of `replay`, and runs the program. Nothing is written.
@@ -89,26 +153,16 @@ fn form_run<H: Shelf>(
         unit,
     } = read_source(alloc, request, shelf)?;
     let bounds = bounds_of(request, &config);
-    let name = request.source;
     let program = accepted(
         alloc,
-        name,
+        request.source,
         bytes.as_slice(),
         unit.externals,
         config.profile,
     )?;
-    let world = world(alloc, request, shelf)?;
-    if MAX_SIZE < unrolled_size(alloc, &program, &bounds, MAX_SIZE + 1)? {
-        return Err(Refusal::TooLarge);
-    }
-    let run = replay(alloc, &program, &world, &bounds)?;
-    let end = end_line(alloc, name, bytes.as_slice(), run.finish)?;
-    Ok(Output {
-        text: run.printed,
-        end,
-        status: 0,
-        evidence: Kept::new(alloc),
-    })
+    let output = run_in_world(alloc, request, bytes.as_slice(), &program, &bounds, shelf);
+    program.discard();
+    output
 }
 
 /// What is written where nothing is told of a run.
@@ -139,14 +193,15 @@ fn form_listing<H: Shelf>(
         bytes,
         unit,
     } = read_source(alloc, request, shelf)?;
+    let Unit { externals, places } = unit;
     let sites = listed(
         alloc,
         request.source,
         bytes.as_slice(),
-        &unit,
+        externals,
         config.profile,
     )?;
-    let text = site_lines(alloc, unit.places.get(), sites.as_slice())?;
+    let text = site_lines(alloc, places.get(), sites.as_slice())?;
     Ok(written(alloc, text))
 }
 
@@ -167,15 +222,16 @@ fn form_matches<H: Shelf>(
     } = read_source(alloc, request, shelf)?;
     let prefix = config.prefix;
     let drops = config.drop_unmatched;
+    let Unit { externals, places } = unit;
     let sites = listed(
         alloc,
         request.source,
         bytes.as_slice(),
-        &unit,
+        externals,
         config.profile,
     )?;
     let log = get_log(alloc, request, &prefix, drops, shelf)?;
-    let text = match_lines(alloc, unit.places.get(), &log, sites.as_slice())?;
+    let text = match_lines(alloc, places.get(), &log, sites.as_slice())?;
     Ok(written(alloc, text))
 }
 

@@ -9,7 +9,7 @@ ghost use Rattle.c_parser.specs.Parsing.{Refuses as RefusesTokens};
 ghost use Rattle.c_means.specs.declared.profile.Profile.{Profile as ProfileType};
 ghost use Rattle.c_language.specs.declared.unit.External.{External as ExternalType};
 ghost use Rattle.sherlog.specs.Sources.{HasFault, IsRefusedFor, start_at};
-ghost use Rattle.sherlog.specs.Stages.{Accepts, IsNotServed, IsToldAt, Lists, Reads, Tells};
+ghost use Rattle.sherlog.specs.Stages.{IsNotServed, IsToldAt, Lists, Reads, Tells};
 
 use crate::places::{MAX_SOURCE, spot_at};
 use crate::refusal::{Refusal, SourceFault};
@@ -22,7 +22,7 @@ use c_parser::ParseFault;
 use c_parser::unit::parse;
 use plain_data::{Items, Shared};
 use source_sites::{Site, sites_of};
-use std::alloc::{AllocError, Global};
+use std::alloc::Global;
 use unread_forms::has_unread;
 
 /// The refusal of a source whose fault stands at a byte.
@@ -144,20 +144,6 @@ pub fn accepted(
     }
 }
 
-/// The same externals once more.
-fn copy_externals(
-    alloc: Global,
-    externals: &[Shared<External>],
-) -> Result<Items<Shared<External>>, AllocError>
-    ensures { IfOk result (λ copy. copy ≡ externals.now) }
-{
-    let mut copy = Items::new(alloc);
-    for external in externals {
-        copy.push(external.clone()?)?;
-    }
-    Ok(copy)
-}
-
 /// Of an accepted source that can't be diagnosed, the refusal: that it has a form that isn't read yet; where it has
 /// none it is for want of memory.
 pub fn unserved(alloc: Global, program: &Accepted) -> Refusal
@@ -169,34 +155,20 @@ pub fn unserved(alloc: Global, program: &Accepted) -> Refusal
     }
 }
 
-/// The program of a source that is derived, where it is accepted, to be diagnosed.
-pub fn diagnosable(
-    alloc: Global,
-    name: &str,
-    bytes: &[u8],
-    unit: &Unit,
-    profile: Profile,
-) -> Result<Accepted, Refusal>
-    requires { length bytes.now ≤ MAX_SOURCE }
-    ensures { Accepts name.now bytes.now unit.now.externals profile result }
-{
-    let externals = copy_externals(alloc, unit.externals.as_slice())?;
-    accepted(alloc, name, bytes, externals, profile)
-}
-
 /// The log calls of a source that is derived, where it is accepted.
 pub fn listed(
     alloc: Global,
     name: &str,
     bytes: &[u8],
-    unit: &Unit,
+    externals: Items<Shared<External>>,
     profile: Profile,
 ) -> Result<Items<Site>, Refusal>
     requires { length bytes.now ≤ MAX_SOURCE }
-    ensures { Lists name.now bytes.now unit.now.externals profile result }
+    ensures { Lists name.now bytes.now externals profile result }
 {
-    let externals = copy_externals(alloc, unit.externals.as_slice())?;
     let program = accepted(alloc, name, bytes, externals, profile)?;
-    let sites = sites_of(alloc, &program)?;
+    let found = sites_of(alloc, &program);
+    program.discard();
+    let sites = found?;
     Ok(sites)
 }
