@@ -2,14 +2,13 @@
 //! are reached declare and name (C99 6.2.4p3).
 
 ghost use Rattle.std.specs.Prelude.{◌≡◌, ◌∷◌, [], IfOk, OnOk, unwrap_or};
-ghost use Rattle.c_reach.specs.Reaching.{has_at};
 ghost use Rattle.c_program_notes.specs.Needed as spec;
 
 use crate::outers::OuterNotes;
 use c_item_notes::{ItemNotes, LastingNote};
 use c_language::Name;
 use c_names::{Literal, Names, Word, is_needed};
-use c_reach::FunctionNotes;
+use c_reach::{FunctionNotes, is_among};
 use plain_data::{Bytes, Items, Shared};
 use std::alloc::{AllocError, Global};
 use std::marker::Model;
@@ -134,18 +133,6 @@ impl Needs {
         self.links.push(function.name.clone()?)?;
         self.add_item(alloc, &function.body, name, &function.names)
     }
-}
-
-/// Whether a function of this offset is one of these.
-fn is_among(at: u32, functions: &[Shared<FunctionNotes>]) -> bool
-    ensures { result ≡ has_at at functions.now }
-{
-    for function in functions {
-        if at == function.get().at {
-            return true;
-        }
-    }
-    false
 }
 
 fn add_declared(

@@ -5,5 +5,5 @@ mod search;
 mod summaries;
 
 pub use c_names::{Stack, Word, has_word};
-pub use search::{Reaching, named_functions, reached};
+pub use search::{Reaching, is_among, named_functions, reached};
 pub use summaries::FunctionNotes;

@@ -36,11 +36,11 @@ pub fn named_functions(
     Ok(named)
 }
 
-/// Whether a function of this offset was found.
-fn has_at(at: u32, found: &[Shared<FunctionNotes>]) -> bool
-    ensures { result ≡ spec.has_at at found.now }
+/// Whether a function of this offset is one of these.
+pub fn is_among(at: u32, functions: &[Shared<FunctionNotes>]) -> bool
+    ensures { result ≡ spec.has_at at functions.now }
 {
-    for function in found {
+    for function in functions {
         if at == function.get().at {
             return true;
         }
@@ -52,7 +52,7 @@ fn has_at(at: u32, found: &[Shared<FunctionNotes>]) -> bool
 fn is_found(at: u32, found: &Stack<Shared<FunctionNotes>>) -> bool
     ensures { result ≡ spec.has_at at found.now }
 {
-    has_at(at, found.as_slice())
+    is_among(at, found.as_slice())
 }
 
 /// Puts these names on, the first of them first.

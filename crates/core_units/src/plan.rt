@@ -7,7 +7,7 @@ ghost use Rattle.core_units.specs.Overviews as spec;
 use c_language::Entry;
 use c_names::is_needed;
 use c_program_notes::{OuterNotes, Overview, watched_lasting};
-use c_reach::FunctionNotes;
+use c_reach::{FunctionNotes, is_among};
 use core_callees::FunctionNumber;
 use plain_data::{Items, Shared};
 use std::alloc::{AllocError, Global};
@@ -20,18 +20,6 @@ pub struct Plan {
     pub is_needed: bool,
     pub is_reached: bool,
     pub watched: Option<Items<Shared<Entry>>>,
-}
-
-/// Whether a function of this offset is one of these.
-fn is_among(at: u32, functions: &[Shared<FunctionNotes>]) -> bool
-    ensures { result ≡ has_at at functions.now }
-{
-    for function in functions {
-        if at == function.get().at {
-            return true;
-        }
-    }
-    false
 }
 
 /// Whether a function of this offset is reached.

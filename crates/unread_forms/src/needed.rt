@@ -2,27 +2,15 @@
 ghost use Rattle.std.specs.Prelude.{◌≡◌, IfOk, OnOk, ◌++◌, ◌∷◌, [], cond};
 ghost use Rattle.c_item_notes.specs.Levels.{judged};
 ghost use Rattle.c_program_notes.specs.Wholes.{overview as overview_in};
-ghost use Rattle.c_reach.specs.Reaching.{has_at};
 ghost use Rattle.unread_forms.specs.Needed as spec;
 
 use c_item_notes::Source;
 use c_language::External;
 use c_names::{Word, is_needed};
 use c_program_notes::{OuterNotes, Overview};
-use c_reach::FunctionNotes;
+use c_reach::{FunctionNotes, is_among};
 use plain_data::{Items, Shared};
 use std::alloc::{AllocError, Global};
-
-fn is_among(at: u32, functions: &[Shared<FunctionNotes>]) -> bool
-    ensures { result ≡ has_at at functions.now }
-{
-    for function in functions {
-        if at == function.get().at {
-            return true;
-        }
-    }
-    false
-}
 
 /// Whether an external declaration is needed where these words are, or defines one of these functions.
 fn keeps(words: &[Word], reached: &[Shared<FunctionNotes>], outer: &OuterNotes) -> bool

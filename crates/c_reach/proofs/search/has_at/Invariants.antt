@@ -1,6 +1,0 @@
-use Rattle.std.proofs.Common.{◌≡◌, drop}
-use Rattle.c_reach.specs.Reaching.{has_at}
-use Rattle.c_reach.proofs.search.has_at.Given as goal
-
-abbrev pub invariant-loop-function : goal.invariant-loop-function
-invariant-loop-function l = has_at l.at (drop l.function-index l.found) ≡ has_at l.at l.found
