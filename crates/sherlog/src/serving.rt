@@ -45,6 +45,7 @@ fn bounds_of(request: &Request<'_>, config: &Config) -> Bounds
 }
 
 /// A program, with what its diagnosis takes besides its log.
+#[derive(Clone, Copy)]
 struct Traced<'a> {
     program: &'a Accepted,
     bounds: &'a Bounds,
