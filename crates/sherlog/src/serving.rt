@@ -67,7 +67,14 @@ fn report_along<H: Shelf>(
     ensures { Forms (asked_in request.now) (H.state shelf.old) (H.state shelf.new) result }
 {
     let log = get_log(alloc, request, traced.prefix, traced.drops, shelf)?;
-    match report_on(alloc, request, traced.places, traced.program, traced.bounds, &log) {
+    match report_on(
+        alloc,
+        request,
+        traced.places,
+        traced.program,
+        traced.bounds,
+        &log,
+    ) {
         Ok(output) => Ok(output),
         Err(DiagnoseFault::TooLarge) => Err(Refusal::TooLarge),
         Err(DiagnoseFault::Unwalked) => Err(unserved(alloc, traced.program)),
