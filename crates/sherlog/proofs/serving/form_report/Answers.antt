@@ -9,8 +9,8 @@ returns-in_err-program g c =
     rw p.1 (not_formed _ _ _ c.in_ok-config.field-0 _ _ c.in_ok-config.ensures
     (rw c.as_slice.ensures at c.in_err-program.ensures.refused) p.2)
 
-pub report_along-requires-clause-traced : goal.report_along-requires-clause-traced
-report_along-requires-clause-traced g c = record {
+pub report_along-output-requires-clause-traced : goal.report_along-output-requires-clause-traced
+report_along-output-requires-clause-traced g c = record {
   of = c.in_ok-config.field-0;
   program = program_of _ _ _ c.in_ok-config.field-0 c.in_ok-program.program _ c.in_ok-config.ensures
       c.in_ok-program.ensures.externals c.in_ok-program.ensures.profile c.bounds_of-bounds.ensures;

@@ -5,7 +5,7 @@ use Rattle.sherlog.proofs.serving.report_along.Goals as goal
 
 pub returns-in_err-log : goal.returns-in_err-log
 returns-in_err-log g c =
-    let p = err_from_is_err_and c.from_residual-in_err-log.result c.from_residual-in_err-log.ensures.1 in
+    let p = err_from_is_err_and c.from_residual.result c.from_residual.ensures.1 in
     rw p.1 (log_not_read_of _ _ _ _ _ _ _ _ _ _ c.requires.command c.requires.traced c.in_err-log.ensures p.2)
 
 pub returns-in-Ok : goal.returns-in-Ok

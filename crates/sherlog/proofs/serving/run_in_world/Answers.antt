@@ -5,7 +5,7 @@ use Rattle.sherlog.proofs.serving.run_in_world.Goals as goal
 
 pub returns-in_err-world : goal.returns-in_err-world
 returns-in_err-world g c =
-    let p = err_from_is_err_and c.from_residual-in_err-world.result c.from_residual-in_err-world.ensures.1 in
+    let p = err_from_is_err_and c.from_residual.result c.from_residual.ensures.1 in
     let t = c.requires.runnable in
     rw p.1 (world_not_read _ _ _ _ t.of _ _ c.requires.command (here _ _ t.of t.program.parsed)
     (kept_of _ _ t.of _ _ t.program) c.in_err-world.ensures p.2)
