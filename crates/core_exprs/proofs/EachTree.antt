@@ -1,5 +1,5 @@
 -- What is found of a tree, by the form that it is.
-use Rattle.std.proofs.Common.{◌≡◌, ◌<◌, ◌≤◌, ℕ, suc, ◌+◌, ℤ, List, [], ◌∷◌, ◌++◌, length, Option, map, drop, get_or, Result, IfOk, refl, sym, ap, ◌∙◌, subst}
+use Rattle.std.proofs.Common.{◌≡◌, ◌<◌, ◌≤◌, ℕ, suc, ◌+◌, ℤ, List, [], ◌∷◌, ◌++◌, length, Option, map, drop, get_or, Result, IfOk, IsOkAnd, refl, sym, ap, ◌∙◌, subst}
 use Rattle.c_language.specs.declared.token.IntegerConstant.{IntegerConstant}
 use Rattle.c_language.specs.declared.expr.BinaryOperator.{BinaryOperator}
 use Rattle.c_language.specs.declared.expr.PostfixOperator.{PostfixOperator}
@@ -25,11 +25,17 @@ use Rattle.core_exprs.specs.declared.arguments.Passing.{Passing}
 use Rattle.core_exprs.specs.Passing.{ArePassed}
 use Rattle.core_exprs.specs.declared.found.Found.{Found}
 use Rattle.core_exprs.specs.Found.{IsFoundOf, AreFound}
+use Rattle.core_exprs.proofs.Parts.{of_one, of_two, of_three}
 
 -- of a child that was read through its owner
 of_child : (n : Numbering) (x : Found) (e e' : Expr) (s s1 : Scope) → IsFoundOf n x (part e s) s1 → e ≡ e'
     → IsFoundOf n x (part e' s) s1
 of_child n x e e' s s1 h is = subst (λ e. IsFoundOf n x (part e s) s1) is h
+
+-- a part that was taken, with the names in force behind it
+record IsTaken (R : Used → Part → Type 0) (u : Used) (p : Part) (behind : Scope) : Type 0 where
+  pub does : R u p
+  pub after : behind ≡ p.typed.after
 
 module _ {E : Type 0} (n : Numbering) where
   abbrev Finds : Result Found E → Part → Scope → Type 0
@@ -73,122 +79,180 @@ module _ {E : Type 0} (n : Numbering) where
   in_parentheses {e} {inner} {inner'} r at s s1 is same h = as_form r _ _ s1 (ap (λ x. part x s) is ∙ ap (λ (f : Scope → Part). f s) (eq.means-Parenthesized at inner)
       ∙ ap (λ x. part x s) (sym same)) h
 
-  pub in_member : {e child child' : Expr} (r : Result Found E) (at : ℕ) (name : Name) (s s1 : Scope) (x : Found)
-      → e ≡ expr.Member at child name → child' ≡ child → IsFoundOf n x (part child' s) s1
-      → ((p : Part) → IsFoundOf n x p s1 → Finds r (form.member at name p) s1) → Finds r (part e s) s1
-  in_member {e} {child} {child'} r at name s s1 x is same h last = as_form r _ _ s1
-      (ap (λ x. part x s) is ∙ ap (λ (f : Scope → Part). f s) (eq.means-Member at child name))
-      (last (part child s) (of_child n x child' child s s1 h same))
+  one_part : (x r : Result Found E) (child child' : Expr) (s s1 : Scope) (whole form : Part) → whole ≡ form
+      → child' ≡ child → Finds x (part child' s) s1
+      → IfOk r (λ z. IsOkAnd x (λ x. IsFoundOf n x (part child s) s1 → IsFoundOf n z form s1)) → Finds r whole s1
+  one_part x r child child' s s1 whole form is same h last =
+      of_one x r (λ x. IsFoundOf n x (part child' s) s1)
+      (λ z x. IsFoundOf n x (part child s) s1 → IsFoundOf n z form s1) (λ z. IsFoundOf n z whole s1) h last
+      (λ x z hx does. subst (λ p. IsFoundOf n z p s1) (sym is) (does (of_child n x child' child s s1 hx same)))
 
-  pub in_arrow : {e child child' : Expr} (r : Result Found E) (at : ℕ) (name : Name) (s s1 : Scope) (x : Found)
-      → e ≡ expr.Arrow at child name → child' ≡ child → IsFoundOf n x (part child' s) s1
-      → ((p : Part) → IsFoundOf n x p s1 → Finds r (form.arrow at name p) s1) → Finds r (part e s) s1
-  in_arrow {e} {child} {child'} r at name s s1 x is same h last = as_form r _ _ s1
-      (ap (λ x. part x s) is ∙ ap (λ (f : Scope → Part). f s) (eq.means-Arrow at child name))
-      (last (part child s) (of_child n x child' child s s1 h same))
+  pub in_member : {e child child' : Expr} (x r : Result Found E) (at : ℕ) (name : Name) (s s1 : Scope)
+      → e ≡ expr.Member at child name → child' ≡ child → Finds x (part child' s) s1
+      → ((p : Part) → IfOk r (λ z. IsOkAnd x (λ x. IsFoundOf n x p s1 → IsFoundOf n z (form.member at name p) s1)))
+      → Finds r (part e s) s1
+  in_member {e} {child} {child'} x r at name s s1 is same h last =
+      one_part x r child child' s s1 (part e s) (form.member at name (part child s))
+      (ap (λ x. part x s) is ∙ ap (λ (f : Scope → Part). f s) (eq.means-Member at child name)) same h (last (part child s))
 
-  pub in_postfix : {e child child' : Expr} (r : Result Found E) (at : ℕ) (op : PostfixOperator) (s s1 : Scope) (x : Found)
-      → e ≡ expr.Postfix at op child → child' ≡ child → IsFoundOf n x (part child' s) s1
-      → ((p : Part) → IsFoundOf n x p s1 → Finds r (form.postfix at op p) s1) → Finds r (part e s) s1
-  in_postfix {e} {child} {child'} r at op s s1 x is same h last = as_form r _ _ s1
-      (ap (λ x. part x s) is ∙ ap (λ (f : Scope → Part). f s) (eq.means-Postfix at op child))
-      (last (part child s) (of_child n x child' child s s1 h same))
+  pub in_arrow : {e child child' : Expr} (x r : Result Found E) (at : ℕ) (name : Name) (s s1 : Scope)
+      → e ≡ expr.Arrow at child name → child' ≡ child → Finds x (part child' s) s1
+      → ((p : Part) → IfOk r (λ z. IsOkAnd x (λ x. IsFoundOf n x p s1 → IsFoundOf n z (form.arrow at name p) s1)))
+      → Finds r (part e s) s1
+  in_arrow {e} {child} {child'} x r at name s s1 is same h last =
+      one_part x r child child' s s1 (part e s) (form.arrow at name (part child s))
+      (ap (λ x. part x s) is ∙ ap (λ (f : Scope → Part). f s) (eq.means-Arrow at child name)) same h (last (part child s))
 
-  pub in_unary : {e child child' : Expr} (r : Result Found E) (at : ℕ) (op : UnaryOperator) (s s1 : Scope) (x : Found)
-      → e ≡ expr.Unary at op child → child' ≡ child → IsFoundOf n x (part child' s) s1
-      → ((p : Part) → IsFoundOf n x p s1 → Finds r (form.unary at op p) s1) → Finds r (part e s) s1
-  in_unary {e} {child} {child'} r at op s s1 x is same h last = as_form r _ _ s1
-      (ap (λ x. part x s) is ∙ ap (λ (f : Scope → Part). f s) (eq.means-Unary at op child))
-      (last (part child s) (of_child n x child' child s s1 h same))
+  pub in_postfix : {e child child' : Expr} (x r : Result Found E) (at : ℕ) (op : PostfixOperator) (s s1 : Scope)
+      → e ≡ expr.Postfix at op child → child' ≡ child → Finds x (part child' s) s1
+      → ((p : Part) → IfOk r (λ z. IsOkAnd x (λ x. IsFoundOf n x p s1 → IsFoundOf n z (form.postfix at op p) s1)))
+      → Finds r (part e s) s1
+  in_postfix {e} {child} {child'} x r at op s s1 is same h last =
+      one_part x r child child' s s1 (part e s) (form.postfix at op (part child s))
+      (ap (λ x. part x s) is ∙ ap (λ (f : Scope → Part). f s) (eq.means-Postfix at op child)) same h (last (part child s))
 
-  pub in_size : {e child child' : Expr} (r : Result Found E) (at : ℕ) (s s1 : Scope) (x : Told)
-      → e ≡ expr.SizeofExpr at child → child' ≡ child → typed_in x s1 ≡ (part child' s).typed
-      → ((p : Part) → typed_in x s1 ≡ p.typed → Finds r (form.size_of_expression at p) s1) → Finds r (part e s) s1
-  in_size {e} {child} {child'} r at s s1 x is same h last = as_form r _ _ s1
-      (ap (λ x. part x s) is ∙ ap (λ (f : Scope → Part). f s) (eq.means-SizeofExpr at child))
-      (last (part child s) (h ∙ ap (λ z. (part z s).typed) same))
+  pub in_unary : {e child child' : Expr} (x r : Result Found E) (at : ℕ) (op : UnaryOperator) (s s1 : Scope)
+      → e ≡ expr.Unary at op child → child' ≡ child → Finds x (part child' s) s1
+      → ((p : Part) → IfOk r (λ z. IsOkAnd x (λ x. IsFoundOf n x p s1 → IsFoundOf n z (form.unary at op p) s1)))
+      → Finds r (part e s) s1
+  in_unary {e} {child} {child'} x r at op s s1 is same h last =
+      one_part x r child child' s s1 (part e s) (form.unary at op (part child s))
+      (ap (λ x. part x s) is ∙ ap (λ (f : Scope → Part). f s) (eq.means-Unary at op child)) same h (last (part child s))
+
+  pub in_size : {e child child' : Expr} (x : Result Told E) (r : Result Found E) (at : ℕ) (s s1 : Scope)
+      → e ≡ expr.SizeofExpr at child → child' ≡ child → IfOk x (λ x. typed_in x s1 ≡ (part child' s).typed)
+      → ((p : Part) → IfOk r (λ z. IsOkAnd x (λ x. typed_in x s1 ≡ p.typed → IsFoundOf n z (form.size_of_expression at p) s1)))
+      → Finds r (part e s) s1
+  in_size {e} {child} {child'} x r at s s1 is same h last =
+      of_one x r (λ x. typed_in x s1 ≡ (part child' s).typed)
+      (λ z x. typed_in x s1 ≡ (part child s).typed → IsFoundOf n z (form.size_of_expression at (part child s)) s1)
+      (λ z. IsFoundOf n z (part e s) s1) h (last (part child s))
+      (λ x z hx does. subst (λ p. IsFoundOf n z p s1)
+      (sym (ap (λ x. part x s) is ∙ ap (λ (f : Scope → Part). f s) (eq.means-SizeofExpr at child)))
+      (does (hx ∙ ap (λ z. (part z s).typed) same)))
 
   -- ---- type names
 
-  pub in_type_size : {e : Expr} {name name' : TypeName} (r : Result Found E) (at : ℕ) (s s1 : Scope) (t : TypeSaid)
-      → e ≡ expr.SizeofType at name → name' ≡ name → type_said_in t s1 ≡ type_name_said name' s
-      → Finds r (form.size_of_type at t.ctype t.faults s1) s1 → Finds r (part e s) s1
-  in_type_size {e} {name} {name'} r at s s1 t is same said h = as_form r _ _ s1
-      (ap (λ x. part x s) is ∙ ap (λ (f : Scope → Part). f s) (eq.means-SizeofType at name)
+  pub in_type_size : {e : Expr} {name name' : TypeName} (t : Result TypeSaid E) (r : Result Found E) (at : ℕ)
+      (s s1 : Scope) → e ≡ expr.SizeofType at name → name' ≡ name
+      → IfOk t (λ t. type_said_in t s1 ≡ type_name_said name' s)
+      → IfOk r (λ z. IsOkAnd t (λ t. IsFoundOf n z (form.size_of_type at t.ctype t.faults s1) s1)) → Finds r (part e s) s1
+  in_type_size {e} {name} {name'} t r at s s1 is same said h =
+      of_one t r (λ t. type_said_in t s1 ≡ type_name_said name' s)
+      (λ z t. IsFoundOf n z (form.size_of_type at t.ctype t.faults s1) s1) (λ z. IsFoundOf n z (part e s) s1) said h
+      (λ t z says found. subst (λ p. IsFoundOf n z p s1)
+      (sym (ap (λ x. part x s) is ∙ ap (λ (f : Scope → Part). f s) (eq.means-SizeofType at name)
       ∙ ap (λ (y : SpecTypeSaid). form.size_of_type at y.type y.faults y.after)
-      (sym (said ∙ ap (λ x. type_name_said x s) same))) h
+      (sym (says ∙ ap (λ x. type_name_said x s) same)))) found)
 
-  pub in_cast : {e child child' : Expr} {name name' : TypeName} (r : Result Found E) (at : ℕ) (s s1 s2 : Scope)
-      (t : TypeSaid) (x : Found) → e ≡ expr.Cast at name child → name' ≡ name → child' ≡ child
-      → type_said_in t s1 ≡ type_name_said name' s → IsFoundOf n x (part child' s1) s2
-      → ((p : Part) → IsFoundOf n x p s2 → Finds r (form.cast at t.ctype t.faults p) s2) → Finds r (part e s) s2
-  in_cast {e} {child} {child'} {name} {name'} r at s s1 s2 t x is same sames said h last = as_form r _ _ s2
-      (ap (λ x. part x s) is ∙ ap (λ (f : Scope → Part). f s) (eq.means-Cast at name child)
+  pub in_cast : {e child child' : Expr} {name name' : TypeName} (t : Result TypeSaid E) (x r : Result Found E) (at : ℕ)
+      (s s1 s2 : Scope) → e ≡ expr.Cast at name child → name' ≡ name → child' ≡ child
+      → IfOk t (λ t. type_said_in t s1 ≡ type_name_said name' s) → Finds x (part child' s1) s2
+      → ((p : Part) → IfOk r (λ z. IsOkAnd t (λ t. IsOkAnd x (λ x. IsFoundOf n x p s2 → IsFoundOf n z (form.cast at t.ctype t.faults p) s2))))
+      → Finds r (part e s) s2
+  in_cast {e} {child} {child'} {name} {name'} t x r at s s1 s2 is same sames said h last =
+      of_two t x r (λ t. type_said_in t s1 ≡ type_name_said name' s) (λ x. IsFoundOf n x (part child' s1) s2)
+      (λ z t x. IsFoundOf n x (part child s1) s2 → IsFoundOf n z (form.cast at t.ctype t.faults (part child s1)) s2)
+      (λ z. IsFoundOf n z (part e s) s2) said h (last (part child s1))
+      (λ t x z says hx does. subst (λ p. IsFoundOf n z p s2)
+      (sym (ap (λ x. part x s) is ∙ ap (λ (f : Scope → Part). f s) (eq.means-Cast at name child)
       ∙ ap (λ (y : SpecTypeSaid). form.cast at y.type y.faults (part child y.after))
-      (sym (said ∙ ap (λ x. type_name_said x s) same)))
-      (last (part child s1) (of_child n x child' child s1 s2 h sames))
+      (sym (says ∙ ap (λ x. type_name_said x s) same))))
+      (does (of_child n x child' child s1 s2 hx sames)))
 
   -- ---- two and three parts
 
-  pub in_subscript : {e left left' right right' : Expr} (r : Result Found E) (at : ℕ)
-      (s s1 s2 : Scope) (x : Found) (u : Used) (y : Found) → e ≡ expr.Subscript at left right → left' ≡ left → right' ≡ right
-      → IsFoundOf n x (part left' s) s1 → ((p : Part) → IsFoundOf n x p s1 → IsUsed n u p)
-      → IsFoundOf n y (part right' s1) s2
-      → ((p q : Part) → IsUsed n u p → IsFoundOf n y q s2 → Finds r (form.subscript at p q) s2) → Finds r (part e s) s2
-  in_subscript {e} {left} {left'} {right} {right'} r at s s1 s2 x u y is same sames h used_ i last =
-      let k = of_child n x left' left s s1 h same in
-      as_form r _ _ s2 (ap (λ x. part x s) is ∙ ap (λ (f : Scope → Part). f s) (eq.means-Subscript at left right)
-      ∙ ap (λ t. form.subscript at (part left s) (part right t)) (sym k.after))
-      (last (part left s) (part right s1) (used_ (part left s) k) (of_child n y right' right s1 s2 i sames))
+  taken : (R : Used → Part → Type 0) (x : Result Found E) (u : Result Used E) (child child' : Expr) (s s1 : Scope)
+      → child' ≡ child → Finds x (part child' s) s1
+      → ((p : Part) → IfOk u (λ u. IsOkAnd x (λ x. IsFoundOf n x p s1 → R u p)))
+      → IfOk u (λ u. IsTaken R u (part child s) s1)
+  taken R x u child child' s s1 same h used_ =
+      of_one x u (λ x. IsFoundOf n x (part child' s) s1) (λ u x. IsFoundOf n x (part child s) s1 → R u (part child s))
+      (λ u. IsTaken R u (part child s) s1) h (used_ (part child s))
+      (λ x u hx does. let k = of_child n x child' child s s1 hx same in record { does = does k; after = k.after })
 
-  pub in_binary : {e left left' right right' : Expr} (r : Result Found E) (at : ℕ) (op : BinaryOperator)
-      (s s1 s2 : Scope) (x : Found) (u : Used) (y : Found) → e ≡ expr.Binary at op left right → left' ≡ left → right' ≡ right
-      → IsFoundOf n x (part left' s) s1 → ((p : Part) → IsFoundOf n x p s1 → IsUsed n u p)
-      → IsFoundOf n y (part right' s1) s2
-      → ((p q : Part) → IsUsed n u p → IsFoundOf n y q s2 → Finds r (form.binary at op p q) s2) → Finds r (part e s) s2
-  in_binary {e} {left} {left'} {right} {right'} r at op s s1 s2 x u y is same sames h used_ i last =
-      let k = of_child n x left' left s s1 h same in
-      as_form r _ _ s2 (ap (λ x. part x s) is ∙ ap (λ (f : Scope → Part). f s) (eq.means-Binary at op left right)
-      ∙ ap (λ t. form.binary at op (part left s) (part right t)) (sym k.after))
-      (last (part left s) (part right s1) (used_ (part left s) k) (of_child n y right' right s1 s2 i sames))
+  two_parts : (R : Used → Part → Type 0) (x : Result Found E) (u : Result Used E) (y r : Result Found E)
+      (left left' right right' : Expr) (s s1 s2 : Scope) (whole : Part) (over : Part → Part → Part)
+      → whole ≡ over (part left s) (part right (part left s).typed.after) → left' ≡ left → right' ≡ right
+      → Finds x (part left' s) s1 → ((p : Part) → IfOk u (λ u. IsOkAnd x (λ x. IsFoundOf n x p s1 → R u p)))
+      → Finds y (part right' s1) s2
+      → ((p q : Part) → IfOk r (λ z. IsOkAnd u (λ u. IsOkAnd y (λ y. R u p → IsFoundOf n y q s2 → IsFoundOf n z (over p q) s2))))
+      → Finds r whole s2
+  two_parts R x u y r left left' right right' s s1 s2 whole over is same sames h used_ i last =
+      of_two u y r (λ u. IsTaken R u (part left s) s1) (λ y. IsFoundOf n y (part right' s1) s2)
+      (λ z u y. R u (part left s) → IsFoundOf n y (part right s1) s2
+      → IsFoundOf n z (over (part left s) (part right s1)) s2)
+      (λ z. IsFoundOf n z whole s2) (taken R x u left left' s s1 same h used_) i (last (part left s) (part right s1))
+      (λ u y z hu hy does. subst (λ p. IsFoundOf n z p s2)
+      (sym (is ∙ ap (λ t. over (part left s) (part right t)) (sym hu.after)))
+      (does hu.does (of_child n y right' right s1 s2 hy sames)))
 
-  pub in_comma : {e left left' right right' : Expr} (r : Result Found E) (at : ℕ)
-      (s s1 s2 : Scope) (x : Found) (u : Used) (y : Found) → e ≡ expr.Comma at left right → left' ≡ left → right' ≡ right
-      → IsFoundOf n x (part left' s) s1 → ((p : Part) → IsFoundOf n x p s1 → IsDiscarded n u p)
-      → IsFoundOf n y (part right' s1) s2
-      → ((p q : Part) → IsDiscarded n u p → IsFoundOf n y q s2 → Finds r (form.comma at p q) s2) → Finds r (part e s) s2
-  in_comma {e} {left} {left'} {right} {right'} r at s s1 s2 x u y is same sames h used_ i last =
-      let k = of_child n x left' left s s1 h same in
-      as_form r _ _ s2 (ap (λ x. part x s) is ∙ ap (λ (f : Scope → Part). f s) (eq.means-Comma at left right)
-      ∙ ap (λ t. form.comma at (part left s) (part right t)) (sym k.after))
-      (last (part left s) (part right s1) (used_ (part left s) k) (of_child n y right' right s1 s2 i sames))
-
-  pub in_assignment : {e left left' right right' : Expr} (r : Result Found E) (at : ℕ) (op : Option BinaryOperator)
-      (s s1 s2 : Scope) (x y : Found) → e ≡ expr.Assign at op left right → left' ≡ left → right' ≡ right
-      → IsFoundOf n x (part left' s) s1 → IsFoundOf n y (part right' s1) s2
-      → ((p q : Part) → IsBuilt n x.built p → IsFoundOf n y q s2 → Finds r (form.assignment at op p q) s2)
+  pub in_subscript : {e left left' right right' : Expr} (x : Result Found E) (u : Result Used E) (y r : Result Found E)
+      (at : ℕ) (s s1 s2 : Scope) → e ≡ expr.Subscript at left right → left' ≡ left → right' ≡ right
+      → Finds x (part left' s) s1 → ((p : Part) → IfOk u (λ u. IsOkAnd x (λ x. IsFoundOf n x p s1 → IsUsed n u p)))
+      → Finds y (part right' s1) s2
+      → ((p q : Part) → IfOk r (λ z. IsOkAnd u (λ u. IsOkAnd y (λ y. IsUsed n u p → IsFoundOf n y q s2 → IsFoundOf n z (form.subscript at p q) s2))))
       → Finds r (part e s) s2
-  in_assignment {e} {left} {left'} {right} {right'} r at op s s1 s2 x y is same sames h i last =
-      let k = of_child n x left' left s s1 h same in
-      as_form r _ _ s2 (ap (λ x. part x s) is ∙ ap (λ (f : Scope → Part). f s) (eq.means-Assign at op left right)
-      ∙ ap (λ t. form.assignment at op (part left s) (part right t)) (sym k.after))
-      (last (part left s) (part right s1) k.built (of_child n y right' right s1 s2 i sames))
+  in_subscript {e} {left} {left'} {right} {right'} x u y r at s s1 s2 is =
+      two_parts (IsUsed n) x u y r left left' right right' s s1 s2 (part e s) (form.subscript at)
+      (ap (λ x. part x s) is ∙ ap (λ (f : Scope → Part). f s) (eq.means-Subscript at left right))
 
-  pub in_choice : {e a a' b b' d d' : Expr} (r : Result Found E) (at : ℕ) (s s1 s2 s3 : Scope) (c : Found) (w : Used)
-      (x : Found) (u : Used) (y : Found) → e ≡ expr.Conditional at a b d → a' ≡ a → b' ≡ b → d' ≡ d
-      → IsFoundOf n c (part a' s) s1 → ((p : Part) → IsFoundOf n c p s1 → IsUsed n w p)
-      → IsFoundOf n x (part b' s1) s2 → ((p : Part) → IsFoundOf n x p s2 → IsUsed n u p)
-      → IsFoundOf n y (part d' s2) s3
-      → ((o p q : Part) → IsUsed n w o → IsUsed n u p → IsFoundOf n y q s3 → Finds r (form.choice at o p q) s3)
+  pub in_binary : {e left left' right right' : Expr} (x : Result Found E) (u : Result Used E) (y r : Result Found E)
+      (at : ℕ) (op : BinaryOperator) (s s1 s2 : Scope) → e ≡ expr.Binary at op left right → left' ≡ left → right' ≡ right
+      → Finds x (part left' s) s1 → ((p : Part) → IfOk u (λ u. IsOkAnd x (λ x. IsFoundOf n x p s1 → IsUsed n u p)))
+      → Finds y (part right' s1) s2
+      → ((p q : Part) → IfOk r (λ z. IsOkAnd u (λ u. IsOkAnd y (λ y. IsUsed n u p → IsFoundOf n y q s2 → IsFoundOf n z (form.binary at op p q) s2))))
+      → Finds r (part e s) s2
+  in_binary {e} {left} {left'} {right} {right'} x u y r at op s s1 s2 is =
+      two_parts (IsUsed n) x u y r left left' right right' s s1 s2 (part e s) (form.binary at op)
+      (ap (λ x. part x s) is ∙ ap (λ (f : Scope → Part). f s) (eq.means-Binary at op left right))
+
+  pub in_comma : {e left left' right right' : Expr} (x : Result Found E) (u : Result Used E) (y r : Result Found E)
+      (at : ℕ) (s s1 s2 : Scope) → e ≡ expr.Comma at left right → left' ≡ left → right' ≡ right
+      → Finds x (part left' s) s1 → ((p : Part) → IfOk u (λ u. IsOkAnd x (λ x. IsFoundOf n x p s1 → IsDiscarded n u p)))
+      → Finds y (part right' s1) s2
+      → ((p q : Part) → IfOk r (λ z. IsOkAnd u (λ u. IsOkAnd y (λ y. IsDiscarded n u p → IsFoundOf n y q s2 → IsFoundOf n z (form.comma at p q) s2))))
+      → Finds r (part e s) s2
+  in_comma {e} {left} {left'} {right} {right'} x u y r at s s1 s2 is =
+      two_parts (IsDiscarded n) x u y r left left' right right' s s1 s2 (part e s) (form.comma at)
+      (ap (λ x. part x s) is ∙ ap (λ (f : Scope → Part). f s) (eq.means-Comma at left right))
+
+  pub in_assignment : {e left left' right right' : Expr} (x y r : Result Found E) (at : ℕ) (op : Option BinaryOperator)
+      (s s1 s2 : Scope) → e ≡ expr.Assign at op left right → left' ≡ left → right' ≡ right
+      → Finds x (part left' s) s1 → Finds y (part right' s1) s2
+      → ((p q : Part) → IfOk r (λ z. IsOkAnd x (λ x. IsOkAnd y (λ y. IsBuilt n x.built p → IsFoundOf n y q s2 → IsFoundOf n z (form.assignment at op p q) s2))))
+      → Finds r (part e s) s2
+  in_assignment {e} {left} {left'} {right} {right'} x y r at op s s1 s2 is same sames h i last =
+      of_two x y r (λ x. IsFoundOf n x (part left' s) s1) (λ y. IsFoundOf n y (part right' s1) s2)
+      (λ z x y. IsBuilt n x.built (part left s) → IsFoundOf n y (part right s1) s2
+      → IsFoundOf n z (form.assignment at op (part left s) (part right s1)) s2)
+      (λ z. IsFoundOf n z (part e s) s2) h i (last (part left s) (part right s1))
+      (λ x y z hx hy does. let k = of_child n x left' left s s1 hx same in subst (λ p. IsFoundOf n z p s2)
+      (sym (ap (λ x. part x s) is ∙ ap (λ (f : Scope → Part). f s) (eq.means-Assign at op left right)
+      ∙ ap (λ t. form.assignment at op (part left s) (part right t)) (sym k.after)))
+      (does k.built (of_child n y right' right s1 s2 hy sames)))
+
+  pub in_choice : {e a a' b b' d d' : Expr} (c : Result Found E) (w : Result Used E) (x : Result Found E)
+      (u : Result Used E) (y r : Result Found E) (at : ℕ) (s s1 s2 s3 : Scope) → e ≡ expr.Conditional at a b d
+      → a' ≡ a → b' ≡ b → d' ≡ d
+      → Finds c (part a' s) s1 → ((p : Part) → IfOk w (λ w. IsOkAnd c (λ c. IsFoundOf n c p s1 → IsUsed n w p)))
+      → Finds x (part b' s1) s2 → ((p : Part) → IfOk u (λ u. IsOkAnd x (λ x. IsFoundOf n x p s2 → IsUsed n u p)))
+      → Finds y (part d' s2) s3
+      → ((o p q : Part) → IfOk r (λ z. IsOkAnd w (λ w. IsOkAnd u (λ u. IsOkAnd y (λ y.
+      IsUsed n w o → IsUsed n u p → IsFoundOf n y q s3 → IsFoundOf n z (form.choice at o p q) s3)))))
       → Finds r (part e s) s3
-  in_choice {e} {a} {a'} {b} {b'} {d} {d'} r at s s1 s2 s3 c w x u y is first second third h used_ i uses j last =
-      let k = of_child n c a' a s s1 h first in
-      let m = of_child n x b' b s1 s2 i second in
-      as_form r _ _ s3 (ap (λ x. part x s) is ∙ ap (λ (f : Scope → Part). f s) (eq.means-Conditional at a b d)
-      ∙ ap (λ t. form.choice at (part a s) (part b t) (part d (part b t).typed.after)) (sym k.after)
-      ∙ ap (λ t. form.choice at (part a s) (part b s1) (part d t)) (sym m.after))
-      (last (part a s) (part b s1) (part d s2) (used_ (part a s) k) (uses (part b s1) m)
-      (of_child n y d' d s2 s3 j third))
+  in_choice {e} {a} {a'} {b} {b'} {d} {d'} c w x u y r at s s1 s2 s3 is first second third h used_ i uses j last =
+      of_three w u y r (λ w. IsTaken (IsUsed n) w (part a s) s1) (λ u. IsTaken (IsUsed n) u (part b s1) s2)
+      (λ y. IsFoundOf n y (part d' s2) s3)
+      (λ z w u y. IsUsed n w (part a s) → IsUsed n u (part b s1) → IsFoundOf n y (part d s2) s3
+      → IsFoundOf n z (form.choice at (part a s) (part b s1) (part d s2)) s3)
+      (λ z. IsFoundOf n z (part e s) s3) (taken (IsUsed n) c w a a' s s1 first h used_)
+      (taken (IsUsed n) x u b b' s1 s2 second i uses) j (last (part a s) (part b s1) (part d s2))
+      (λ w u y z hw hu hy does. subst (λ p. IsFoundOf n z p s3)
+      (sym (ap (λ x. part x s) is ∙ ap (λ (f : Scope → Part). f s) (eq.means-Conditional at a b d)
+      ∙ ap (λ t. form.choice at (part a s) (part b t) (part d (part b t).typed.after)) (sym hw.after)
+      ∙ ap (λ t. form.choice at (part a s) (part b s1) (part d t)) (sym hu.after)))
+      (does hw.does hu.does (of_child n y d' d s2 s3 hy third)))
 
   -- ---- calls
 

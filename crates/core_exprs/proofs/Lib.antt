@@ -1,3 +1,4 @@
+pub mod Parts
 pub mod Unevaluated
 pub mod EachForm
 pub mod EachTree

@@ -26,7 +26,7 @@ pub fn value<C: Callees>(
     ensures value { IfOk result (λ x. IsUsed (C.numbering callees.now) x (part expr.now scope.old)) }
     ensures after { IfOk result (λ x. scope.new ≡ (part expr.now scope.old).typed.after) }
 {
-    let x = core_of(alloc, callees, expr, scope)?;
+    let x = core_of(alloc, callees, expr, scope);
     let u = used(alloc, scope, x)?;
     Ok(u)
 }
@@ -41,7 +41,7 @@ pub fn effect<C: Callees>(
     ensures effect { IfOk result (λ x. IsDiscarded (C.numbering callees.now) x (part expr.now scope.old)) }
     ensures after { IfOk result (λ x. scope.new ≡ (part expr.now scope.old).typed.after) }
 {
-    let x = core_of(alloc, callees, expr, scope)?;
+    let x = core_of(alloc, callees, expr, scope);
     let u = unused(alloc, scope, x)?;
     Ok(u)
 }

@@ -1,6 +1,6 @@
 //! Forms of expressions over what was found of their parts, of which the last is taken as it stands in the names in
-//! force behind it.
-ghost use Rattle.std.specs.Prelude.{◌≡◌, ◌++◌, None, Some, IfOk, OnOk};
+//! force behind it. A form fails where one of its parts did, and else for want of memory alone.
+ghost use Rattle.std.specs.Prelude.{◌≡◌, ◌++◌, None, Some, IfOk, IsOkAnd, OnOk};
 ghost use Rattle.c_language.specs.Scopes as scopes;
 ghost use Rattle.c_language.specs.Typing as says;
 ghost use Rattle.c_language.specs.Typing.{typed_in};
@@ -14,7 +14,7 @@ ghost use Rattle.core_forms.specs.Built.{IsBuilt, IsDiscarded, IsUsed};
 ghost use Rattle.core_exprs.specs.Found.{IsFoundOf};
 
 use crate::callees::Callees;
-use crate::found::{Found, plain};
+use crate::found::{Found, both_ok, plain};
 use c_declares::TypeSaid;
 use c_language::{BinaryOperator, Entry, IntegerConstant, Name, PostfixOperator, Told};
 use c_type_scope::Scope;
@@ -132,17 +132,27 @@ pub(crate) fn identifier<C: Callees>(
 }
 
 /// A part whose value is used.
-pub(crate) fn used(alloc: Global, scope: &Scope, x: Found) -> Result<Used, AllocError>
-    ensures { (n : Numbering) (p : Part) → IsFoundOf n x p scope.now → IfOk result (λ u. IsUsed n u p) }
+pub(crate) fn used(
+    alloc: Global,
+    scope: &Scope,
+    x: Result<Found, AllocError>,
+) -> Result<Used, AllocError>
+    ensures { (n : Numbering) (p : Part) → IfOk result (λ u. IsOkAnd x (λ x. IsFoundOf n x p scope.now → IsUsed n u p)) }
 {
+    let x = x?;
     let Found { built, .. } = x;
     core_forms::operand(alloc, scope.tables(), built)
 }
 
 /// A part whose value isn't used.
-pub(crate) fn unused(alloc: Global, scope: &Scope, x: Found) -> Result<Used, AllocError>
-    ensures { (n : Numbering) (p : Part) → IsFoundOf n x p scope.now → IfOk result (λ u. IsDiscarded n u p) }
+pub(crate) fn unused(
+    alloc: Global,
+    scope: &Scope,
+    x: Result<Found, AllocError>,
+) -> Result<Used, AllocError>
+    ensures { (n : Numbering) (p : Part) → IfOk result (λ u. IsOkAnd x (λ x. IsFoundOf n x p scope.now → IsDiscarded n u p)) }
 {
+    let x = x?;
     let Found { built, .. } = x;
     core_forms::discarded(alloc, scope.tables(), built)
 }
@@ -152,11 +162,13 @@ pub(crate) fn subscript(
     alloc: Global,
     scope: &Scope,
     at: u32,
-    x: Used,
-    y: Found,
+    x: Result<Used, AllocError>,
+    y: Result<Found, AllocError>,
 ) -> Result<Found, AllocError>
-    ensures { (n : Numbering) (p q : Part) → IsUsed n x p → IsFoundOf n y q scope.now → IfOk result (λ z. IsFoundOf n z (form.subscript at p q) scope.now) }
+    ensures { (n : Numbering) (p q : Part) → IfOk result (λ z. IsOkAnd x (λ x. IsOkAnd y (λ y. IsUsed n x p → IsFoundOf n y q scope.now → IsFoundOf n z (form.subscript at p q) scope.now))) }
 {
+    let parts = both_ok(x, y)?;
+    let (x, y) = parts;
     let tables = scope.tables();
     let Found { built, .. } = y;
     let y = core_forms::operand(alloc, tables, built)?;
@@ -170,10 +182,11 @@ pub(crate) fn member(
     scope: &Scope,
     at: u32,
     name: &Name,
-    x: Found,
+    x: Result<Found, AllocError>,
 ) -> Result<Found, AllocError>
-    ensures { (n : Numbering) (p : Part) → IsFoundOf n x p scope.now → IfOk result (λ z. IsFoundOf n z (form.member at name.now p) scope.now) }
+    ensures { (n : Numbering) (p : Part) → IfOk result (λ z. IsOkAnd x (λ x. IsFoundOf n x p scope.now → IsFoundOf n z (form.member at name.now p) scope.now)) }
 {
+    let x = x?;
     let Found { built, .. } = x;
     let z = core_forms::member(alloc, scope.tables(), at, name, built)?;
     Ok(plain(z))
@@ -185,11 +198,12 @@ pub(crate) fn arrow(
     scope: &Scope,
     at: u32,
     name: &Name,
-    x: Found,
+    x: Result<Found, AllocError>,
 ) -> Result<Found, AllocError>
-    ensures { (n : Numbering) (p : Part) → IsFoundOf n x p scope.now → IfOk result (λ z. IsFoundOf n z (form.arrow at name.now p) scope.now) }
+    ensures { (n : Numbering) (p : Part) → IfOk result (λ z. IsOkAnd x (λ x. IsFoundOf n x p scope.now → IsFoundOf n z (form.arrow at name.now p) scope.now)) }
 {
     let tables = scope.tables();
+    let x = x?;
     let Found { built, .. } = x;
     let u = core_forms::operand(alloc, tables, built)?;
     let z = core_forms::arrow(alloc, tables, at, name, u)?;
@@ -202,10 +216,11 @@ pub(crate) fn postfix(
     scope: &Scope,
     at: u32,
     operator: PostfixOperator,
-    x: Found,
+    x: Result<Found, AllocError>,
 ) -> Result<Found, AllocError>
-    ensures { (n : Numbering) (p : Part) → IsFoundOf n x p scope.now → IfOk result (λ z. IsFoundOf n z (form.postfix at operator p) scope.now) }
+    ensures { (n : Numbering) (p : Part) → IfOk result (λ z. IsOkAnd x (λ x. IsFoundOf n x p scope.now → IsFoundOf n z (form.postfix at operator p) scope.now)) }
 {
+    let x = x?;
     let Found { built, .. } = x;
     let z = core_forms::postfix(alloc, scope.tables(), at, operator, built)?;
     Ok(plain(z))
@@ -216,10 +231,11 @@ pub(crate) fn size_of_expression(
     alloc: Global,
     scope: &Scope,
     at: u32,
-    x: Told,
+    x: Result<Told, AllocError>,
 ) -> Result<Found, AllocError>
-    ensures { (n : Numbering) (p : Part) → typed_in x scope.now ≡ p.typed → IfOk result (λ z. IsFoundOf n z (form.size_of_expression at p) scope.now) }
+    ensures { (n : Numbering) (p : Part) → IfOk result (λ z. IsOkAnd x (λ x. typed_in x scope.now ≡ p.typed → IsFoundOf n z (form.size_of_expression at p) scope.now)) }
 {
+    let x = x?;
     let z = core_forms::size_of_expression(alloc, scope.tables(), at, x)?;
     Ok(plain(z))
 }
@@ -229,10 +245,11 @@ pub(crate) fn size_of_type(
     alloc: Global,
     scope: &Scope,
     at: u32,
-    named: TypeSaid,
+    named: Result<TypeSaid, AllocError>,
 ) -> Result<Found, AllocError>
-    ensures { (n : Numbering) → IfOk result (λ z. IsFoundOf n z (form.size_of_type at named.ctype named.faults scope.now) scope.now) }
+    ensures { (n : Numbering) → IfOk result (λ z. IsOkAnd named (λ t. IsFoundOf n z (form.size_of_type at t.ctype t.faults scope.now) scope.now)) }
 {
+    let named = named?;
     let TypeSaid { ctype, faults } = named;
     let z = core_forms::size_of_type(alloc, scope.tables(), at, ctype, faults)?;
     Ok(plain(z))
@@ -243,11 +260,13 @@ pub(crate) fn cast(
     alloc: Global,
     scope: &Scope,
     at: u32,
-    to: TypeSaid,
-    x: Found,
+    to: Result<TypeSaid, AllocError>,
+    x: Result<Found, AllocError>,
 ) -> Result<Found, AllocError>
-    ensures { (n : Numbering) (p : Part) → IsFoundOf n x p scope.now → IfOk result (λ z. IsFoundOf n z (form.cast at to.ctype to.faults p) scope.now) }
+    ensures { (n : Numbering) (p : Part) → IfOk result (λ z. IsOkAnd to (λ to. IsOkAnd x (λ x. IsFoundOf n x p scope.now → IsFoundOf n z (form.cast at to.ctype to.faults p) scope.now))) }
 {
+    let parts = both_ok(to, x)?;
+    let (to, x) = parts;
     let TypeSaid { ctype, faults } = to;
     let Found { built, .. } = x;
     let u = core_forms::cast_operand(alloc, scope.tables(), &ctype, built)?;
@@ -261,11 +280,13 @@ pub(crate) fn binary(
     scope: &Scope,
     at: u32,
     operator: BinaryOperator,
-    x: Used,
-    y: Found,
+    x: Result<Used, AllocError>,
+    y: Result<Found, AllocError>,
 ) -> Result<Found, AllocError>
-    ensures { (n : Numbering) (p q : Part) → IsUsed n x p → IsFoundOf n y q scope.now → IfOk result (λ z. IsFoundOf n z (form.binary at operator p q) scope.now) }
+    ensures { (n : Numbering) (p q : Part) → IfOk result (λ z. IsOkAnd x (λ x. IsOkAnd y (λ y. IsUsed n x p → IsFoundOf n y q scope.now → IsFoundOf n z (form.binary at operator p q) scope.now))) }
 {
+    let parts = both_ok(x, y)?;
+    let (x, y) = parts;
     let tables = scope.tables();
     let Found { built, .. } = y;
     let y = core_forms::operand(alloc, tables, built)?;
@@ -278,13 +299,17 @@ pub(crate) fn choice(
     alloc: Global,
     scope: &Scope,
     at: u32,
-    condition: Used,
-    x: Used,
-    y: Found,
+    condition: Result<Used, AllocError>,
+    x: Result<Used, AllocError>,
+    y: Result<Found, AllocError>,
 ) -> Result<Found, AllocError>
-    ensures { (n : Numbering) (r p q : Part) → IsUsed n condition r → IsUsed n x p → IsFoundOf n y q scope.now →
-        IfOk result (λ z. IsFoundOf n z (form.choice at r p q) scope.now) }
+    ensures { (n : Numbering) (r p q : Part) → IfOk result (λ z. IsOkAnd condition (λ c. IsOkAnd x (λ x. IsOkAnd y (λ y.
+        IsUsed n c r → IsUsed n x p → IsFoundOf n y q scope.now → IsFoundOf n z (form.choice at r p q) scope.now)))) }
 {
+    let choices = both_ok(x, y);
+    let parts = both_ok(condition, choices)?;
+    let (condition, choices) = parts;
+    let (x, y) = choices;
     let tables = scope.tables();
     let Found { built, .. } = y;
     let y = core_forms::operand(alloc, tables, built)?;
@@ -327,11 +352,13 @@ pub(crate) fn assignment(
     scope: &Scope,
     at: u32,
     operator: Option<BinaryOperator>,
-    x: Found,
-    y: Found,
+    x: Result<Found, AllocError>,
+    y: Result<Found, AllocError>,
 ) -> Result<Found, AllocError>
-    ensures { (n : Numbering) (p q : Part) → IsBuilt n x.built p → IsFoundOf n y q scope.now → IfOk result (λ z. IsFoundOf n z (form.assignment at operator p q) scope.now) }
+    ensures { (n : Numbering) (p q : Part) → IfOk result (λ z. IsOkAnd x (λ x. IsOkAnd y (λ y. IsBuilt n x.built p → IsFoundOf n y q scope.now → IsFoundOf n z (form.assignment at operator p q) scope.now))) }
 {
+    let parts = both_ok(x, y)?;
+    let (x, y) = parts;
     let Found { built, .. } = x;
     if let Some(operator) = operator {
         return compound(alloc, scope, at, operator, built, y);
@@ -344,11 +371,13 @@ pub(crate) fn comma(
     alloc: Global,
     scope: &Scope,
     at: u32,
-    x: Used,
-    y: Found,
+    x: Result<Used, AllocError>,
+    y: Result<Found, AllocError>,
 ) -> Result<Found, AllocError>
-    ensures { (n : Numbering) (p q : Part) → IsDiscarded n x p → IsFoundOf n y q scope.now → IfOk result (λ z. IsFoundOf n z (form.comma at p q) scope.now) }
+    ensures { (n : Numbering) (p q : Part) → IfOk result (λ z. IsOkAnd x (λ x. IsOkAnd y (λ y. IsDiscarded n x p → IsFoundOf n y q scope.now → IsFoundOf n z (form.comma at p q) scope.now))) }
 {
+    let parts = both_ok(x, y)?;
+    let (x, y) = parts;
     let Found { built, .. } = y;
     let y = core_forms::operand(alloc, scope.tables(), built)?;
     let z = core_forms::comma(alloc, at, x, y)?;

@@ -16,7 +16,8 @@ use std::alloc::{AllocError, Global};
 
 /// The core of an expression (C99 6.5): operands and type names from left to right, each in the scope that those
 /// before it leave. What `sizeof` is applied to isn't evaluated, and what is called is a name. What breaks a rule
-/// isn't run. It fails for want of memory alone.
+/// isn't run. It fails for want of memory alone: a part that failed is handed to its form as it is, and the parts
+/// behind it are walked all the same.
 #[cycle(building)]
 pub fn core_of<C: Callees>(
     alloc: Global,
@@ -37,9 +38,9 @@ pub fn core_of<C: Callees>(
         Expr::Identifier { at, name } => forms::identifier(alloc, callees, scope, *at, name),
         Expr::Parenthesized { inner, .. } => core_of(alloc, callees, inner.get(), scope),
         Expr::Subscript { at, array, index } => {
-            let x = core_of(alloc, callees, array.get(), scope)?;
-            let x = forms::used(alloc, scope, x)?;
-            let y = core_of(alloc, callees, index.get(), scope)?;
+            let x = core_of(alloc, callees, array.get(), scope);
+            let x = forms::used(alloc, scope, x);
+            let y = core_of(alloc, callees, index.get(), scope);
             forms::subscript(alloc, scope, *at, x, y)
         }
         Expr::Call {
@@ -61,7 +62,7 @@ pub fn core_of<C: Callees>(
             object,
             member: name,
         } => {
-            let x = core_of(alloc, callees, object.get(), scope)?;
+            let x = core_of(alloc, callees, object.get(), scope);
             forms::member(alloc, scope, *at, name, x)
         }
         Expr::Arrow {
@@ -69,7 +70,7 @@ pub fn core_of<C: Callees>(
             pointer,
             member: name,
         } => {
-            let x = core_of(alloc, callees, pointer.get(), scope)?;
+            let x = core_of(alloc, callees, pointer.get(), scope);
             forms::arrow(alloc, scope, *at, name, x)
         }
         Expr::Postfix {
@@ -77,7 +78,7 @@ pub fn core_of<C: Callees>(
             operator,
             operand,
         } => {
-            let x = core_of(alloc, callees, operand.get(), scope)?;
+            let x = core_of(alloc, callees, operand.get(), scope);
             forms::postfix(alloc, scope, *at, *operator, x)
         }
         Expr::Unary {
@@ -85,18 +86,18 @@ pub fn core_of<C: Callees>(
             operator,
             operand,
         } => {
-            let x = core_of(alloc, callees, operand.get(), scope)?;
+            let x = core_of(alloc, callees, operand.get(), scope);
             unary(alloc, scope, *at, *operator, x)
         }
         Expr::SizeofExpr { at, operand } => {
-            let x = typed_part(alloc, operand.get(), scope)?;
+            let x = typed_part(alloc, operand.get(), scope);
             forms::size_of_expression(alloc, scope, *at, x)
         }
         Expr::SizeofType {
             at,
             type_name: name,
         } => {
-            let t = named_type(alloc, name.get(), scope)?;
+            let t = named_type(alloc, name.get(), scope);
             forms::size_of_type(alloc, scope, *at, t)
         }
         Expr::Cast {
@@ -104,8 +105,8 @@ pub fn core_of<C: Callees>(
             type_name: name,
             operand,
         } => {
-            let to = named_type(alloc, name.get(), scope)?;
-            let x = core_of(alloc, callees, operand.get(), scope)?;
+            let to = named_type(alloc, name.get(), scope);
+            let x = core_of(alloc, callees, operand.get(), scope);
             forms::cast(alloc, scope, *at, to, x)
         }
         Expr::Binary {
@@ -114,9 +115,9 @@ pub fn core_of<C: Callees>(
             left,
             right,
         } => {
-            let x = core_of(alloc, callees, left.get(), scope)?;
-            let x = forms::used(alloc, scope, x)?;
-            let y = core_of(alloc, callees, right.get(), scope)?;
+            let x = core_of(alloc, callees, left.get(), scope);
+            let x = forms::used(alloc, scope, x);
+            let y = core_of(alloc, callees, right.get(), scope);
             forms::binary(alloc, scope, *at, *operator, x, y)
         }
         Expr::Conditional {
@@ -125,11 +126,11 @@ pub fn core_of<C: Callees>(
             positive,
             negative,
         } => {
-            let c = core_of(alloc, callees, condition.get(), scope)?;
-            let c = forms::used(alloc, scope, c)?;
-            let x = core_of(alloc, callees, positive.get(), scope)?;
-            let x = forms::used(alloc, scope, x)?;
-            let y = core_of(alloc, callees, negative.get(), scope)?;
+            let c = core_of(alloc, callees, condition.get(), scope);
+            let c = forms::used(alloc, scope, c);
+            let x = core_of(alloc, callees, positive.get(), scope);
+            let x = forms::used(alloc, scope, x);
+            let y = core_of(alloc, callees, negative.get(), scope);
             forms::choice(alloc, scope, *at, c, x, y)
         }
         Expr::Assign {
@@ -138,14 +139,14 @@ pub fn core_of<C: Callees>(
             target,
             value,
         } => {
-            let x = core_of(alloc, callees, target.get(), scope)?;
-            let y = core_of(alloc, callees, value.get(), scope)?;
+            let x = core_of(alloc, callees, target.get(), scope);
+            let y = core_of(alloc, callees, value.get(), scope);
             forms::assignment(alloc, scope, *at, *operator, x, y)
         }
         Expr::Comma { at, left, right } => {
-            let x = core_of(alloc, callees, left.get(), scope)?;
-            let x = forms::unused(alloc, scope, x)?;
-            let y = core_of(alloc, callees, right.get(), scope)?;
+            let x = core_of(alloc, callees, left.get(), scope);
+            let x = forms::unused(alloc, scope, x);
+            let y = core_of(alloc, callees, right.get(), scope);
             forms::comma(alloc, scope, *at, x, y)
         }
     }

@@ -1,5 +1,5 @@
 //! Unary operators (C99 6.5.3).
-ghost use Rattle.std.specs.Prelude.{IfOk};
+ghost use Rattle.std.specs.Prelude.{IfOk, IsOkAnd};
 ghost use Rattle.c_language.specs.declared.expr.UnaryOperator.TheVariants as u;
 ghost use Rattle.c_means.specs.Expressions as form;
 ghost use Rattle.c_means.specs.Parts.{Part};
@@ -99,10 +99,11 @@ pub(crate) fn unary(
     scope: &Scope,
     at: u32,
     operator: UnaryOperator,
-    x: Found,
+    x: Result<Found, AllocError>,
 ) -> Result<Found, AllocError>
-    ensures { (n : Numbering) (p : Part) → IsFoundOf n x p scope.now → IfOk result (λ z. IsFoundOf n z (form.unary at operator p) scope.now) }
+    ensures { (n : Numbering) (p : Part) → IfOk result (λ z. IsOkAnd x (λ x. IsFoundOf n x p scope.now → IsFoundOf n z (form.unary at operator p) scope.now)) }
 {
+    let x = x?;
     match operator {
         UnaryOperator::Address => address_of(alloc, scope, at, x),
         UnaryOperator::Indirection => indirection(alloc, scope, at, x),

@@ -37,80 +37,85 @@ core_of-returns-in-Parenthesized g t c =
     tree.in_parentheses _ c.core_of.result _ c.args.scope.now c.core_of.new.scope c.in-Parenthesized.is c.get.ensures
     c.core_of.ensures
 
-pub core_of-returns-in_ok-x-in-Member : goal.core_of-returns-in_ok-x-in-Member
-core_of-returns-in_ok-x-in-Member g t c =
-    tree.in_member _ c.member.result c.in-Member.at c.in-Member.name c.args.scope.now c.core_of-in-Member.new.scope
-    c.in_ok-x-in-Member.x c.in-Member.is c.get-in-Member.ensures c.in_ok-x-in-Member.ensures (c.member.ensures _)
+pub core_of-returns-in-Member : goal.core_of-returns-in-Member
+core_of-returns-in-Member g t c =
+    tree.in_member _ c.core_of-x-in-Member.result c.member.result c.in-Member.at c.in-Member.name c.args.scope.now
+    c.core_of-x-in-Member.new.scope c.in-Member.is c.get-in-Member.ensures c.core_of-x-in-Member.ensures
+    (λ p. c.member.ensures _ p)
 
-pub core_of-returns-in_ok-x-in-Arrow : goal.core_of-returns-in_ok-x-in-Arrow
-core_of-returns-in_ok-x-in-Arrow g t c =
-    tree.in_arrow _ c.arrow.result c.in-Arrow.at c.in-Arrow.name c.args.scope.now c.core_of-in-Arrow.new.scope
-    c.in_ok-x-in-Arrow.x c.in-Arrow.is c.get-in-Arrow.ensures c.in_ok-x-in-Arrow.ensures (c.arrow.ensures _)
+pub core_of-returns-in-Arrow : goal.core_of-returns-in-Arrow
+core_of-returns-in-Arrow g t c =
+    tree.in_arrow _ c.core_of-x-in-Arrow.result c.arrow.result c.in-Arrow.at c.in-Arrow.name c.args.scope.now
+    c.core_of-x-in-Arrow.new.scope c.in-Arrow.is c.get-in-Arrow.ensures c.core_of-x-in-Arrow.ensures
+    (λ p. c.arrow.ensures _ p)
 
-pub core_of-returns-in_ok-x-in-Postfix : goal.core_of-returns-in_ok-x-in-Postfix
-core_of-returns-in_ok-x-in-Postfix g t c =
-    tree.in_postfix _ c.postfix.result c.in-Postfix.at c.in-Postfix.operator c.args.scope.now c.core_of-in-Postfix.new.scope
-    c.in_ok-x-in-Postfix.x c.in-Postfix.is c.get-in-Postfix.ensures c.in_ok-x-in-Postfix.ensures (c.postfix.ensures _)
+pub core_of-returns-in-Postfix : goal.core_of-returns-in-Postfix
+core_of-returns-in-Postfix g t c =
+    tree.in_postfix _ c.core_of-x-in-Postfix.result c.postfix.result c.in-Postfix.at c.in-Postfix.operator c.args.scope.now
+    c.core_of-x-in-Postfix.new.scope c.in-Postfix.is c.get-in-Postfix.ensures c.core_of-x-in-Postfix.ensures
+    (λ p. c.postfix.ensures _ p)
 
-pub core_of-returns-in_ok-x-in-Unary : goal.core_of-returns-in_ok-x-in-Unary
-core_of-returns-in_ok-x-in-Unary g t c =
-    tree.in_unary _ c.unary.result c.in-Unary.at c.in-Unary.operator c.args.scope.now c.core_of-in-Unary.new.scope
-    c.in_ok-x-in-Unary.x c.in-Unary.is c.get-in-Unary.ensures c.in_ok-x-in-Unary.ensures (c.unary.ensures _)
+pub core_of-returns-in-Unary : goal.core_of-returns-in-Unary
+core_of-returns-in-Unary g t c =
+    tree.in_unary _ c.core_of-x-in-Unary.result c.unary.result c.in-Unary.at c.in-Unary.operator c.args.scope.now
+    c.core_of-x-in-Unary.new.scope c.in-Unary.is c.get-in-Unary.ensures c.core_of-x-in-Unary.ensures
+    (λ p. c.unary.ensures _ p)
 
-pub core_of-returns-in_ok-x-in-SizeofExpr : goal.core_of-returns-in_ok-x-in-SizeofExpr
-core_of-returns-in_ok-x-in-SizeofExpr g t c =
-    tree.in_size _ c.size_of_expression.result c.in-SizeofExpr.at c.args.scope.now c.typed_part-in-SizeofExpr.new.scope
-    c.in_ok-x-in-SizeofExpr.x c.in-SizeofExpr.is c.get-in-SizeofExpr.ensures c.in_ok-x-in-SizeofExpr.ensures
-    (c.size_of_expression.ensures _)
+pub core_of-returns-in-SizeofExpr : goal.core_of-returns-in-SizeofExpr
+core_of-returns-in-SizeofExpr g t c =
+    tree.in_size _ c.typed_part-x.result c.size_of_expression.result c.in-SizeofExpr.at c.args.scope.now
+    c.typed_part-x.new.scope c.in-SizeofExpr.is c.get-in-SizeofExpr.ensures c.typed_part-x.ensures
+    (λ p. c.size_of_expression.ensures _ p)
 
-pub core_of-returns-in_ok-t-in-SizeofType : goal.core_of-returns-in_ok-t-in-SizeofType
-core_of-returns-in_ok-t-in-SizeofType g t c =
-    tree.in_type_size _ c.size_of_type.result c.in-SizeofType.at c.args.scope.now c.named_type.new.scope
-    c.in_ok-t-in-SizeofType.t c.in-SizeofType.is c.get-in-SizeofType.ensures c.in_ok-t-in-SizeofType.ensures
+pub core_of-returns-in-SizeofType : goal.core_of-returns-in-SizeofType
+core_of-returns-in-SizeofType g t c =
+    tree.in_type_size _ c.named_type-t.result c.size_of_type.result c.in-SizeofType.at c.args.scope.now
+    c.named_type-t.new.scope c.in-SizeofType.is c.get-in-SizeofType.ensures c.named_type-t.ensures
     (c.size_of_type.ensures _)
 
-pub core_of-returns-in_ok-x-in-Cast : goal.core_of-returns-in_ok-x-in-Cast
-core_of-returns-in_ok-x-in-Cast g t c =
-    tree.in_cast _ c.cast.result c.in-Cast.at c.args.scope.now c.named_type-in-Cast.new.scope c.core_of-in-Cast.new.scope
-    c.in_ok-to-in-Cast.to c.in_ok-x-in-Cast.x c.in-Cast.is c.get-in-Cast.ensures c.get-in-Cast-2.ensures
-    c.in_ok-to-in-Cast.ensures c.in_ok-x-in-Cast.ensures (c.cast.ensures _)
+pub core_of-returns-in-Cast : goal.core_of-returns-in-Cast
+core_of-returns-in-Cast g t c =
+    tree.in_cast _ c.named_type-to.result c.core_of-x-in-Cast.result c.cast.result c.in-Cast.at c.args.scope.now
+    c.named_type-to.new.scope c.core_of-x-in-Cast.new.scope c.in-Cast.is c.get-in-Cast.ensures
+    c.get-in-Cast-2.ensures c.named_type-to.ensures c.core_of-x-in-Cast.ensures (λ p. c.cast.ensures _ p)
 
-pub core_of-returns-in_ok-y-in-Subscript : goal.core_of-returns-in_ok-y-in-Subscript
-core_of-returns-in_ok-y-in-Subscript g t c =
-    tree.in_subscript _ c.subscript.result c.in-Subscript.at c.args.scope.now c.core_of-in-Subscript.new.scope
-    c.core_of-in-Subscript-2.new.scope c.in_ok-x-in-Subscript.x c.in_ok-x-in-Subscript-2.x c.in_ok-y-in-Subscript.y
-    c.in-Subscript.is c.get-in-Subscript.ensures c.get-in-Subscript-2.ensures c.in_ok-x-in-Subscript.ensures
-    (c.in_ok-x-in-Subscript-2.ensures _) c.in_ok-y-in-Subscript.ensures (c.subscript.ensures _)
+pub core_of-returns-in-Subscript : goal.core_of-returns-in-Subscript
+core_of-returns-in-Subscript g t c =
+    tree.in_subscript _ c.core_of-x.result c.used-x.result c.core_of-y.result c.subscript.result
+    c.in-Subscript.at c.args.scope.now c.core_of-x.new.scope c.core_of-y.new.scope c.in-Subscript.is
+    c.get-in-Subscript.ensures c.get-in-Subscript-2.ensures c.core_of-x.ensures (λ p. c.used-x.ensures _ p)
+    c.core_of-y.ensures (λ p q. c.subscript.ensures _ p q)
 
-pub core_of-returns-in_ok-y-in-Binary : goal.core_of-returns-in_ok-y-in-Binary
-core_of-returns-in_ok-y-in-Binary g t c =
-    tree.in_binary _ c.binary.result c.in-Binary.at c.in-Binary.operator c.args.scope.now c.core_of-in-Binary.new.scope
-    c.core_of-in-Binary-2.new.scope c.in_ok-x-in-Binary.x c.in_ok-x-in-Binary-2.x c.in_ok-y-in-Binary.y
-    c.in-Binary.is c.get-in-Binary.ensures c.get-in-Binary-2.ensures c.in_ok-x-in-Binary.ensures
-    (c.in_ok-x-in-Binary-2.ensures _) c.in_ok-y-in-Binary.ensures (c.binary.ensures _)
+pub core_of-returns-in-Binary : goal.core_of-returns-in-Binary
+core_of-returns-in-Binary g t c =
+    tree.in_binary _ c.core_of-x-in-Binary.result c.used-x-in-Binary.result c.core_of-y-in-Binary.result c.binary.result
+    c.in-Binary.at c.in-Binary.operator c.args.scope.now c.core_of-x-in-Binary.new.scope c.core_of-y-in-Binary.new.scope c.in-Binary.is
+    c.get-in-Binary.ensures c.get-in-Binary-2.ensures c.core_of-x-in-Binary.ensures (λ p. c.used-x-in-Binary.ensures _ p)
+    c.core_of-y-in-Binary.ensures (λ p q. c.binary.ensures _ p q)
 
-pub core_of-returns-in_ok-y-in-Comma : goal.core_of-returns-in_ok-y-in-Comma
-core_of-returns-in_ok-y-in-Comma g t c =
-    tree.in_comma _ c.comma.result c.in-Comma.at c.args.scope.now c.core_of-in-Comma.new.scope
-    c.core_of-in-Comma-2.new.scope c.in_ok-x-in-Comma.x c.in_ok-x-in-Comma-2.x c.in_ok-y-in-Comma.y
-    c.in-Comma.is c.get-in-Comma.ensures c.get-in-Comma-2.ensures c.in_ok-x-in-Comma.ensures
-    (c.in_ok-x-in-Comma-2.ensures _) c.in_ok-y-in-Comma.ensures (c.comma.ensures _)
+pub core_of-returns-in-Comma : goal.core_of-returns-in-Comma
+core_of-returns-in-Comma g t c =
+    tree.in_comma _ c.core_of-x-in-Comma.result c.unused-x.result c.core_of-y-in-Comma.result c.comma.result
+    c.in-Comma.at c.args.scope.now c.core_of-x-in-Comma.new.scope c.core_of-y-in-Comma.new.scope c.in-Comma.is
+    c.get-in-Comma.ensures c.get-in-Comma-2.ensures c.core_of-x-in-Comma.ensures (λ p. c.unused-x.ensures _ p)
+    c.core_of-y-in-Comma.ensures (λ p q. c.comma.ensures _ p q)
 
-pub core_of-returns-in_ok-y-in-Assign : goal.core_of-returns-in_ok-y-in-Assign
-core_of-returns-in_ok-y-in-Assign g t c =
-    tree.in_assignment _ c.assignment.result c.in-Assign.at c.in-Assign.operator c.args.scope.now
-    c.core_of-in-Assign.new.scope c.core_of-in-Assign-2.new.scope c.in_ok-x-in-Assign.x c.in_ok-y-in-Assign.y
-    c.in-Assign.is c.get-in-Assign.ensures c.get-in-Assign-2.ensures c.in_ok-x-in-Assign.ensures
-    c.in_ok-y-in-Assign.ensures (c.assignment.ensures _)
+pub core_of-returns-in-Assign : goal.core_of-returns-in-Assign
+core_of-returns-in-Assign g t c =
+    tree.in_assignment _ c.core_of-x-in-Assign.result c.core_of-y-in-Assign.result c.assignment.result
+    c.in-Assign.at c.in-Assign.operator c.args.scope.now c.core_of-x-in-Assign.new.scope c.core_of-y-in-Assign.new.scope
+    c.in-Assign.is c.get-in-Assign.ensures c.get-in-Assign-2.ensures c.core_of-x-in-Assign.ensures
+    c.core_of-y-in-Assign.ensures (λ p q. c.assignment.ensures _ p q)
 
-pub core_of-returns-in_ok-y-in-Conditional : goal.core_of-returns-in_ok-y-in-Conditional
-core_of-returns-in_ok-y-in-Conditional g t c =
-    tree.in_choice _ c.choice.result c.in-Conditional.at c.args.scope.now c.core_of-in-Conditional.new.scope
-    c.core_of-in-Conditional-2.new.scope c.core_of-in-Conditional-3.new.scope c.in_ok-c-in-Conditional.c
-    c.in_ok-c-in-Conditional-2.c c.in_ok-x-in-Conditional.x c.in_ok-x-in-Conditional-2.x c.in_ok-y-in-Conditional.y
+pub core_of-returns-in-Conditional : goal.core_of-returns-in-Conditional
+core_of-returns-in-Conditional g t c =
+    tree.in_choice _ c.core_of-c.result c.used-c.result c.core_of-x-in-Conditional.result
+    c.used-x-in-Conditional.result c.core_of-y-in-Conditional.result c.choice.result c.in-Conditional.at
+    c.args.scope.now c.core_of-c.new.scope c.core_of-x-in-Conditional.new.scope c.core_of-y-in-Conditional.new.scope
     c.in-Conditional.is c.get-in-Conditional.ensures c.get-in-Conditional-2.ensures c.get-in-Conditional-3.ensures
-    c.in_ok-c-in-Conditional.ensures (c.in_ok-c-in-Conditional-2.ensures _) c.in_ok-x-in-Conditional.ensures
-    (c.in_ok-x-in-Conditional-2.ensures _) c.in_ok-y-in-Conditional.ensures (c.choice.ensures _)
+    c.core_of-c.ensures (λ p. c.used-c.ensures _ p) c.core_of-x-in-Conditional.ensures
+    (λ p. c.used-x-in-Conditional.ensures _ p) c.core_of-y-in-Conditional.ensures
+    (λ o p q. c.choice.ensures _ o p q)
 
 pub core_of-returns-in_ok-xs-in-Call : goal.core_of-returns-in_ok-xs-in-Call
 core_of-returns-in_ok-xs-in-Call g t c =
