@@ -1,6 +1,7 @@
 //! What roots are worth. A row is answered by `none` where its statements hold on no world. Else by the root's value in
 //! a model, 1 or 0 of a truth; by `only` where the root has this value in each model, or `or` and another value; and by
 //! the world that the first model stands for: ` PLACE=WORD` for each word, `:` and ` ADDRESS=BYTE` for each byte.
+ghost use Rattle.std.specs.Prelude.{IfOk};
 ghost use Rattle.bitvectors.specs.Blasts.{HasWidth};
 
 use crate::blasting::blast_nodes;
@@ -122,6 +123,54 @@ fn put_others(
     Ok(())
 }
 
+/// Puts what the root is worth in a model, and whether it has another value.
+fn put_root(
+    alloc: Global,
+    out: &mut String,
+    blasted: &mut Blasted,
+    solver: &mut Solver,
+    values: &Assignment,
+) -> Result<()> {
+    let value = number_of(bits_of(&blasted.roots, 0), values);
+    write!(out, "{value}")?;
+    put_others(alloc, out, blasted, solver, values)
+}
+
+/// Puts what the root is worth in a model, and the world that it stands for.
+fn put_model(
+    alloc: Global,
+    out: &mut String,
+    blasted: &mut Blasted,
+    solver: &mut Solver,
+    values: &Assignment,
+) -> Result<()>
+    requires words { HasWidth 64 blasted.old.inputs.words }
+    requires bytes { HasWidth 8 blasted.old.inputs.bytes }
+{
+    let world = blasted.decode(alloc, values)?;
+    put_root(alloc, out, blasted, solver, values)?;
+    put_world(out, &world)
+}
+
+/// Puts the answer of a solver that has the clauses of the root and of what is to be.
+fn put_answer(
+    alloc: Global,
+    out: &mut String,
+    blasted: &mut Blasted,
+    solver: &mut Solver,
+) -> Result<()>
+    requires words { HasWidth 64 blasted.old.inputs.words }
+    requires bytes { HasWidth 8 blasted.old.inputs.bytes }
+{
+    match model_of(alloc, &blasted.formula, solver)? {
+        Some(values) => put_model(alloc, out, blasted, solver, &values),
+        None => {
+            out.push_str("none\n")?;
+            Ok(())
+        }
+    }
+}
+
 /// The answer where the root has clauses, and nodes are to be something, by a solver that has no clause yet.
 fn answer_solved(
     alloc: Global,
@@ -132,19 +181,10 @@ fn answer_solved(
     requires words { HasWidth 64 blasted.old.inputs.words }
     requires bytes { HasWidth 8 blasted.old.inputs.bytes }
 {
-    let mut out = String::new(alloc);
     push_wishes(&mut blasted.formula, &blasted.roots, wishes)?;
     add_all(alloc, solver, &blasted.formula)?;
-    match model_of(alloc, &blasted.formula, solver)? {
-        Some(values) => {
-            let world = blasted.decode(alloc, &values)?;
-            let value = number_of(bits_of(&blasted.roots, 0), &values);
-            write!(out, "{value}")?;
-            put_others(alloc, &mut out, blasted, solver, &values)?;
-            put_world(&mut out, &world)?;
-        }
-        None => out.push_str("none\n")?,
-    }
+    let mut out = String::new(alloc);
+    put_answer(alloc, &mut out, blasted, solver)?;
     Ok(out)
 }
 
@@ -159,10 +199,18 @@ fn answer_blasted(alloc: Global, blasted: &mut Blasted, wishes: &[Wish]) -> Resu
     answer
 }
 
+/// The clauses of what the terms of a row ask for: their root, and what is to be something.
+fn blast_terms(alloc: Global, terms: &mut Terms) -> Result<Blasted>
+    ensures words { IfOk result (λ b. HasWidth 64 b.inputs.words) }
+    ensures bytes { IfOk result (λ b. HasWidth 8 b.inputs.bytes) }
+{
+    let roots = terms.roots(alloc)?;
+    blast_nodes(alloc, &mut terms.bank, &roots)
+}
+
 /// The answer of terms.
 fn answer_terms(alloc: Global, terms: &mut Terms) -> Result<String> {
-    let roots = terms.roots(alloc)?;
-    let mut blasted = blast_nodes(alloc, &mut terms.bank, &roots)?;
+    let mut blasted = blast_terms(alloc, terms)?;
     answer_blasted(alloc, &mut blasted, &terms.wishes)
 }
 
@@ -179,10 +227,14 @@ fn size_of(alloc: Global, formula: &Formula) -> Result<String> {
     Ok(format!(in alloc; "{clauses} {literals}\n")?)
 }
 
+/// How many clauses the root of terms takes, and how many literals they have.
+fn size_terms(alloc: Global, terms: &mut Terms) -> Result<String> {
+    let blasted = blast_terms(alloc, terms)?;
+    size_of(alloc, &blasted.formula)
+}
+
 /// How many clauses a row's root takes, and how many literals they have.
 pub fn size(alloc: Global, row: &str) -> Result<String> {
     let mut terms = read_terms(alloc, row)?;
-    let roots = terms.roots(alloc)?;
-    let blasted = blast_nodes(alloc, &mut terms.bank, &roots)?;
-    size_of(alloc, &blasted.formula)
+    size_terms(alloc, &mut terms)
 }

@@ -19,23 +19,32 @@ mod terms;
 use anyhow::{Result, anyhow};
 use asking::{answer, size};
 use chains::answer_chain;
+use std::alloc::Global;
 use std::env;
 
-/// Answers each line of standard input by what the root is worth.
-fn answer_values(rt: &(impl Input + Print + AllocGlobal)) -> Result<()> {
-    for line in rt.lines(rt.alloc()) {
-        let line = line?;
-        let text = answer(rt.alloc(), line.as_str())?;
-        print!(rt; "{text}")?;
-    }
-    Ok(())
+/// What is asked of a row.
+#[derive(Clone, Copy)]
+enum Row {
+    /// What its root is worth.
+    Values,
+    /// How many clauses its root takes.
+    Sizes,
 }
 
-/// Answers each line of standard input by how many clauses the root takes.
-fn answer_sizes(rt: &(impl Input + Print + AllocGlobal)) -> Result<()> {
+impl Row {
+    fn answer(self, alloc: Global, row: &str) -> Result<String> {
+        match self {
+            Row::Values => answer(alloc, row),
+            Row::Sizes => size(alloc, row),
+        }
+    }
+}
+
+/// Answers each line of standard input.
+fn answer_lines(rt: &(impl Input + Print + AllocGlobal), row: Row) -> Result<()> {
     for line in rt.lines(rt.alloc()) {
         let line = line?;
-        let text = size(rt.alloc(), line.as_str())?;
+        let text = row.answer(rt.alloc(), line.as_str())?;
         print!(rt; "{text}")?;
     }
     Ok(())
@@ -51,8 +60,8 @@ fn print_chain(rt: &(impl Print + AllocGlobal), count: &str) -> Result<()> {
 /// Does what the words ask for.
 fn run(rt: &HostRuntime, word: &str, second: &str) -> Result<()> {
     match word {
-        "values" => answer_values(rt),
-        "sizes" => answer_sizes(rt),
+        "values" => answer_lines(rt, Row::Values),
+        "sizes" => answer_lines(rt, Row::Sizes),
         "chain" => print_chain(rt, second),
         _ => Err(anyhow!("no such rows")),
     }

@@ -1,6 +1,6 @@
 //! Formulas, solved. An answer whose evidence doesn't hold is an error.
 
-use anyhow::{Result, anyhow, ensure};
+use anyhow::{Result, anyhow};
 use cdcl::{Answer, MostMarked, Solver};
 use cnf_core::{Assignment, Clause, Formula, Lit, satisfies};
 use proof_check::{Checker, Refutation};
@@ -29,11 +29,33 @@ pub fn push(
     Ok(())
 }
 
-/// Fails where a refutation isn't one of the formula.
-fn examine(alloc: Global, formula: &Formula, refutation: &Refutation) -> Result<()> {
-    let mut checker = Checker::with_room(alloc, formula, refutation)?;
-    checker.check(formula, refutation)?;
-    Ok(())
+/// Values that are a model of a formula.
+fn as_model(formula: &Formula, values: Assignment) -> Result<Option<Assignment>> {
+    if satisfies(formula, &values) {
+        Ok(Some(values))
+    } else {
+        Err(anyhow!("no model"))
+    }
+}
+
+/// That a formula has no model, by a refutation that the checker accepts.
+fn as_no_model(
+    alloc: Global,
+    formula: &Formula,
+    refutation: Refutation,
+) -> Result<Option<Assignment>> {
+    let mut checker = Checker::with_room(alloc, formula, &refutation)?;
+    checker.check(formula, &refutation)?;
+    Ok(None)
+}
+
+/// What the answer of a question that assumes nothing comes to.
+fn model_in(alloc: Global, formula: &Formula, answer: Answer) -> Result<Option<Assignment>> {
+    match answer {
+        Answer::Sat(values) => as_model(formula, values),
+        Answer::Unsat(refutation) => as_no_model(alloc, formula, refutation),
+        Answer::Spent(_) => Err(anyhow!("too many conflicts")),
+    }
 }
 
 /// A model of a formula by its solver, or none where it has none.
@@ -42,15 +64,6 @@ pub fn model_of(
     formula: &Formula,
     solver: &mut Solver,
 ) -> Result<Option<Assignment>> {
-    match solver.solve(alloc, &MostMarked, &[], CONFLICTS)? {
-        Answer::Sat(values) => {
-            ensure!(satisfies(formula, &values), "no model");
-            Ok(Some(values))
-        }
-        Answer::Unsat(refutation) => {
-            examine(alloc, formula, &refutation)?;
-            Ok(None)
-        }
-        Answer::Spent(_) => Err(anyhow!("too many conflicts")),
-    }
+    let answer = solver.solve(alloc, &MostMarked, &[], CONFLICTS)?;
+    model_in(alloc, formula, answer)
 }
