@@ -1,6 +1,6 @@
 //! Sources, answered by their tokens or by their first fault and where it stands. The table's head says how.
 use anyhow::{Result, anyhow};
-use c_language::TokenKind;
+use c_language::{Token, TokenKind};
 use c_lexer::{LexFault, lex, locate};
 use plain_data::Bytes;
 use std::alloc::{AllocError, Global};
@@ -86,21 +86,30 @@ fn fault_text(alloc: Global, source: &[u8], fault: LexFault) -> Result<String> {
     Ok(format!(in alloc; "fault {name} {at} {file} {line} {column}\n")?)
 }
 
-/// The tokens of a row's source, or its first fault.
-pub fn answer(alloc: Global, row: &str) -> Result<String> {
-    let source = source_of(alloc, row)?;
-    if LONGEST < source.len() {
-        return Err(anyhow!("the source is too long"));
-    }
-    let tokens = match lex(alloc, FILE, source.as_slice()) {
-        Ok(tokens) => tokens,
-        Err(fault) => return fault_text(alloc, source.as_slice(), fault),
-    };
+/// Tokens as the table writes them.
+fn tokens_text(alloc: Global, tokens: &[Token]) -> Result<String> {
     let mut text = String::new(alloc);
     text.push_str("tokens")?;
-    for token in tokens.as_slice() {
+    for token in tokens {
         text.push_str(token_text(alloc, &token.kind)?.as_str())?;
     }
     text.push('\n')?;
     Ok(text)
+}
+
+/// The tokens of a source, or its first fault.
+fn answer_source(alloc: Global, source: &[u8]) -> Result<String> {
+    if LONGEST < source.len() {
+        return Err(anyhow!("the source is too long"));
+    }
+    match lex(alloc, FILE, source) {
+        Ok(tokens) => tokens_text(alloc, tokens.as_slice()),
+        Err(fault) => fault_text(alloc, source, fault),
+    }
+}
+
+/// The tokens of a row's source, or its first fault.
+pub fn answer(alloc: Global, row: &str) -> Result<String> {
+    let source = source_of(alloc, row)?;
+    answer_source(alloc, source.as_slice())
 }

@@ -33,19 +33,43 @@ fn written(alloc: Global, format: &[u8], args: &Args) -> Result<Outcome> {
     }
 }
 
+fn hexadecimal(alloc: Global, bytes: &[u8]) -> Result<String> {
+    let digits = hex::encode(alloc, bytes)?;
+    Ok(format!(in alloc; "text {digits}\n")?)
+}
+
+fn between_bars(alloc: Global, bytes: &[u8]) -> Result<String> {
+    let text = reading::escaped(alloc, bytes)?;
+    Ok(format!(in alloc; "|{text}|\n")?)
+}
+
+fn faulty(alloc: Global, name: &str, at: usize) -> Result<String> {
+    Ok(format!(in alloc; "{name} {at}\n")?)
+}
+
+fn in_digits(alloc: Global, outcome: Outcome) -> Result<String> {
+    match outcome {
+        Outcome::Text(bytes) => hexadecimal(alloc, bytes.as_slice()),
+        Outcome::Fault(name, at) => faulty(alloc, name, at),
+        Outcome::Kinds(_) => Ok(format!(in alloc; "kinds\n")?),
+    }
+}
+
+fn plainly(alloc: Global, outcome: Outcome) -> Result<String> {
+    match outcome {
+        Outcome::Text(bytes) => between_bars(alloc, bytes.as_slice()),
+        Outcome::Fault(name, at) => faulty(alloc, name, at),
+        Outcome::Kinds(kinds) => named(alloc, &kinds),
+    }
+}
+
 /// The answer to a row in hexadecimal: the text, or why there is none.
 pub fn answer(alloc: Global, row: &str) -> Result<String> {
     let mut words = row.split_whitespace();
     let format = reading::bytes_of(alloc, words.next().unwrap_or(""))?;
     let args = reading::args_of(alloc, words)?;
-    match written(alloc, format.as_slice(), &args)? {
-        Outcome::Text(bytes) => {
-            let digits = hex::encode(alloc, bytes.as_slice())?;
-            Ok(format!(in alloc; "text {digits}\n")?)
-        }
-        Outcome::Fault(name, at) => Ok(format!(in alloc; "{name} {at}\n")?),
-        Outcome::Kinds(_) => Ok(format!(in alloc; "kinds\n")?),
-    }
+    let outcome = written(alloc, format.as_slice(), &args)?;
+    in_digits(alloc, outcome)
 }
 
 /// The answer to a format and a line of arguments: the text between bars, why there is none, or the kinds that it asks
@@ -54,14 +78,8 @@ pub fn answer_plain(alloc: Global, row: &str) -> Result<String> {
     let (format, words) = reading::first_line(row);
     let format = reading::unescaped(alloc, format)?;
     let args = reading::args_of(alloc, words.split_whitespace())?;
-    match written(alloc, format.as_slice(), &args)? {
-        Outcome::Text(bytes) => {
-            let text = reading::escaped(alloc, bytes.as_slice())?;
-            Ok(format!(in alloc; "|{text}|\n")?)
-        }
-        Outcome::Fault(name, at) => Ok(format!(in alloc; "{name} {at}\n")?),
-        Outcome::Kinds(kinds) => named(alloc, &kinds),
-    }
+    let outcome = written(alloc, format.as_slice(), &args)?;
+    plainly(alloc, outcome)
 }
 
 fn named(alloc: Global, kinds: &Kinds) -> Result<String> {

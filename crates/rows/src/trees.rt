@@ -74,16 +74,25 @@ pub fn answer_fault(alloc: Global, row: &str) -> Result<String> {
     Ok(format!(in alloc; "{word} {name}\n")?)
 }
 
-/// The text of a row's tree, with the places of its nodes.
-pub fn answer_placed(alloc: Global, row: &str) -> Result<String> {
-    let source = row.as_bytes();
+/// The text of the tree of tokens, with the places of its nodes.
+fn placed_of(alloc: Global, tokens: &Tokens) -> Result<Bytes> {
+    let unit = parse(alloc, tokens)?;
+    let text = placed_text(alloc, unit.externals.as_slice());
+    discard(unit);
+    Ok(text?)
+}
+
+/// The text of a source's tree, with the places of its nodes.
+fn placed_in(alloc: Global, source: &[u8]) -> Result<Bytes> {
     if LONGEST < source.len() {
         return Err(anyhow!("the source is too long"));
     }
     let tokens = lex(alloc, "source", source)?;
-    let unit = parse(alloc, &tokens)?;
-    let text = placed_text(alloc, unit.externals.as_slice());
-    discard(unit);
-    let text = text?;
+    placed_of(alloc, &tokens)
+}
+
+/// The text of a row's tree, with the places of its nodes.
+pub fn answer_placed(alloc: Global, row: &str) -> Result<String> {
+    let text = placed_in(alloc, row.as_bytes())?;
     Ok(String::from_utf8_lossy(alloc, text.as_slice())?)
 }
