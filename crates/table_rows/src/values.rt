@@ -127,25 +127,6 @@ fn number_at(index: usize) -> Result<u32>
     Ok(index as u32 + 1)
 }
 
-/// Whether the run in a world fits, and the fact holds of it or not, as it is wanted.
-fn is_as_wanted(
-    alloc: Global,
-    asked: &Asked<'_>,
-    fact: &Fact,
-    wanted: bool,
-    world: &World,
-) -> Result<bool> {
-    let run = replay(alloc, asked.program, world, asked.bounds)?;
-    Ok(fits(&run, asked.log) && holds(fact, &run, asked.log) == wanted)
-}
-
-/// Counts an answer by a world, and whether it doesn't hold.
-fn count_answer(counts: &mut Counts, is_so: bool) -> Result<()> {
-    counts.worlds = counted(counts.worlds, true)?;
-    counts.wrong = counted(counts.wrong, !is_so)?;
-    Ok(())
-}
-
 /// Counts a world, and whether its run doesn't fit or isn't as it was asked for.
 fn count_world(
     alloc: Global,
@@ -155,31 +136,10 @@ fn count_world(
     world: World,
     counts: &mut Counts,
 ) -> Result<()> {
-    let is_so = is_as_wanted(alloc, asked, fact, wanted, &world)?;
-    count_answer(counts, is_so)
-}
-
-/// Counts a refutation, and whether it isn't one.
-fn count_refuted(
-    alloc: Global,
-    query: &mut Query,
-    target: Target,
-    refutation: Refutation,
-    counts: &mut Counts,
-) -> Result<()>
-    requires whole { IsWhole query.old }
-    requires target { IsAbout query.old target }
-    ensures { StaysFor target query.old query.new }
-{
-    let is_so = is_refuted(alloc, query, target, refutation)?;
-    counts.refuted = counted(counts.refuted, true)?;
+    let run = replay(alloc, asked.program, &world, asked.bounds)?;
+    let is_so = fits(&run, asked.log) && holds(fact, &run, asked.log) == wanted;
+    counts.worlds = counted(counts.worlds, true)?;
     counts.wrong = counted(counts.wrong, !is_so)?;
-    Ok(())
-}
-
-/// Counts a question that stayed open.
-fn count_unknown(counts: &mut Counts) -> Result<()> {
-    counts.unknown = counted(counts.unknown, true)?;
     Ok(())
 }
 
@@ -200,10 +160,18 @@ fn count_fact(
     ensures { GoesOn query.old query.new }
 {
     match answered(alloc, query, target)? {
-        Reply::World(world) => count_world(alloc, asked, fact, wanted, world, counts),
-        Reply::Refuted(refutation) => count_refuted(alloc, query, target, refutation, counts),
-        Reply::Spent(_) => count_unknown(counts),
+        Reply::World(world) => count_world(alloc, asked, fact, wanted, world, counts)?,
+        Reply::Refuted(refutation) => {
+            let is_so = is_refuted(alloc, query, target, refutation)?;
+            counts.refuted = counted(counts.refuted, true)?;
+            counts.wrong = counted(counts.wrong, !is_so)?;
+        }
+        Reply::Spent(trail) => {
+            let _ = trail;
+            counts.unknown = counted(counts.unknown, true)?;
+        }
     }
+    Ok(())
 }
 
 /// Counts the answers to both questions on each fact.
@@ -272,20 +240,6 @@ fn put_facts(
     Ok(())
 }
 
-/// Whether the run in a world fits, and a print saw another value of a watched variable than this.
-fn saw_other(
-    alloc: Global,
-    asked: &Asked<'_>,
-    watch: &Watch,
-    value: i128,
-    world: &World,
-) -> Result<bool> {
-    let run = replay(alloc, asked.program, world, asked.bounds)?;
-    let place = watch.place as usize;
-    let same = value_is(&run, asked.log, watch.at, watch.line, place, value);
-    Ok(fits(&run, asked.log) && !same)
-}
-
 /// Puts what a world says of a watched variable at the end: that it can be another than this value.
 fn put_other(
     alloc: Global,
@@ -295,34 +249,11 @@ fn put_other(
     world: World,
     text: &mut Bytes,
 ) -> Result<()> {
-    let is_so = saw_other(alloc, asked, watch, value, &world)?;
-    put_words(text, if is_so { "several" } else { "wrong" })
-}
-
-/// Puts words at the end.
-fn put_words(text: &mut Bytes, words: &str) -> Result<()> {
-    put(text, words)?;
-    Ok(())
-}
-
-/// Puts a value at the end of which a refutation says that there is no other.
-fn put_only(
-    alloc: Global,
-    query: &mut Query,
-    target: Target,
-    refutation: Refutation,
-    value: i128,
-    text: &mut Bytes,
-) -> Result<()>
-    requires whole { IsWhole query.old }
-    requires target { IsAbout query.old target }
-    ensures { StaysFor target query.old query.new }
-{
-    if is_refuted(alloc, query, target, refutation)? {
-        put_value(text, value)?;
-    } else {
-        put(text, "wrong")?;
-    }
+    let run = replay(alloc, asked.program, &world, asked.bounds)?;
+    let place = watch.place as usize;
+    let same = value_is(&run, asked.log, watch.at, watch.line, place, value);
+    let is_so = fits(&run, asked.log) && !same;
+    put(text, if is_so { "several" } else { "wrong" })?;
     Ok(())
 }
 
@@ -345,10 +276,20 @@ fn put_value_of(
         value,
     };
     match answered(alloc, query, target)? {
-        Reply::World(world) => put_other(alloc, asked, watch, value, world, text),
-        Reply::Refuted(refutation) => put_only(alloc, query, target, refutation, value, text),
-        Reply::Spent(_) => put_words(text, "unknown"),
+        Reply::World(world) => put_other(alloc, asked, watch, value, world, text)?,
+        Reply::Refuted(refutation) => {
+            if is_refuted(alloc, query, target, refutation)? {
+                put_value(text, value)?;
+            } else {
+                put(text, "wrong")?;
+            }
+        }
+        Reply::Spent(trail) => {
+            let _ = trail;
+            put(text, "unknown")?;
+        }
     }
+    Ok(())
 }
 
 /// Puts what a watched variable is at the end, where a run that fits has seen some value.
@@ -396,50 +337,17 @@ fn put_watches(
     Ok(())
 }
 
-/// How many clauses say that a run fits.
-fn clauses_of(alloc: Global, asked: &Asked<'_>, facts: &Facts, watches: &[Watch]) -> Result<usize> {
-    let mut query = query_of(alloc, asked, facts, watches)?;
+/// Puts how many clauses say that a run fits at the end, in a line.
+pub fn put_clauses(alloc: Global, asked: &Asked<'_>, text: &mut Bytes) -> Result<()> {
+    let facts = facts_of(alloc, &asked.program.core, asked.log, false)?;
+    let watches = watches_of(alloc, &facts)?;
+    let mut query = query_of(alloc, asked, &facts, watches.as_slice())?;
     let claim = query.claim_formula(alloc, Target::Fits);
     query.discard();
     let formula = claim?;
-    Ok(formula.len())
-}
-
-/// How many clauses say that a run fits, where all facts and watched variables are asked for.
-fn clause_count(alloc: Global, asked: &Asked<'_>) -> Result<usize> {
-    let facts = facts_of(alloc, &asked.program.core, asked.log, false)?;
-    let watches = watches_of(alloc, &facts)?;
-    clauses_of(alloc, asked, &facts, watches.as_slice())
-}
-
-/// Puts how many clauses say that a run fits at the end, in a line.
-pub fn put_clauses(alloc: Global, asked: &Asked<'_>, text: &mut Bytes) -> Result<()> {
-    let count = clause_count(alloc, asked)?;
-    put_count(text, count as u128)?;
+    put_count(text, formula.len() as u128)?;
     put(text, "\n")?;
     Ok(())
-}
-
-/// Puts the answers to all questions on facts and watched variables at the end, where this run fits.
-fn put_of_run(
-    alloc: Global,
-    asked: &Asked<'_>,
-    query: &mut Query,
-    facts: &[Fact],
-    watches: &[Watch],
-    run: &Run,
-    text: &mut Bytes,
-) -> Result<()>
-    requires { IsAsked facts.now watches.now query.old }
-{
-    let words = if fits(run, asked.log) {
-        "fits\n"
-    } else {
-        "wrong\n"
-    };
-    put(text, words)?;
-    put_facts(alloc, asked, query, facts, watches, text)?;
-    put_watches(alloc, asked, query, run, facts, watches, text)
 }
 
 /// Puts the answers to all questions on facts and watched variables at the end, where the run in this world fits.
@@ -455,20 +363,17 @@ fn put_all(
     requires { IsAsked facts.now watches.now query.old }
 {
     let run = replay(alloc, asked.program, &world, asked.bounds)?;
-    put_of_run(alloc, asked, query, facts, watches, &run, text)
-}
-
-/// Puts at the end that no run fits, which a refutation says.
-fn put_none(
-    alloc: Global,
-    query: &mut Query,
-    refutation: Refutation,
-    text: &mut Bytes,
-) -> Result<()>
-    requires { IsWhole query.old }
-{
-    let is_so = is_refuted(alloc, query, Target::Fits, refutation)?;
-    put_words(text, if is_so { "none\n" } else { "wrong\n" })
+    put(
+        text,
+        if fits(&run, asked.log) {
+            "fits\n"
+        } else {
+            "wrong\n"
+        },
+    )?;
+    put_facts(alloc, asked, query, facts, watches, text)?;
+    put_watches(alloc, asked, query, &run, facts, watches, text)?;
+    Ok(())
 }
 
 /// Puts whether a run fits at the end, and where one does the answers to all questions on facts and watched variables.
@@ -483,30 +388,26 @@ fn put_answers(
     requires { IsAsked facts.now watches.now query.old }
 {
     match answered(alloc, query, Target::Fits)? {
-        Reply::World(world) => put_all(alloc, asked, query, facts, watches, world, text),
-        Reply::Refuted(refutation) => put_none(alloc, query, refutation, text),
-        Reply::Spent(_) => put_words(text, "unknown\n"),
+        Reply::World(world) => put_all(alloc, asked, query, facts, watches, world, text)?,
+        Reply::Refuted(refutation) => {
+            let is_so = is_refuted(alloc, query, Target::Fits, refutation)?;
+            put(text, if is_so { "none\n" } else { "wrong\n" })?;
+        }
+        Reply::Spent(trail) => {
+            let _ = trail;
+            put(text, "unknown\n")?;
+        }
     }
-}
-
-/// Puts the answers to all questions on these facts and watched variables at the end.
-fn put_asked(
-    alloc: Global,
-    asked: &Asked<'_>,
-    facts: &Facts,
-    watches: &[Watch],
-    text: &mut Bytes,
-) -> Result<()> {
-    let mut query = query_of(alloc, asked, facts, watches)?;
-    let list = facts.facts.as_slice();
-    let outcome = put_answers(alloc, asked, &mut query, list, watches, text);
-    query.discard();
-    outcome
+    Ok(())
 }
 
 /// Puts the answers to all questions on a program's runs at the end.
 pub fn put_values(alloc: Global, asked: &Asked<'_>, text: &mut Bytes) -> Result<()> {
     let facts = facts_of(alloc, &asked.program.core, asked.log, false)?;
     let watches = watches_of(alloc, &facts)?;
-    put_asked(alloc, asked, &facts, watches.as_slice(), text)
+    let mut query = query_of(alloc, asked, &facts, watches.as_slice())?;
+    let (list, seen) = (facts.facts.as_slice(), watches.as_slice());
+    let outcome = put_answers(alloc, asked, &mut query, list, seen, text);
+    query.discard();
+    outcome
 }

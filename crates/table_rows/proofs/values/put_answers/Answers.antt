@@ -5,5 +5,5 @@ pub put_all-requires : goal.put_all-requires
 put_all-requires c =
     asked-goes c.args.facts.now c.args.watches.now c.args.query.now c.answered.new.query c.answered.ensures c.requires
 
-pub put_none-requires : goal.put_none-requires
-put_none-requires c = c.answered.ensures.whole c.requires.whole
+pub is_refuted-requires-clause-whole : goal.is_refuted-requires-clause-whole
+is_refuted-requires-clause-whole c = c.answered.ensures.whole c.requires.whole
