@@ -31,7 +31,8 @@ use Rattle.c_notes.specs.Tellings.{notes_of, passed_as}
 use Rattle.c_notes.specs.Relations.{Knows, IsNoted, IsForm, IsCallOf, ArePassed, Passed, behind}
 use Rattle.c_notes.specs.Relations.{with_argument, with_arguments}
 use Rattle.c_notes.proofs.EachForm.{of-child}
-use Rattle.c_notes.proofs.Found.{WasValued, valued, of_one, of_two, of_part}
+use Rattle.c_notes.proofs.Found.{WasValued, valued}
+use Rattle.plain_data.proofs.Tried.{of_one, of_two, of_part}
 use Rattle.c_notes.proofs.Parts.{noted_typed, told_both, of_none}
 use Rattle.c_notes.proofs.Passing as passing
 use Rattle.c_notes.proofs.Passing.{value_types, texts_of}

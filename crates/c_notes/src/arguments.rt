@@ -6,11 +6,11 @@ ghost use Rattle.c_means.specs.Expressions as means;
 ghost use Rattle.c_notes.specs.Tellings as spec;
 
 use crate::calls::CallNote;
-use crate::notes::{ExprNotes, NotedExpr, both_ok};
+use crate::notes::{ExprNotes, NotedExpr};
 use crate::passed::promoted_type;
 use c_language::{CType, Fault, Name, Shown, Told};
 use c_typing::{Arguments, and_argument, no_arguments};
-use plain_data::{Bytes, Items};
+use plain_data::{Bytes, Items, both_ok};
 use std::alloc::{AllocError, Global};
 use std::mem::replace;
 

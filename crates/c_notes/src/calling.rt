@@ -10,14 +10,14 @@ ghost use Rattle.c_notes.specs.Relations.{IsForm};
 use crate::arguments::{ArgumentNotes, NotedCall};
 use crate::calls::{CallNote, call_note};
 use crate::forms::add_bytes;
-use crate::notes::{ExprNotes, NotedExpr, both_ok, is_constant};
+use crate::notes::{ExprNotes, NotedExpr, is_constant};
 use crate::passed::passed_types;
 use c_checks::identity_index;
 use c_language::{CType, Entry, Name, Shown, Told};
 use c_means::Profile;
 use c_type_scope::Scope;
 use c_typing as forms;
-use plain_data::{Bytes, Items, Shared};
+use plain_data::{Bytes, Items, Shared, both_ok};
 use std::alloc::{AllocError, Global};
 
 fn copied(alloc: Global, text: &Option<Bytes>) -> Result<Option<Bytes>, AllocError>

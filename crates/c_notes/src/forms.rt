@@ -9,14 +9,14 @@ ghost use Rattle.c_notes.specs.Tellings as spec;
 ghost use Rattle.c_notes.specs.Relations.{IsForm};
 
 use crate::notes::{
-    ExprNotes, NotedExpr, as_place, as_value, both, both_ok, is_moved, is_pointer, is_static,
+    ExprNotes, NotedExpr, as_place, as_value, both, is_moved, is_pointer, is_static,
     nothing_noted,
 };
 use c_declares::TypeSaid;
 use c_language::{BinaryOperator, Duration, Means, Name, Told, UnaryOperator};
 use c_type_scope::Scope;
 use c_typing as forms;
-use plain_data::{Bytes, Items, Shared};
+use plain_data::{Bytes, Items, Shared, both_ok};
 use std::alloc::{AllocError, Global};
 
 /// A node without parts that is a value. It fails where what it says did.

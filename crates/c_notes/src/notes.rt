@@ -1,6 +1,6 @@
 //! What is noted of an expression, and of one node over its parts.
 
-ghost use Rattle.std.specs.Prelude.{◌≡◌, ◌++◌, IfOk, Ok, is_some};
+ghost use Rattle.std.specs.Prelude.{◌≡◌, ◌++◌, IfOk, is_some};
 ghost use Rattle.c_language.specs.Typing as typing;
 ghost use Rattle.c_means.specs.Notes as told;
 ghost use Rattle.c_notes.specs.Tellings as spec;
@@ -8,7 +8,7 @@ ghost use Rattle.c_notes.specs.Tellings as spec;
 use crate::calls::CallNote;
 use c_language::{Class, Name, Shown, Told};
 use c_type_forms::{is_array, is_function};
-use plain_data::{Bytes, Items};
+use plain_data::{Bytes, Items, both_ok};
 use std::alloc::{AllocError, Global};
 
 /// What is noted of an expression: its bytes where it is a string literal (through parentheses, and calls of identity
@@ -30,18 +30,6 @@ pub struct ExprNotes {
 pub struct NotedExpr {
     pub told: Told,
     pub notes: ExprNotes,
-}
-
-/// Both results, where neither is an error.
-pub(crate) fn both_ok<T: Drop, U: Drop>(
-    first: Result<T, AllocError>,
-    second: Result<U, AllocError>,
-) -> Result<(T, U), AllocError>
-    ensures { IfOk result (λ both. (first ≡ Ok both.0) × (second ≡ Ok both.1)) }
-{
-    let x = first?;
-    let y = second?;
-    Ok((x, y))
 }
 
 pub(crate) fn joined<T: Drop>(first: Items<T>, second: Items<T>) -> Result<Items<T>, AllocError>

@@ -1,5 +1,7 @@
 -- What each kind of tree says, from what the code has found of its parts: one lemma a constructor.
-use Rattle.std.proofs.Common.{◌≡◌, ℕ, ℤ, List, [], ◌∷◌, ◌++◌, Option, Some, None, Bool, map, refl, sym, ap, ◌∙◌}
+use Rattle.std.proofs.Common.{◌≡◌, ℕ, ℤ, List, [], ◌∷◌, ◌++◌, Option, Some, None, Bool, Result, IfOk, IsOkAnd, map, refl, sym, ap, ◌∙◌}
+use Rattle.std.specs.declared.alloc.AllocError.{AllocError}
+use Rattle.plain_data.proofs.Tried.{of_one}
 use Rattle.c_language.specs.declared.token.IntegerConstant.{IntegerConstant}
 use Rattle.c_language.specs.declared.expr.UnaryOperator.{UnaryOperator}
 use Rattle.c_language.specs.declared.expr.PostfixOperator.{PostfixOperator}
@@ -38,6 +40,18 @@ of-name s said is = said ∙ ap (λ (z : TypeName). type_name_says z s) is
 pub of-arguments : {x : Through} {ys ys' : List Expr} (before : Through) → x ≡ through before (map typed ys) →
     ys ≡ ys' → x ≡ through before (map typed ys')
 of-arguments before said is = said ∙ ap (λ (z : List Expr). through before (map typed z)) is
+
+-- a part that was taken as a value, with what was said of it before
+pub record WasValued (e : Expr) (s : Scope) (u : Told) (s1 : Scope) : Type 0 where
+  pub part : Told
+  pub said : typed_in part s1 ≡ typed e s
+  pub is : u ≡ used_told s1.tables part
+
+pub valued : (e e' : Expr) (s s1 : Scope) (x u : Result Told AllocError) → IfOk x (λ v. typed_in v s1 ≡ typed e s) →
+    e ≡ e' → IfOk u (λ w. IsOkAnd x (λ v. w ≡ used_told s1.tables v)) → IfOk u (λ w. WasValued e' s w s1)
+valued e e' s s1 x u found same said =
+    of_one x u (λ v. typed_in v s1 ≡ typed e s) (λ w v. w ≡ used_told s1.tables v) (λ w. WasValued e' s w s1) found said
+    (λ v w h is. record { part = v; said = of-child s h same; is = is })
 
 -- ---- primary expressions
 

@@ -5,6 +5,7 @@
 
 mod arguments;
 mod forms;
+mod parts;
 mod trees;
 
 pub use arguments::{Arguments, and_argument, no_arguments};

@@ -1,6 +1,7 @@
 //! Expressions (C99 6.5), and the declarations that stand in them (C99 6.7): one function a kind of tree, and one a list.
 ghost use Rattle.std.specs.Prelude.{◌≡◌, [], map, pos, Some, IfOk, OnOk};
 ghost use Rattle.c_language.specs.Typing as spec;
+ghost use Rattle.c_language.specs.Scopes as scopes;
 ghost use Rattle.c_language.specs.Declares as declares;
 ghost use Rattle.c_language.specs.Trees as trees;
 ghost use Rattle.c_typing.specs.Parts.{behind, length_says, bits_say};
@@ -8,6 +9,7 @@ ghost use Rattle.c_declares.specs.Views.{said_in, formed_in, counted_in, type_sa
 
 use crate::arguments::{Arguments, and_argument, no_arguments};
 use crate::forms;
+use crate::parts;
 use c_declares::{Counted, Counting, Formed, Laid, Listed, Named, Said, TypeSaid, prototype};
 use c_language::{
     AggregateKind, CType, Declarator, Enumerator, Expr, Fault, Field, MemberDeclaration, Parameter,
@@ -35,10 +37,10 @@ pub fn typed(alloc: Global, expr: &Expr, scope: &mut Scope) -> Result<Told, Allo
         Expr::Identifier { at, name } => forms::identifier(alloc, scope, *at, name),
         Expr::Parenthesized { inner, .. } => typed(alloc, inner.get(), scope),
         Expr::Subscript { at, array, index } => {
-            let x = typed(alloc, array.get(), scope)?;
-            let x = forms::value(alloc, scope, x)?;
-            let y = typed(alloc, index.get(), scope)?;
-            forms::subscript(alloc, scope, *at, x, y)
+            let x = typed(alloc, array.get(), scope);
+            let x = parts::value(alloc, scope, x);
+            let y = typed(alloc, index.get(), scope);
+            parts::subscript(alloc, scope, *at, x, y)
         }
         Expr::Call {
             at,
@@ -46,8 +48,8 @@ pub fn typed(alloc: Global, expr: &Expr, scope: &mut Scope) -> Result<Told, Allo
             arguments,
         } => {
             let f = typed(alloc, callee.get(), scope)?;
-            let xs = all_arguments(alloc, arguments.as_slice(), f.faults, scope)?;
-            forms::call(alloc, scope, *at, f.at, f.shown, xs)
+            let xs = all_arguments(alloc, arguments.as_slice(), f.faults, scope);
+            parts::call(alloc, scope, *at, f.at, f.shown, xs)
         }
         Expr::Member {
             at,
@@ -93,9 +95,9 @@ pub fn typed(alloc: Global, expr: &Expr, scope: &mut Scope) -> Result<Told, Allo
             type_name: name,
             operand,
         } => {
-            let to = type_name(alloc, name.get(), scope)?;
-            let x = typed(alloc, operand.get(), scope)?;
-            forms::cast(alloc, scope, *at, to, x)
+            let to = type_name(alloc, name.get(), scope);
+            let x = typed(alloc, operand.get(), scope);
+            parts::cast(alloc, scope, *at, to, x)
         }
         Expr::Binary {
             at,
@@ -103,10 +105,10 @@ pub fn typed(alloc: Global, expr: &Expr, scope: &mut Scope) -> Result<Told, Allo
             left,
             right,
         } => {
-            let x = typed(alloc, left.get(), scope)?;
-            let x = forms::value(alloc, scope, x)?;
-            let y = typed(alloc, right.get(), scope)?;
-            forms::binary(alloc, scope, *at, *operator, x, y)
+            let x = typed(alloc, left.get(), scope);
+            let x = parts::value(alloc, scope, x);
+            let y = typed(alloc, right.get(), scope);
+            parts::binary(alloc, scope, *at, *operator, x, y)
         }
         Expr::Conditional {
             at,
@@ -114,12 +116,12 @@ pub fn typed(alloc: Global, expr: &Expr, scope: &mut Scope) -> Result<Told, Allo
             positive,
             negative,
         } => {
-            let c = typed(alloc, condition.get(), scope)?;
-            let c = forms::value(alloc, scope, c)?;
-            let x = typed(alloc, positive.get(), scope)?;
-            let x = forms::value(alloc, scope, x)?;
-            let y = typed(alloc, negative.get(), scope)?;
-            forms::choice(alloc, scope, *at, c, x, y)
+            let c = typed(alloc, condition.get(), scope);
+            let c = parts::value(alloc, scope, c);
+            let x = typed(alloc, positive.get(), scope);
+            let x = parts::value(alloc, scope, x);
+            let y = typed(alloc, negative.get(), scope);
+            parts::choice(alloc, scope, *at, c, x, y)
         }
         Expr::Assign {
             at,
@@ -127,14 +129,14 @@ pub fn typed(alloc: Global, expr: &Expr, scope: &mut Scope) -> Result<Told, Allo
             target,
             value,
         } => {
-            let x = typed(alloc, target.get(), scope)?;
-            let y = typed(alloc, value.get(), scope)?;
-            forms::assignment(alloc, scope, *at, *operator, x, y)
+            let x = typed(alloc, target.get(), scope);
+            let y = typed(alloc, value.get(), scope);
+            parts::assignment(alloc, scope, *at, *operator, x, y)
         }
         Expr::Comma { at, left, right } => {
-            let x = typed(alloc, left.get(), scope)?;
-            let y = typed(alloc, right.get(), scope)?;
-            forms::comma(alloc, scope, *at, x, y)
+            let x = typed(alloc, left.get(), scope);
+            let y = typed(alloc, right.get(), scope);
+            parts::comma(alloc, scope, *at, x, y)
         }
     }
 }
@@ -386,9 +388,8 @@ pub fn declarator(
             inner,
             ..
         } => {
-            let mut formed = declarator(alloc, inner.get(), scope)?;
-            formed.add_pointer(qualifiers.as_slice())?;
-            Ok(formed)
+            let formed = declarator(alloc, inner.get(), scope);
+            parts::pointer(qualifiers.as_slice(), formed)
         }
         Declarator::Array {
             inner,
@@ -396,10 +397,9 @@ pub fn declarator(
             length,
             ..
         } => {
-            let mut formed = declarator(alloc, inner.get(), scope)?;
-            let length = array_length(alloc, length, scope)?;
-            formed.add_array(words.as_slice(), length)?;
-            Ok(formed)
+            let formed = declarator(alloc, inner.get(), scope);
+            let length = array_length(alloc, length, scope);
+            parts::array(words.as_slice(), formed, length)
         }
         Declarator::Function {
             inner,
@@ -407,12 +407,10 @@ pub fn declarator(
             variadic,
             ..
         } => {
-            let mut formed = declarator(alloc, inner.get(), scope)?;
-            scope.enter()?;
-            let listed = all_parameters(alloc, parameters.as_slice(), scope)?;
+            let formed = declarator(alloc, inner.get(), scope);
+            let listed = all_parameters(alloc, parameters.as_slice(), scope);
             let prototype = prototype(parameters.as_slice(), *variadic);
-            formed.add_function(alloc, prototype, listed, scope)?;
-            Ok(formed)
+            parts::function(alloc, prototype, formed, listed, scope)
         }
     }
 }
@@ -434,14 +432,16 @@ fn array_length(
     }
 }
 
+/// Parameters, in a scope of their own that is left open (C99 6.2.1p4).
 #[cycle(typing)]
 fn all_parameters(
     alloc: Global,
     items: &[Shared<Parameter>],
     scope: &mut Scope,
 ) -> Result<Listed, AllocError>
-    ensures { IfOk result (λ x. listed_in x scope.new ≡ declares.listed (declares.none_listed scope.old) (map trees.parameter_says items.now)) }
+    ensures { IfOk result (λ x. listed_in x scope.new ≡ declares.listed (declares.none_listed (scopes.enter scope.old)) (map trees.parameter_says items.now)) }
 {
+    scope.enter()?;
     let mut listed = Listed::new(alloc);
     for item in items {
         let named = parameter(alloc, item.get(), scope)?;

@@ -25,7 +25,7 @@ use Rattle.core_exprs.specs.declared.arguments.Passing.{Passing}
 use Rattle.core_exprs.specs.Passing.{ArePassed}
 use Rattle.core_exprs.specs.declared.found.Found.{Found}
 use Rattle.core_exprs.specs.Found.{IsFoundOf, AreFound}
-use Rattle.core_exprs.proofs.Parts.{of_one, of_two, of_three}
+use Rattle.plain_data.proofs.Tried.{of_one, of_two, of_three}
 
 -- of a child that was read through its owner
 of_child : (n : Numbering) (x : Found) (e e' : Expr) (s s1 : Scope) → IsFoundOf n x (part e s) s1 → e ≡ e'

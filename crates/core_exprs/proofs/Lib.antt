@@ -1,4 +1,3 @@
-pub mod Parts
 pub mod Unevaluated
 pub mod EachForm
 pub mod EachTree

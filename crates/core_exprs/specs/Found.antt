@@ -1,5 +1,5 @@
 -- What it is that code has found the core of an expression.
-use Rattle.std.specs.Prelude.{◌≡◌, ◌++◌, false, List, map, Option, None}
+use Rattle.std.specs.Prelude.{◌≡◌, ◌++◌, false, List, map, Option, None, Result, IfOk, IsOkAnd}
 use Rattle.c_language.specs.declared.expr.Expr as c_language
 use Rattle.c_language.specs.declared.ctype.CType.{CType}
 use Rattle.c_language.specs.declared.scope.Fault.{Fault}
@@ -15,6 +15,7 @@ use Rattle.core_tree.specs.declared.types.ValueType.{ValueType}
 use Rattle.core_marks.specs.Marks.{value_marks}
 use Rattle.elaborate.specs.Means.{Numbering, SameMarks, IsCallOf}
 use Rattle.core_forms.specs.declared.built.Built.{Built}
+use Rattle.core_forms.specs.declared.built.Used.{Used}
 use Rattle.core_forms.specs.declared.built.Node.TheVariants as node
 use Rattle.core_forms.specs.Nodes.{type_as}
 use Rattle.core_forms.specs.Built.{IsBuilt, IsConverted}
@@ -33,6 +34,23 @@ pub record IsFoundOf (numbering : Numbering) (x : Found) (p : Part) (behind : Sc
 -- the core of an expression in a scope
 abbrev pub IsFound : Numbering → c_language.Expr → Scope → Found → Scope → Type 0
 IsFound numbering e s x behind = IsFoundOf numbering x (part e s) behind
+
+-- what was made of a part, which may have failed, stands in R to that part
+abbrev pub Makes : {E : Type 0} → Numbering → Scope → (Used → Part → Type 0) → Result Found E → Result Used E → Type 0
+Makes numbering behind R x u =
+    (p : Part) → IfOk u (λ u. IsOkAnd x (λ x. IsFoundOf numbering x p behind → R u p))
+
+-- what was found of a form over a part, which may have failed
+abbrev pub OverOne : {E : Type 0} → Numbering → Scope → (Part → Part) → Result Found E → Result Found E → Type 0
+OverOne numbering behind form x z =
+    (p : Part) → IfOk z (λ z. IsOkAnd x (λ x. IsFoundOf numbering x p behind → IsFoundOf numbering z (form p) behind))
+
+-- what was found of a form over two parts, which may have failed, where R says what is known of the first
+abbrev pub OverTwo : {E X : Type 0} → Numbering → Scope → (X → Part → Type 0) → (Part → Part → Part) → Result X E →
+    Result Found E → Result Found E → Type 0
+OverTwo numbering behind R form x y z =
+    (p q : Part) → IfOk z (λ z. IsOkAnd x (λ x. IsOkAnd y (λ y.
+    R x p → IsFoundOf numbering y q behind → IsFoundOf numbering z (form p q) behind)))
 
 -- a part that is no string literal
 abbrev pub plain : Built → Found

@@ -11,15 +11,15 @@ ghost use Rattle.c_means.specs.Expressions as form;
 ghost use Rattle.c_means.specs.Parts.{Part};
 ghost use Rattle.elaborate.specs.Means.{Numbering};
 ghost use Rattle.core_forms.specs.Built.{IsBuilt, IsDiscarded, IsUsed};
-ghost use Rattle.core_exprs.specs.Found.{IsFoundOf};
+ghost use Rattle.core_exprs.specs.Found.{IsFoundOf, Makes, OverOne, OverTwo};
 
 use crate::callees::Callees;
-use crate::found::{Found, both_ok, plain};
+use crate::found::{Found, plain};
 use c_declares::TypeSaid;
 use c_language::{BinaryOperator, Entry, IntegerConstant, Name, PostfixOperator, Told};
 use c_type_scope::Scope;
 use core_forms::{Built, Used};
-use plain_data::{Bytes, Shared};
+use plain_data::{Bytes, Shared, both_ok};
 use std::alloc::{AllocError, Global};
 
 /// An integer constant (C99 6.4.4.1). It fails for want of memory alone.
@@ -137,7 +137,7 @@ pub(crate) fn used(
     scope: &Scope,
     x: Result<Found, AllocError>,
 ) -> Result<Used, AllocError>
-    ensures { (n : Numbering) (p : Part) → IfOk result (λ u. IsOkAnd x (λ x. IsFoundOf n x p scope.now → IsUsed n u p)) }
+    ensures { (n : Numbering) → Makes n scope.now (IsUsed n) x result }
 {
     let x = x?;
     let Found { built, .. } = x;
@@ -150,7 +150,7 @@ pub(crate) fn unused(
     scope: &Scope,
     x: Result<Found, AllocError>,
 ) -> Result<Used, AllocError>
-    ensures { (n : Numbering) (p : Part) → IfOk result (λ u. IsOkAnd x (λ x. IsFoundOf n x p scope.now → IsDiscarded n u p)) }
+    ensures { (n : Numbering) → Makes n scope.now (IsDiscarded n) x result }
 {
     let x = x?;
     let Found { built, .. } = x;
@@ -165,7 +165,7 @@ pub(crate) fn subscript(
     x: Result<Used, AllocError>,
     y: Result<Found, AllocError>,
 ) -> Result<Found, AllocError>
-    ensures { (n : Numbering) (p q : Part) → IfOk result (λ z. IsOkAnd x (λ x. IsOkAnd y (λ y. IsUsed n x p → IsFoundOf n y q scope.now → IsFoundOf n z (form.subscript at p q) scope.now))) }
+    ensures { (n : Numbering) → OverTwo n scope.now (IsUsed n) (form.subscript at) x y result }
 {
     let parts = both_ok(x, y)?;
     let (x, y) = parts;
@@ -184,7 +184,7 @@ pub(crate) fn member(
     name: &Name,
     x: Result<Found, AllocError>,
 ) -> Result<Found, AllocError>
-    ensures { (n : Numbering) (p : Part) → IfOk result (λ z. IsOkAnd x (λ x. IsFoundOf n x p scope.now → IsFoundOf n z (form.member at name.now p) scope.now)) }
+    ensures { (n : Numbering) → OverOne n scope.now (form.member at name.now) x result }
 {
     let x = x?;
     let Found { built, .. } = x;
@@ -200,7 +200,7 @@ pub(crate) fn arrow(
     name: &Name,
     x: Result<Found, AllocError>,
 ) -> Result<Found, AllocError>
-    ensures { (n : Numbering) (p : Part) → IfOk result (λ z. IsOkAnd x (λ x. IsFoundOf n x p scope.now → IsFoundOf n z (form.arrow at name.now p) scope.now)) }
+    ensures { (n : Numbering) → OverOne n scope.now (form.arrow at name.now) x result }
 {
     let tables = scope.tables();
     let x = x?;
@@ -218,7 +218,7 @@ pub(crate) fn postfix(
     operator: PostfixOperator,
     x: Result<Found, AllocError>,
 ) -> Result<Found, AllocError>
-    ensures { (n : Numbering) (p : Part) → IfOk result (λ z. IsOkAnd x (λ x. IsFoundOf n x p scope.now → IsFoundOf n z (form.postfix at operator p) scope.now)) }
+    ensures { (n : Numbering) → OverOne n scope.now (form.postfix at operator) x result }
 {
     let x = x?;
     let Found { built, .. } = x;
@@ -283,7 +283,7 @@ pub(crate) fn binary(
     x: Result<Used, AllocError>,
     y: Result<Found, AllocError>,
 ) -> Result<Found, AllocError>
-    ensures { (n : Numbering) (p q : Part) → IfOk result (λ z. IsOkAnd x (λ x. IsOkAnd y (λ y. IsUsed n x p → IsFoundOf n y q scope.now → IsFoundOf n z (form.binary at operator p q) scope.now))) }
+    ensures { (n : Numbering) → OverTwo n scope.now (IsUsed n) (form.binary at operator) x y result }
 {
     let parts = both_ok(x, y)?;
     let (x, y) = parts;
@@ -355,7 +355,7 @@ pub(crate) fn assignment(
     x: Result<Found, AllocError>,
     y: Result<Found, AllocError>,
 ) -> Result<Found, AllocError>
-    ensures { (n : Numbering) (p q : Part) → IfOk result (λ z. IsOkAnd x (λ x. IsOkAnd y (λ y. IsBuilt n x.built p → IsFoundOf n y q scope.now → IsFoundOf n z (form.assignment at operator p q) scope.now))) }
+    ensures { (n : Numbering) → OverTwo n scope.now (λ x. IsBuilt n x.built) (form.assignment at operator) x y result }
 {
     let parts = both_ok(x, y)?;
     let (x, y) = parts;
@@ -374,7 +374,7 @@ pub(crate) fn comma(
     x: Result<Used, AllocError>,
     y: Result<Found, AllocError>,
 ) -> Result<Found, AllocError>
-    ensures { (n : Numbering) (p q : Part) → IfOk result (λ z. IsOkAnd x (λ x. IsOkAnd y (λ y. IsDiscarded n x p → IsFoundOf n y q scope.now → IsFoundOf n z (form.comma at p q) scope.now))) }
+    ensures { (n : Numbering) → OverTwo n scope.now (IsDiscarded n) (form.comma at) x y result }
 {
     let parts = both_ok(x, y)?;
     let (x, y) = parts;

@@ -5,27 +5,28 @@ use Rattle.c_typing.proofs.Says as says
 use Rattle.c_notes.specs.Relations.{IsNoted}
 use Rattle.c_notes.proofs.EachForm as each
 use Rattle.c_notes.proofs.Found as found
+use Rattle.plain_data.proofs.Tried as tried
 use Rattle.c_notes.proofs.OnCalls as calls
 use Rattle.c_notes.proofs.trees.+noting.Goals as goal
 
 pub noted-returns-in-Integer : goal.noted-returns-in-Integer
 noted-returns-in-Integer t c =
-    found.of_one c.integer_constant.result c.leaf.result _ _ _ c.integer_constant.ensures c.leaf.ensures
+    tried.of_one c.integer_constant.result c.leaf.result _ _ _ c.integer_constant.ensures c.leaf.ensures
     (λ x z told is. each.on-Integer _ _ x z c.in-Integer.is told is)
 
 pub noted-returns-in-Floating : goal.noted-returns-in-Floating
 noted-returns-in-Floating t c =
-    found.of_one c.floating_constant.result c.leaf-in-Floating.result _ _ _ c.floating_constant.ensures
+    tried.of_one c.floating_constant.result c.leaf-in-Floating.result _ _ _ c.floating_constant.ensures
     c.leaf-in-Floating.ensures (λ x z told is. each.on-Floating _ x z c.in-Floating.is told is)
 
 pub noted-returns-in-Character : goal.noted-returns-in-Character
 noted-returns-in-Character t c =
-    found.of_one c.character_constant.result c.leaf-in-Character.result _ _ _ c.character_constant.ensures
+    tried.of_one c.character_constant.result c.leaf-in-Character.result _ _ _ c.character_constant.ensures
     c.leaf-in-Character.ensures (λ x z told is. each.on-Character _ _ x z c.in-Character.is told is)
 
 pub noted-returns-in-StringLiteral : goal.noted-returns-in-StringLiteral
 noted-returns-in-StringLiteral t c =
-    found.of_one c.string_literal-told.result c.literal.result _ _ _ c.string_literal-told.ensures c.literal.ensures
+    tried.of_one c.string_literal-told.result c.literal.result _ _ _ c.string_literal-told.ensures c.literal.ensures
     (λ x z told is. each.on-StringLiteral _ _ c.as_slice-in-StringLiteral.result.now x z c.in-StringLiteral.is
     c.as_slice-in-StringLiteral.ensures
     (told ∙ ap (λ ps. spec.node c.in-StringLiteral.at (spec.literal_shown c.args.scope.now.tables ps) [])
@@ -33,12 +34,12 @@ noted-returns-in-StringLiteral t c =
 
 pub noted-returns-in-FunctionName : goal.noted-returns-in-FunctionName
 noted-returns-in-FunctionName t c =
-    found.of_one c.function_name.result c.placed_leaf.result _ _ _ c.function_name.ensures c.placed_leaf.ensures
+    tried.of_one c.function_name.result c.placed_leaf.result _ _ _ c.function_name.ensures c.placed_leaf.ensures
     (λ x z told is. each.on-FunctionName _ c.args.scope.now x z c.in-FunctionName.is told is)
 
 pub noted-returns-in-Identifier : goal.noted-returns-in-Identifier
 noted-returns-in-Identifier t c =
-    found.of_one c.identifier-told.result c.placed_leaf-in-Identifier.result _ _ _ c.identifier-told.ensures
+    tried.of_one c.identifier-told.result c.placed_leaf-in-Identifier.result _ _ _ c.identifier-told.ensures
     c.placed_leaf-in-Identifier.ensures (λ x z told is. each.on-Identifier _ c.in-Identifier.name x z
     c.is_fixed_name.result c.in-Identifier.is told c.is_fixed_name.ensures is)
 
@@ -51,38 +52,38 @@ noted-returns-in-Parenthesized t c =
 
 pub noted-returns-in-Member : goal.noted-returns-in-Member
 noted-returns-in-Member t c =
-    found.of_one c.noted-x-in-Member.result c.member.result _ _ _ c.noted-x-in-Member.ensures c.member.ensures
+    tried.of_one c.noted-x-in-Member.result c.member.result _ _ _ c.noted-x-in-Member.ensures c.member.ensures
     (λ x z h said. each.on-Member _ _ _ c.args.scope.now c.noted-x-in-Member.new.scope x z c.in-Member.is
     (each.of-child c.args.scope.now h c.get-in-Member.ensures) said)
 
 pub noted-returns-in-Arrow : goal.noted-returns-in-Arrow
 noted-returns-in-Arrow t c =
-    found.of_one c.noted-x-in-Arrow.result c.arrow.result _ _ _ c.noted-x-in-Arrow.ensures c.arrow.ensures
+    tried.of_one c.noted-x-in-Arrow.result c.arrow.result _ _ _ c.noted-x-in-Arrow.ensures c.arrow.ensures
     (λ x z h said. each.on-Arrow _ _ _ c.args.scope.now c.noted-x-in-Arrow.new.scope x z c.in-Arrow.is
     (each.of-child c.args.scope.now h c.get-in-Arrow.ensures) said)
 
 pub noted-returns-in-Postfix : goal.noted-returns-in-Postfix
 noted-returns-in-Postfix t c =
-    found.of_one c.noted-x-in-Postfix.result c.postfix.result _ _ _ c.noted-x-in-Postfix.ensures c.postfix.ensures
+    tried.of_one c.noted-x-in-Postfix.result c.postfix.result _ _ _ c.noted-x-in-Postfix.ensures c.postfix.ensures
     (λ x z h said. each.on-Postfix _ _ _ c.args.scope.now c.noted-x-in-Postfix.new.scope x z c.in-Postfix.is
     (each.of-child c.args.scope.now h c.get-in-Postfix.ensures) said)
 
 pub noted-returns-in-Unary : goal.noted-returns-in-Unary
 noted-returns-in-Unary t c =
-    found.of_one c.noted-x-in-Unary.result c.unary.result _ _ _ c.noted-x-in-Unary.ensures c.unary.ensures
+    tried.of_one c.noted-x-in-Unary.result c.unary.result _ _ _ c.noted-x-in-Unary.ensures c.unary.ensures
     (λ x z h said. each.on-Unary _ _ _ c.args.scope.now c.noted-x-in-Unary.new.scope x z c.in-Unary.is
     (each.of-child c.args.scope.now h c.get-in-Unary.ensures) said)
 
 pub noted-returns-in-SizeofExpr : goal.noted-returns-in-SizeofExpr
 noted-returns-in-SizeofExpr t c =
-    found.of_one c.noted-x-in-SizeofExpr.result c.size_of_expression.result _ _ _ c.noted-x-in-SizeofExpr.ensures
+    tried.of_one c.noted-x-in-SizeofExpr.result c.size_of_expression.result _ _ _ c.noted-x-in-SizeofExpr.ensures
     c.size_of_expression.ensures
     (λ x z h said. each.on-SizeofExpr _ _ c.args.scope.now c.noted-x-in-SizeofExpr.new.scope x z c.in-SizeofExpr.is
     (each.of-child c.args.scope.now h c.get-in-SizeofExpr.ensures) said)
 
 pub noted-returns-in-Subscript : goal.noted-returns-in-Subscript
 noted-returns-in-Subscript t c =
-    found.of_two c.value-x.result c.noted-y.result c.subscript.result _ _ _ _
+    tried.of_two c.value-x.result c.noted-y.result c.subscript.result _ _ _ _
     (found.valued _ _ _ _ _ c.noted-x.result c.value-x.result c.noted-x.ensures c.get-in-Subscript.ensures
     c.value-x.ensures) c.noted-y.ensures
     c.subscript.ensures
@@ -92,7 +93,7 @@ noted-returns-in-Subscript t c =
 
 pub noted-returns-in-Binary : goal.noted-returns-in-Binary
 noted-returns-in-Binary t c =
-    found.of_two c.value-x-in-Binary.result c.noted-y-in-Binary.result c.binary.result _ _ _ _
+    tried.of_two c.value-x-in-Binary.result c.noted-y-in-Binary.result c.binary.result _ _ _ _
     (found.valued _ _ _ _ _ c.noted-x-in-Binary.result c.value-x-in-Binary.result c.noted-x-in-Binary.ensures
     c.get-in-Binary.ensures c.value-x-in-Binary.ensures) c.noted-y-in-Binary.ensures
     c.binary.ensures
@@ -102,7 +103,7 @@ noted-returns-in-Binary t c =
 
 pub noted-returns-in-Assign : goal.noted-returns-in-Assign
 noted-returns-in-Assign t c =
-    found.of_two c.noted-x-in-Assign.result c.noted-y-in-Assign.result c.assignment.result _ _ _ _
+    tried.of_two c.noted-x-in-Assign.result c.noted-y-in-Assign.result c.assignment.result _ _ _ _
     c.noted-x-in-Assign.ensures c.noted-y-in-Assign.ensures c.assignment.ensures
     (λ x y z hx hy said. each.on-Assign _ _ _ _ c.args.scope.now c.noted-x-in-Assign.new.scope
     c.noted-y-in-Assign.new.scope x y z
@@ -111,7 +112,7 @@ noted-returns-in-Assign t c =
 
 pub noted-returns-in-Comma : goal.noted-returns-in-Comma
 noted-returns-in-Comma t c =
-    found.of_two c.noted-x-in-Comma.result c.noted-y-in-Comma.result c.comma.result _ _ _ _
+    tried.of_two c.noted-x-in-Comma.result c.noted-y-in-Comma.result c.comma.result _ _ _ _
     c.noted-x-in-Comma.ensures c.noted-y-in-Comma.ensures c.comma.ensures
     (λ x y z hx hy said. each.on-Comma _ _ _ c.args.scope.now c.noted-x-in-Comma.new.scope
     c.noted-y-in-Comma.new.scope x y z
@@ -120,13 +121,13 @@ noted-returns-in-Comma t c =
 
 pub noted-returns-in-SizeofType : goal.noted-returns-in-SizeofType
 noted-returns-in-SizeofType t c =
-    found.of_one c.type_name-t.result c.size_of_type.result _ _ _ c.type_name-t.ensures c.size_of_type.ensures
+    tried.of_one c.type_name-t.result c.size_of_type.result _ _ _ c.type_name-t.ensures c.size_of_type.ensures
     (λ k z h said. each.on-SizeofType _ _ c.args.scope.now c.type_name-t.new.scope k z c.in-SizeofType.is
     (says.of-name c.args.scope.now h c.get-in-SizeofType.ensures) said)
 
 pub noted-returns-in-Cast : goal.noted-returns-in-Cast
 noted-returns-in-Cast t c =
-    found.of_two c.type_name-to.result c.noted-x-in-Cast.result c.cast.result _ _ _ _ c.type_name-to.ensures
+    tried.of_two c.type_name-to.result c.noted-x-in-Cast.result c.cast.result _ _ _ _ c.type_name-to.ensures
     c.noted-x-in-Cast.ensures c.cast.ensures
     (λ k x z hk hx said. each.on-Cast _ _ _ c.args.scope.now c.type_name-to.new.scope c.noted-x-in-Cast.new.scope k x
     z
@@ -135,7 +136,7 @@ noted-returns-in-Cast t c =
 
 pub noted-returns-in-Conditional : goal.noted-returns-in-Conditional
 noted-returns-in-Conditional t c =
-    found.of_three c.value-c.result c.value-x-in-Conditional.result c.noted-y-in-Conditional.result c.choice.result
+    tried.of_three c.value-c.result c.value-x-in-Conditional.result c.noted-y-in-Conditional.result c.choice.result
     _ _ _ _ _
     (found.valued _ _ _ _ _ c.noted-c.result c.value-c.result c.noted-c.ensures c.get-in-Conditional.ensures
     c.value-c.ensures)

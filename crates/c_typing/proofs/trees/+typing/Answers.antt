@@ -6,7 +6,7 @@ use Rattle.c_language.specs.declared.expr.MemberDeclaration.{MemberDeclaration}
 use Rattle.c_language.specs.declared.expr.Parameter.{Parameter}
 use Rattle.c_language.specs.declared.expr.Specifier.{Specifier}
 use Rattle.c_language.specs.declared.expr.Expr.{Expr}
-use Rattle.c_language.specs.Scopes.{Name, look_up}
+use Rattle.c_language.specs.Scopes.{Name, look_up, enter}
 use Rattle.c_language.specs.Typing as spec
 use Rattle.c_language.specs.Typing.{typed_in}
 use Rattle.c_language.specs.Declares as spec_
@@ -29,6 +29,7 @@ use Rattle.c_declares.specs.declared.parameters.Listed.{Listed}
 use Rattle.c_declares.specs.declared.said.Said.{Said}
 use Rattle.c_declares.specs.Views.{said_in, formed_in, laid_in, counting_in, listed_in}
 use Rattle.c_typing.specs.Parts.{behind}
+use Rattle.plain_data.proofs.Tried as tried
 use Rattle.c_typing.proofs.Declares as parts
 use Rattle.c_typing.proofs.Says as says
 use Rattle.c_typing.proofs.trees.+typing.Goals as goal
@@ -72,20 +73,22 @@ typed-returns-in-Parenthesized t c =
     (λ z said. says.on-Parenthesized _ _ c.args.scope.now c.typed.new.scope z c.in-Parenthesized.is (says.of-child c.args.scope.now said
     c.get.ensures)) c.typed.ensures
 
-pub typed-returns-in_ok-y-in-Subscript : goal.typed-returns-in_ok-y-in-Subscript
-typed-returns-in_ok-y-in-Subscript t c =
-    IfOk-weaker c.subscript.result _ _ (λ z said. says.on-Subscript _ _ _ c.args.scope.now c.typed-in-Subscript.new.scope
-    c.typed-in-Subscript-2.new.scope c.in_ok-x-in-Subscript.x c.in_ok-x-in-Subscript-2.x c.in_ok-y-in-Subscript.y z c.in-Subscript.is
-    (says.of-child c.args.scope.now c.in_ok-x-in-Subscript.ensures c.get-in-Subscript.ensures) c.in_ok-x-in-Subscript-2.ensures
-    (says.of-child c.typed-in-Subscript.new.scope c.in_ok-y-in-Subscript.ensures c.get-in-Subscript-2.ensures) said) c.subscript.ensures
+pub typed-returns-in-Subscript : goal.typed-returns-in-Subscript
+typed-returns-in-Subscript t c =
+    tried.of_two c.value-x.result c.typed-y.result c.subscript.result _ _ _ _
+    (says.valued _ _ _ _ c.typed-x.result c.value-x.result c.typed-x.ensures c.get-in-Subscript.ensures c.value-x.ensures)
+    c.typed-y.ensures c.subscript.ensures
+    (λ u y z hu hy said. says.on-Subscript _ _ _ c.args.scope.now c.typed-x.new.scope c.typed-y.new.scope hu.part u y z
+    c.in-Subscript.is hu.said hu.is (says.of-child c.typed-x.new.scope hy c.get-in-Subscript-2.ensures) said)
 
-pub typed-returns-in_ok-xs-in-Call : goal.typed-returns-in_ok-xs-in-Call
-typed-returns-in_ok-xs-in-Call t c =
-    IfOk-weaker c.call.result _ _ (λ z said. says.on-Call _ _ _ c.args.scope.now c.typed-in-Call.new.scope
-    c.all_arguments.new.scope c.in_ok-f-in-Call.f z c.in_ok-xs-in-Call.xs c.in-Call.is
+pub typed-returns-in_ok-f-in-Call : goal.typed-returns-in_ok-f-in-Call
+typed-returns-in_ok-f-in-Call t c =
+    tried.of_one c.all_arguments-xs.result c.call.result _ _ _ c.all_arguments-xs.ensures c.call.ensures
+    (λ xs z h said. says.on-Call _ _ _ c.args.scope.now c.typed-in-Call.new.scope c.all_arguments-xs.new.scope
+    c.in_ok-f-in-Call.f z xs c.in-Call.is
     (says.of-child c.args.scope.now c.in_ok-f-in-Call.ensures c.get-in-Call.ensures)
-    (says.of-arguments (behind (spec.no_arguments c.in_ok-f-in-Call.f.faults) c.typed-in-Call.new.scope)
-    c.in_ok-xs-in-Call.ensures c.as_slice-in-Call.ensures) said) c.call.ensures
+    (says.of-arguments (behind (spec.no_arguments c.in_ok-f-in-Call.f.faults) c.typed-in-Call.new.scope) h
+    c.as_slice-in-Call.ensures) said)
 
 pub typed-returns-in_ok-x-in-Member : goal.typed-returns-in_ok-x-in-Member
 typed-returns-in_ok-x-in-Member t c =
@@ -118,47 +121,52 @@ typed-returns-in_ok-t-in-SizeofType t c =
     c.in_ok-t-in-SizeofType.t z c.in-SizeofType.is
     (says.of-name c.args.scope.now c.in_ok-t-in-SizeofType.ensures c.get-in-SizeofType.ensures) said) c.size_of_type.ensures
 
-pub typed-returns-in_ok-x-in-Cast : goal.typed-returns-in_ok-x-in-Cast
-typed-returns-in_ok-x-in-Cast t c =
-    IfOk-weaker c.cast.result _ _ (λ z said. says.on-Cast _ _ _ c.args.scope.now c.type_name-in-Cast.new.scope
-    c.typed-in-Cast.new.scope c.in_ok-to-in-Cast.to c.in_ok-x-in-Cast.x z c.in-Cast.is
-    (says.of-name c.args.scope.now c.in_ok-to-in-Cast.ensures c.get-in-Cast.ensures)
-    (says.of-child c.type_name-in-Cast.new.scope c.in_ok-x-in-Cast.ensures c.get-in-Cast-2.ensures) said)
-    c.cast.ensures
+pub typed-returns-in-Cast : goal.typed-returns-in-Cast
+typed-returns-in-Cast t c =
+    tried.of_two c.type_name-to.result c.typed-x-in-Cast.result c.cast.result _ _ _ _ c.type_name-to.ensures
+    c.typed-x-in-Cast.ensures c.cast.ensures
+    (λ n x z hn hx said. says.on-Cast _ _ _ c.args.scope.now c.type_name-to.new.scope c.typed-x-in-Cast.new.scope n x z
+    c.in-Cast.is (says.of-name c.args.scope.now hn c.get-in-Cast.ensures)
+    (says.of-child c.type_name-to.new.scope hx c.get-in-Cast-2.ensures) said)
 
-pub typed-returns-in_ok-y-in-Binary : goal.typed-returns-in_ok-y-in-Binary
-typed-returns-in_ok-y-in-Binary t c =
-    IfOk-weaker c.binary.result _ _ (λ z said. says.on-Binary _ _ _ _ c.args.scope.now c.typed-in-Binary.new.scope
-    c.typed-in-Binary-2.new.scope c.in_ok-x-in-Binary.x c.in_ok-x-in-Binary-2.x c.in_ok-y-in-Binary.y z c.in-Binary.is
-    (says.of-child c.args.scope.now c.in_ok-x-in-Binary.ensures c.get-in-Binary.ensures) c.in_ok-x-in-Binary-2.ensures
-    (says.of-child c.typed-in-Binary.new.scope c.in_ok-y-in-Binary.ensures c.get-in-Binary-2.ensures) said) c.binary.ensures
+pub typed-returns-in-Binary : goal.typed-returns-in-Binary
+typed-returns-in-Binary t c =
+    tried.of_two c.value-x-in-Binary.result c.typed-y-in-Binary.result c.binary.result _ _ _ _
+    (says.valued _ _ _ _ c.typed-x-in-Binary.result c.value-x-in-Binary.result c.typed-x-in-Binary.ensures
+    c.get-in-Binary.ensures c.value-x-in-Binary.ensures) c.typed-y-in-Binary.ensures c.binary.ensures
+    (λ u y z hu hy said. says.on-Binary _ _ _ _ c.args.scope.now c.typed-x-in-Binary.new.scope
+    c.typed-y-in-Binary.new.scope hu.part u y z c.in-Binary.is hu.said hu.is
+    (says.of-child c.typed-x-in-Binary.new.scope hy c.get-in-Binary-2.ensures) said)
 
-pub typed-returns-in_ok-y-in-Conditional : goal.typed-returns-in_ok-y-in-Conditional
-typed-returns-in_ok-y-in-Conditional t c =
-    IfOk-weaker c.choice.result _ _ (λ z said. says.on-Conditional _ _ _ _ c.args.scope.now c.typed-in-Conditional.new.scope
-    c.typed-in-Conditional-2.new.scope c.typed-in-Conditional-3.new.scope c.in_ok-c-in-Conditional.c
-    c.in_ok-c-in-Conditional-2.c c.in_ok-x-in-Conditional.x c.in_ok-x-in-Conditional-2.x c.in_ok-y-in-Conditional.y z
-    c.in-Conditional.is
-    (says.of-child c.args.scope.now c.in_ok-c-in-Conditional.ensures c.get-in-Conditional.ensures)
-    c.in_ok-c-in-Conditional-2.ensures
-    (says.of-child c.typed-in-Conditional.new.scope c.in_ok-x-in-Conditional.ensures c.get-in-Conditional-2.ensures)
-    c.in_ok-x-in-Conditional-2.ensures
-    (says.of-child c.typed-in-Conditional-2.new.scope c.in_ok-y-in-Conditional.ensures c.get-in-Conditional-3.ensures)
-    said) c.choice.ensures
+pub typed-returns-in-Conditional : goal.typed-returns-in-Conditional
+typed-returns-in-Conditional t c =
+    tried.of_three c.value-c.result c.value-x-in-Conditional.result c.typed-y-in-Conditional.result c.choice.result
+    _ _ _ _ _
+    (says.valued _ _ _ _ c.typed-c.result c.value-c.result c.typed-c.ensures c.get-in-Conditional.ensures
+    c.value-c.ensures)
+    (says.valued _ _ _ _ c.typed-x-in-Conditional.result c.value-x-in-Conditional.result
+    c.typed-x-in-Conditional.ensures c.get-in-Conditional-2.ensures c.value-x-in-Conditional.ensures)
+    c.typed-y-in-Conditional.ensures c.choice.ensures
+    (λ u v y z hu hv hy said. says.on-Conditional _ _ _ _ c.args.scope.now c.typed-c.new.scope
+    c.typed-x-in-Conditional.new.scope c.typed-y-in-Conditional.new.scope hu.part u hv.part v y z c.in-Conditional.is
+    hu.said hu.is hv.said hv.is
+    (says.of-child c.typed-x-in-Conditional.new.scope hy c.get-in-Conditional-3.ensures) said)
 
-pub typed-returns-in_ok-y-in-Assign : goal.typed-returns-in_ok-y-in-Assign
-typed-returns-in_ok-y-in-Assign t c =
-    IfOk-weaker c.assignment.result _ _ (λ z said. says.on-Assign _ _ _ _ c.args.scope.now c.typed-in-Assign.new.scope
-    c.typed-in-Assign-2.new.scope c.in_ok-x-in-Assign.x c.in_ok-y-in-Assign.y z c.in-Assign.is
-    (says.of-child c.args.scope.now c.in_ok-x-in-Assign.ensures c.get-in-Assign.ensures)
-    (says.of-child c.typed-in-Assign.new.scope c.in_ok-y-in-Assign.ensures c.get-in-Assign-2.ensures) said) c.assignment.ensures
+pub typed-returns-in-Assign : goal.typed-returns-in-Assign
+typed-returns-in-Assign t c =
+    tried.of_two c.typed-x-in-Assign.result c.typed-y-in-Assign.result c.assignment.result _ _ _ _
+    c.typed-x-in-Assign.ensures c.typed-y-in-Assign.ensures c.assignment.ensures
+    (λ x y z hx hy said. says.on-Assign _ _ _ _ c.args.scope.now c.typed-x-in-Assign.new.scope
+    c.typed-y-in-Assign.new.scope x y z c.in-Assign.is (says.of-child c.args.scope.now hx c.get-in-Assign.ensures)
+    (says.of-child c.typed-x-in-Assign.new.scope hy c.get-in-Assign-2.ensures) said)
 
-pub typed-returns-in_ok-y-in-Comma : goal.typed-returns-in_ok-y-in-Comma
-typed-returns-in_ok-y-in-Comma t c =
-    IfOk-weaker c.comma.result _ _ (λ z said. says.on-Comma _ _ _ c.args.scope.now c.typed-in-Comma.new.scope
-    c.typed-in-Comma-2.new.scope c.in_ok-x-in-Comma.x c.in_ok-y-in-Comma.y z c.in-Comma.is
-    (says.of-child c.args.scope.now c.in_ok-x-in-Comma.ensures c.get-in-Comma.ensures)
-    (says.of-child c.typed-in-Comma.new.scope c.in_ok-y-in-Comma.ensures c.get-in-Comma-2.ensures) said) c.comma.ensures
+pub typed-returns-in-Comma : goal.typed-returns-in-Comma
+typed-returns-in-Comma t c =
+    tried.of_two c.typed-x-in-Comma.result c.typed-y-in-Comma.result c.comma.result _ _ _ _
+    c.typed-x-in-Comma.ensures c.typed-y-in-Comma.ensures c.comma.ensures
+    (λ x y z hx hy said. says.on-Comma _ _ _ c.args.scope.now c.typed-x-in-Comma.new.scope
+    c.typed-y-in-Comma.new.scope x y z c.in-Comma.is (says.of-child c.args.scope.now hx c.get-in-Comma.ensures)
+    (says.of-child c.typed-x-in-Comma.new.scope hy c.get-in-Comma-2.ensures) said)
 
 pub declarator-returns-in_ok-clone-in-Name : goal.declarator-returns-in_ok-clone-in-Name
 declarator-returns-in_ok-clone-in-Name t c =
@@ -175,20 +183,22 @@ declarator-returns-in-Grouped t c =
     (λ x said. parts.on-Grouped _ _ c.args.scope.now c.declarator.new.scope x c.in-Grouped.is (parts.of-declarator c.args.scope.now said
     c.get.ensures)) c.declarator.ensures
 
-pub declarator-returns-in_ok-add_pointer-in-Pointer : goal.declarator-returns-in_ok-add_pointer-in-Pointer
-declarator-returns-in_ok-add_pointer-in-Pointer t c =
-    parts.on-Pointer _ _ c.as_slice.result.now c.args.scope.now c.declarator-in-Pointer.new.scope c.in_ok-formed-in-Pointer.formed
-    c.add_pointer.new.self c.in-Pointer.is
-    (parts.of-declarator c.args.scope.now c.in_ok-formed-in-Pointer.ensures c.get-in-Pointer.ensures) c.as_slice.ensures
-    (c.in_ok-add_pointer-in-Pointer.ensures c.declarator-in-Pointer.new.scope)
+pub declarator-returns-in-Pointer : goal.declarator-returns-in-Pointer
+declarator-returns-in-Pointer t c =
+    tried.of_one c.declarator-formed.result c.pointer.result _ _ _ c.declarator-formed.ensures
+    (c.pointer.ensures c.declarator-formed.new.scope)
+    (λ x y h said. parts.on-Pointer _ _ c.as_slice.result.now c.args.scope.now c.declarator-formed.new.scope x y
+    c.in-Pointer.is (parts.of-declarator c.args.scope.now h c.get-in-Pointer.ensures) c.as_slice.ensures said)
 
-pub declarator-returns-in_ok-add_array-in-Array : goal.declarator-returns-in_ok-add_array-in-Array
-declarator-returns-in_ok-add_array-in-Array t c =
-    parts.on-Array _ _ _ c.as_slice-in-Array.result.now c.args.scope.now c.declarator-in-Array.new.scope c.array_length.new.scope
-    c.in_ok-formed-in-Array.formed c.add_array.new.self c.in_ok-length-in-Array.length c.in-Array.is
-    (parts.of-declarator c.args.scope.now c.in_ok-formed-in-Array.ensures c.get-in-Array.ensures) c.in_ok-length-in-Array.ensures
-    c.as_slice-in-Array.ensures
-    (c.in_ok-add_array-in-Array.ensures c.declarator-in-Array.new.scope c.array_length.new.scope)
+pub declarator-returns-in-Array : goal.declarator-returns-in-Array
+declarator-returns-in-Array t c =
+    let s1 = c.declarator-formed-in-Array.new.scope in
+    tried.of_two c.declarator-formed-in-Array.result c.array_length-length.result c.array.result _ _ _ _
+    c.declarator-formed-in-Array.ensures c.array_length-length.ensures
+    (c.array.ensures s1 c.array_length-length.new.scope)
+    (λ x n y h counts said. parts.on-Array _ _ _ c.as_slice-in-Array.result.now c.args.scope.now s1
+    c.array_length-length.new.scope x y n c.in-Array.is
+    (parts.of-declarator c.args.scope.now h c.get-in-Array.ensures) counts c.as_slice-in-Array.ensures said)
 
 pub array_length-returns-in-None : goal.array_length-returns-in-None
 array_length-returns-in-None t c =
@@ -200,17 +210,16 @@ array_length-returns-in_ok-x-in-Some t c =
     c.in_ok-x-in-Some.x n c.in-Some.is (parts.of-child c.args.scope.now c.in_ok-x-in-Some.ensures c.get.ensures))
     (c.by.ensures c.typed.new.scope)
 
-pub declarator-returns-in_ok-add_function-in-Function : goal.declarator-returns-in_ok-add_function-in-Function
-declarator-returns-in_ok-add_function-in-Function t c =
-    let s1 = c.declarator-in-Function.new.scope in
-    parts.on-Function _ _ c.as_slice-in-Function-2.result.now c.prototype-prototype.result c.args.scope.now s1 c.enter.new.self
-    c.all_parameters.new.scope c.add_function.new.scope c.in_ok-formed-in-Function.formed c.add_function.new.self
-    c.in_ok-listed-in-Function.listed c.in-Function.is
-    (parts.of-declarator c.args.scope.now c.in_ok-formed-in-Function.ensures c.get-in-Function.ensures)
-    c.in_ok-enter-in-Function.ensures
-    (parts.of-parameters (none_listed c.enter.new.self) c.in_ok-listed-in-Function.ensures c.as_slice-in-Function.ensures)
-    (c.prototype-prototype.ensures parameter_says) c.as_slice-in-Function-2.ensures
-    (c.in_ok-add_function-in-Function.ensures s1)
+pub declarator-returns-in-Function : goal.declarator-returns-in-Function
+declarator-returns-in-Function t c =
+    let s1 = c.declarator-formed-in-Function.new.scope in
+    tried.of_two c.declarator-formed-in-Function.result c.all_parameters-listed.result c.function.result _ _ _ _
+    c.declarator-formed-in-Function.ensures c.all_parameters-listed.ensures (c.function.ensures s1)
+    (λ x l y h lists said. parts.on-Function _ _ c.as_slice-in-Function-2.result.now c.prototype-prototype.result
+    c.args.scope.now s1 (enter s1) c.all_parameters-listed.new.scope c.function.new.scope x y l c.in-Function.is
+    (parts.of-declarator c.args.scope.now h c.get-in-Function.ensures) refl
+    (parts.of-parameters (none_listed (enter s1)) lists c.as_slice-in-Function.ensures)
+    (c.prototype-prototype.ensures parameter_says) c.as_slice-in-Function-2.ensures said)
 
 pub enumerator-returns-in-None : goal.enumerator-returns-in-None
 enumerator-returns-in-None t c =
@@ -388,7 +397,9 @@ all_fields-returns t c =
 
 pub all_parameters-loop-item-init : goal.all_parameters-loop-item-init
 all_parameters-loop-item-init t c =
-    ap (λ (z : Listed). spec_.listed (listed_in z c.args.scope.now) (map parameter_says c.args.items.now)) c.new-listed.ensures
+    ap (λ (z : Listed). spec_.listed (listed_in z c.enter.new.self) (map parameter_says c.args.items.now))
+    c.new-listed.ensures ∙ ap (λ s. spec_.listed (none_listed s) (map parameter_says c.args.items.now))
+    c.in_ok-enter.ensures
 
 pub all_parameters-loop-item-preserved : goal.all_parameters-loop-item-preserved
 all_parameters-loop-item-preserved t c =

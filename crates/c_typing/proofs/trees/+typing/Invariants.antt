@@ -1,4 +1,5 @@
 use Rattle.std.proofs.Common.{◌≡◌, pos, Some, map, drop}
+use Rattle.c_language.specs.Scopes.{enter}
 use Rattle.c_language.specs.Typing.{no_arguments}
 use Rattle.c_language.specs.Declares.{in_order, said_by, none_laid, form_of, each_field, listed, none_listed}
 use Rattle.c_language.specs.Trees.{
@@ -42,4 +43,4 @@ invariant-all_enumerators-loop-item l =
 abbrev pub invariant-all_parameters-loop-item : goal.invariant-all_parameters-loop-item
 invariant-all_parameters-loop-item l =
     listed (listed_in l.listed l.scope) (map parameter_says (drop l.item-index l.items)) ≡ listed (none_listed
-    l.fn.scope) (map parameter_says l.items)
+    (enter l.fn.scope)) (map parameter_says l.items)

@@ -1,5 +1,5 @@
 use Rattle.c_means.specs.Trees.{part}
-use Rattle.core_exprs.proofs.Parts.{with_ok}
+use Rattle.plain_data.proofs.Tried.{with_ok}
 use Rattle.core_exprs.proofs.entries.effect.Goals as goal
 
 pub returns-clause-effect : goal.returns-clause-effect

@@ -1,5 +1,5 @@
 use Rattle.c_means.specs.Trees.{part}
-use Rattle.core_exprs.proofs.Parts.{with_ok}
+use Rattle.plain_data.proofs.Tried.{with_ok}
 use Rattle.core_exprs.proofs.entries.value.Goals as goal
 
 pub returns-clause-value : goal.returns-clause-value

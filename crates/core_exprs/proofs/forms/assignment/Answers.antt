@@ -1,4 +1,4 @@
-use Rattle.core_exprs.proofs.Parts.{of_both}
+use Rattle.plain_data.proofs.Tried.{of_both}
 use Rattle.core_exprs.proofs.forms.assignment.Goals as goal
 
 pub returns-in-Some : goal.returns-in-Some

@@ -1,5 +1,5 @@
 use Rattle.core_exprs.proofs.EachForm as each
-use Rattle.core_exprs.proofs.Parts.{both_of, of_ok}
+use Rattle.plain_data.proofs.Tried.{both_of, of_ok}
 use Rattle.core_exprs.proofs.forms.choice.Goals as goal
 
 pub returns : goal.returns

@@ -1,5 +1,5 @@
 use Rattle.core_exprs.proofs.EachForm as each
-use Rattle.core_exprs.proofs.Parts.{of_try}
+use Rattle.plain_data.proofs.Tried.{of_try}
 use Rattle.core_exprs.proofs.forms.postfix.Goals as goal
 
 pub returns : goal.returns

@@ -1,6 +1,6 @@
 use Rattle.std.proofs.lemmas.Result.{IfOk-weaker}
 use Rattle.core_exprs.proofs.EachForm as each
-use Rattle.core_exprs.proofs.Parts.{of_try}
+use Rattle.plain_data.proofs.Tried.{of_try}
 use Rattle.core_exprs.proofs.forms.used.Goals as goal
 
 pub returns : goal.returns

@@ -1,4 +1,4 @@
-use Rattle.core_exprs.proofs.Parts.{of_found}
+use Rattle.plain_data.proofs.Tried.{of_found}
 use Rattle.core_exprs.proofs.unary.unary.Goals as goal
 
 pub returns-in-Address : goal.returns-in-Address

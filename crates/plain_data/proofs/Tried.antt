@@ -1,4 +1,4 @@
--- What follows for a form of expressions, each of whose parts may have failed: the form fails where one of them did.
+-- What follows for what is made of parts, each of which may have failed: it fails where one of them did.
 use Rattle.std.proofs.Common.{◌≡◌, Result, Ok, Err, ControlFlow, Continue, IfOk, IsOkAnd, sym, ap, ◌∙◌, subst}
 use Rattle.std.below.core.specs.declared.result.ErrResidual.{ErrResidual}
 use Rattle.std.below.core.specs.Result.{result_from_control_flow}
@@ -59,3 +59,7 @@ of_three (Ok a) (Ok b) (Err d) (Ok z) P Q S F R p q s found all = absurd found
 of_three (Ok a) (Err d) v (Ok z) P Q S F R p q s found all = absurd found
 of_three (Err d) y v (Ok z) P Q S F R p q s found all = absurd found
 of_three x y v (Err e) P Q S F R p q s found all = tt
+
+pub of_part : {E X : Type 0} (x : Result X E) (P Q : X → Type 0) → ((a : X) → P a → Q a) → IsOkAnd x P → IsOkAnd x Q
+of_part (Ok a) P Q f h = f a h
+of_part (Err d) P Q f h = h
