@@ -8,8 +8,8 @@ ghost use Rattle.c_declares.specs.Views.{formed_in, counted_in, listed_in};
 
 use crate::arguments::Arguments;
 use crate::forms;
-use c_declares::{Counted, Formed, Listed, Prototype, TypeSaid};
-use c_language::{ArrayWord, BinaryOperator, Qualifier, Shown, Told};
+use c_declares::{Counted, Formed, Listed, TypeSaid};
+use c_language::{ArrayWord, BinaryOperator, Prototype, Qualifier, Shown, Told};
 use c_type_scope::Scope;
 use plain_data::both_ok;
 use std::alloc::{AllocError, Global};
@@ -157,7 +157,8 @@ pub(crate) fn array(
     ensures { (before : scopes.Scope) (s : scopes.Scope) → IfOk result (λ y. IsOkAnd inner (λ x. IsOkAnd length (λ n. formed_in y s ≡
         declares.to_array (declares.qualifiers_among words.now) (formed_in x before) (counted_in n s)))) }
 {
-    let (inner, length) = both_ok(inner, length)?;
+    let parts = both_ok(inner, length)?;
+    let (inner, length) = parts;
     let mut formed = inner;
     formed.add_array(words, length)?;
     Ok(formed)
@@ -174,7 +175,8 @@ pub(crate) fn function(
     ensures { (before : scopes.Scope) → IfOk result (λ y. IsOkAnd inner (λ x. IsOkAnd listed (λ l. formed_in y scope.new ≡
         declares.to_function prototype (formed_in x before) (listed_in l scope.old)))) }
 {
-    let (inner, listed) = both_ok(inner, listed)?;
+    let parts = both_ok(inner, listed)?;
+    let (inner, listed) = parts;
     let mut formed = inner;
     formed.add_function(alloc, prototype, listed, scope)?;
     Ok(formed)

@@ -8,8 +8,7 @@ ghost use Rattle.c_typing.specs.Parts.{behind, length_says, bits_say};
 ghost use Rattle.c_declares.specs.Views.{said_in, formed_in, counted_in, type_said_in, laid_in, counting_in, listed_in, named_in};
 
 use crate::arguments::{Arguments, and_argument, no_arguments};
-use crate::forms;
-use crate::parts;
+use crate::{forms, parts};
 use c_declares::{Counted, Counting, Formed, Laid, Listed, Named, Said, TypeSaid, prototype};
 use c_language::{
     AggregateKind, CType, Declarator, Enumerator, Expr, Fault, Field, MemberDeclaration, Parameter,

@@ -24,7 +24,7 @@ use Rattle.c_language.specs.Typing.{typed_in}
 use Rattle.core_exprs.specs.declared.arguments.Passing.{Passing}
 use Rattle.core_exprs.specs.Passing.{ArePassed}
 use Rattle.core_exprs.specs.declared.found.Found.{Found}
-use Rattle.core_exprs.specs.Found.{IsFoundOf, AreFound}
+use Rattle.core_exprs.specs.Found.{IsFoundOf, AreFound, Makes, OverOne, OverTwo}
 use Rattle.plain_data.proofs.Tried.{of_one, of_two, of_three}
 
 -- of a child that was read through its owner
@@ -89,7 +89,7 @@ module _ {E : Type 0} (n : Numbering) where
 
   pub in_member : {e child child' : Expr} (x r : Result Found E) (at : ℕ) (name : Name) (s s1 : Scope)
       → e ≡ expr.Member at child name → child' ≡ child → Finds x (part child' s) s1
-      → ((p : Part) → IfOk r (λ z. IsOkAnd x (λ x. IsFoundOf n x p s1 → IsFoundOf n z (form.member at name p) s1)))
+      → OverOne n s1 (form.member at name) x r
       → Finds r (part e s) s1
   in_member {e} {child} {child'} x r at name s s1 is same h last =
       one_part x r child child' s s1 (part e s) (form.member at name (part child s))
@@ -97,7 +97,7 @@ module _ {E : Type 0} (n : Numbering) where
 
   pub in_arrow : {e child child' : Expr} (x r : Result Found E) (at : ℕ) (name : Name) (s s1 : Scope)
       → e ≡ expr.Arrow at child name → child' ≡ child → Finds x (part child' s) s1
-      → ((p : Part) → IfOk r (λ z. IsOkAnd x (λ x. IsFoundOf n x p s1 → IsFoundOf n z (form.arrow at name p) s1)))
+      → OverOne n s1 (form.arrow at name) x r
       → Finds r (part e s) s1
   in_arrow {e} {child} {child'} x r at name s s1 is same h last =
       one_part x r child child' s s1 (part e s) (form.arrow at name (part child s))
@@ -105,7 +105,7 @@ module _ {E : Type 0} (n : Numbering) where
 
   pub in_postfix : {e child child' : Expr} (x r : Result Found E) (at : ℕ) (op : PostfixOperator) (s s1 : Scope)
       → e ≡ expr.Postfix at op child → child' ≡ child → Finds x (part child' s) s1
-      → ((p : Part) → IfOk r (λ z. IsOkAnd x (λ x. IsFoundOf n x p s1 → IsFoundOf n z (form.postfix at op p) s1)))
+      → OverOne n s1 (form.postfix at op) x r
       → Finds r (part e s) s1
   in_postfix {e} {child} {child'} x r at op s s1 is same h last =
       one_part x r child child' s s1 (part e s) (form.postfix at op (part child s))
@@ -113,7 +113,7 @@ module _ {E : Type 0} (n : Numbering) where
 
   pub in_unary : {e child child' : Expr} (x r : Result Found E) (at : ℕ) (op : UnaryOperator) (s s1 : Scope)
       → e ≡ expr.Unary at op child → child' ≡ child → Finds x (part child' s) s1
-      → ((p : Part) → IfOk r (λ z. IsOkAnd x (λ x. IsFoundOf n x p s1 → IsFoundOf n z (form.unary at op p) s1)))
+      → OverOne n s1 (form.unary at op) x r
       → Finds r (part e s) s1
   in_unary {e} {child} {child'} x r at op s s1 is same h last =
       one_part x r child child' s s1 (part e s) (form.unary at op (part child s))
@@ -148,7 +148,8 @@ module _ {E : Type 0} (n : Numbering) where
   pub in_cast : {e child child' : Expr} {name name' : TypeName} (t : Result TypeSaid E) (x r : Result Found E) (at : ℕ)
       (s s1 s2 : Scope) → e ≡ expr.Cast at name child → name' ≡ name → child' ≡ child
       → IfOk t (λ t. type_said_in t s1 ≡ type_name_said name' s) → Finds x (part child' s1) s2
-      → ((p : Part) → IfOk r (λ z. IsOkAnd t (λ t. IsOkAnd x (λ x. IsFoundOf n x p s2 → IsFoundOf n z (form.cast at t.ctype t.faults p) s2))))
+      → ((p : Part) → IfOk r (λ z. IsOkAnd t (λ t. IsOkAnd x (λ x.
+      IsFoundOf n x p s2 → IsFoundOf n z (form.cast at t.ctype t.faults p) s2))))
       → Finds r (part e s) s2
   in_cast {e} {child} {child'} {name} {name'} t x r at s s1 s2 is same sames said h last =
       of_two t x r (λ t. type_said_in t s1 ≡ type_name_said name' s) (λ x. IsFoundOf n x (part child' s1) s2)
@@ -164,7 +165,7 @@ module _ {E : Type 0} (n : Numbering) where
 
   taken : (R : Used → Part → Type 0) (x : Result Found E) (u : Result Used E) (child child' : Expr) (s s1 : Scope)
       → child' ≡ child → Finds x (part child' s) s1
-      → ((p : Part) → IfOk u (λ u. IsOkAnd x (λ x. IsFoundOf n x p s1 → R u p)))
+      → Makes n s1 R x u
       → IfOk u (λ u. IsTaken R u (part child s) s1)
   taken R x u child child' s s1 same h used_ =
       of_one x u (λ x. IsFoundOf n x (part child' s) s1) (λ u x. IsFoundOf n x (part child s) s1 → R u (part child s))
@@ -174,9 +175,9 @@ module _ {E : Type 0} (n : Numbering) where
   two_parts : (R : Used → Part → Type 0) (x : Result Found E) (u : Result Used E) (y r : Result Found E)
       (left left' right right' : Expr) (s s1 s2 : Scope) (whole : Part) (over : Part → Part → Part)
       → whole ≡ over (part left s) (part right (part left s).typed.after) → left' ≡ left → right' ≡ right
-      → Finds x (part left' s) s1 → ((p : Part) → IfOk u (λ u. IsOkAnd x (λ x. IsFoundOf n x p s1 → R u p)))
+      → Finds x (part left' s) s1 → Makes n s1 R x u
       → Finds y (part right' s1) s2
-      → ((p q : Part) → IfOk r (λ z. IsOkAnd u (λ u. IsOkAnd y (λ y. R u p → IsFoundOf n y q s2 → IsFoundOf n z (over p q) s2))))
+      → OverTwo n s2 R over u y r
       → Finds r whole s2
   two_parts R x u y r left left' right right' s s1 s2 whole over is same sames h used_ i last =
       of_two u y r (λ u. IsTaken R u (part left s) s1) (λ y. IsFoundOf n y (part right' s1) s2)
@@ -189,9 +190,9 @@ module _ {E : Type 0} (n : Numbering) where
 
   pub in_subscript : {e left left' right right' : Expr} (x : Result Found E) (u : Result Used E) (y r : Result Found E)
       (at : ℕ) (s s1 s2 : Scope) → e ≡ expr.Subscript at left right → left' ≡ left → right' ≡ right
-      → Finds x (part left' s) s1 → ((p : Part) → IfOk u (λ u. IsOkAnd x (λ x. IsFoundOf n x p s1 → IsUsed n u p)))
+      → Finds x (part left' s) s1 → Makes n s1 (IsUsed n) x u
       → Finds y (part right' s1) s2
-      → ((p q : Part) → IfOk r (λ z. IsOkAnd u (λ u. IsOkAnd y (λ y. IsUsed n u p → IsFoundOf n y q s2 → IsFoundOf n z (form.subscript at p q) s2))))
+      → OverTwo n s2 (IsUsed n) (form.subscript at) u y r
       → Finds r (part e s) s2
   in_subscript {e} {left} {left'} {right} {right'} x u y r at s s1 s2 is =
       two_parts (IsUsed n) x u y r left left' right right' s s1 s2 (part e s) (form.subscript at)
@@ -199,9 +200,9 @@ module _ {E : Type 0} (n : Numbering) where
 
   pub in_binary : {e left left' right right' : Expr} (x : Result Found E) (u : Result Used E) (y r : Result Found E)
       (at : ℕ) (op : BinaryOperator) (s s1 s2 : Scope) → e ≡ expr.Binary at op left right → left' ≡ left → right' ≡ right
-      → Finds x (part left' s) s1 → ((p : Part) → IfOk u (λ u. IsOkAnd x (λ x. IsFoundOf n x p s1 → IsUsed n u p)))
+      → Finds x (part left' s) s1 → Makes n s1 (IsUsed n) x u
       → Finds y (part right' s1) s2
-      → ((p q : Part) → IfOk r (λ z. IsOkAnd u (λ u. IsOkAnd y (λ y. IsUsed n u p → IsFoundOf n y q s2 → IsFoundOf n z (form.binary at op p q) s2))))
+      → OverTwo n s2 (IsUsed n) (form.binary at op) u y r
       → Finds r (part e s) s2
   in_binary {e} {left} {left'} {right} {right'} x u y r at op s s1 s2 is =
       two_parts (IsUsed n) x u y r left left' right right' s s1 s2 (part e s) (form.binary at op)
@@ -209,9 +210,9 @@ module _ {E : Type 0} (n : Numbering) where
 
   pub in_comma : {e left left' right right' : Expr} (x : Result Found E) (u : Result Used E) (y r : Result Found E)
       (at : ℕ) (s s1 s2 : Scope) → e ≡ expr.Comma at left right → left' ≡ left → right' ≡ right
-      → Finds x (part left' s) s1 → ((p : Part) → IfOk u (λ u. IsOkAnd x (λ x. IsFoundOf n x p s1 → IsDiscarded n u p)))
+      → Finds x (part left' s) s1 → Makes n s1 (IsDiscarded n) x u
       → Finds y (part right' s1) s2
-      → ((p q : Part) → IfOk r (λ z. IsOkAnd u (λ u. IsOkAnd y (λ y. IsDiscarded n u p → IsFoundOf n y q s2 → IsFoundOf n z (form.comma at p q) s2))))
+      → OverTwo n s2 (IsDiscarded n) (form.comma at) u y r
       → Finds r (part e s) s2
   in_comma {e} {left} {left'} {right} {right'} x u y r at s s1 s2 is =
       two_parts (IsDiscarded n) x u y r left left' right right' s s1 s2 (part e s) (form.comma at)
@@ -220,7 +221,7 @@ module _ {E : Type 0} (n : Numbering) where
   pub in_assignment : {e left left' right right' : Expr} (x y r : Result Found E) (at : ℕ) (op : Option BinaryOperator)
       (s s1 s2 : Scope) → e ≡ expr.Assign at op left right → left' ≡ left → right' ≡ right
       → Finds x (part left' s) s1 → Finds y (part right' s1) s2
-      → ((p q : Part) → IfOk r (λ z. IsOkAnd x (λ x. IsOkAnd y (λ y. IsBuilt n x.built p → IsFoundOf n y q s2 → IsFoundOf n z (form.assignment at op p q) s2))))
+      → OverTwo n s2 (λ (x : Found). IsBuilt n x.built) (form.assignment at op) x y r
       → Finds r (part e s) s2
   in_assignment {e} {left} {left'} {right} {right'} x y r at op s s1 s2 is same sames h i last =
       of_two x y r (λ x. IsFoundOf n x (part left' s) s1) (λ y. IsFoundOf n y (part right' s1) s2)
@@ -235,8 +236,8 @@ module _ {E : Type 0} (n : Numbering) where
   pub in_choice : {e a a' b b' d d' : Expr} (c : Result Found E) (w : Result Used E) (x : Result Found E)
       (u : Result Used E) (y r : Result Found E) (at : ℕ) (s s1 s2 s3 : Scope) → e ≡ expr.Conditional at a b d
       → a' ≡ a → b' ≡ b → d' ≡ d
-      → Finds c (part a' s) s1 → ((p : Part) → IfOk w (λ w. IsOkAnd c (λ c. IsFoundOf n c p s1 → IsUsed n w p)))
-      → Finds x (part b' s1) s2 → ((p : Part) → IfOk u (λ u. IsOkAnd x (λ x. IsFoundOf n x p s2 → IsUsed n u p)))
+      → Finds c (part a' s) s1 → Makes n s1 (IsUsed n) c w
+      → Finds x (part b' s1) s2 → Makes n s2 (IsUsed n) x u
       → Finds y (part d' s2) s3
       → ((o p q : Part) → IfOk r (λ z. IsOkAnd w (λ w. IsOkAnd u (λ u. IsOkAnd y (λ y.
       IsUsed n w o → IsUsed n u p → IsFoundOf n y q s3 → IsFoundOf n z (form.choice at o p q) s3)))))

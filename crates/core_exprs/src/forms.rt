@@ -233,7 +233,8 @@ pub(crate) fn size_of_expression(
     at: u32,
     x: Result<Told, AllocError>,
 ) -> Result<Found, AllocError>
-    ensures { (n : Numbering) (p : Part) → IfOk result (λ z. IsOkAnd x (λ x. typed_in x scope.now ≡ p.typed → IsFoundOf n z (form.size_of_expression at p) scope.now)) }
+    ensures { (n : Numbering) (p : Part) → IfOk result (λ z. IsOkAnd x (λ x.
+        typed_in x scope.now ≡ p.typed → IsFoundOf n z (form.size_of_expression at p) scope.now)) }
 {
     let x = x?;
     let z = core_forms::size_of_expression(alloc, scope.tables(), at, x)?;
@@ -247,7 +248,8 @@ pub(crate) fn size_of_type(
     at: u32,
     named: Result<TypeSaid, AllocError>,
 ) -> Result<Found, AllocError>
-    ensures { (n : Numbering) → IfOk result (λ z. IsOkAnd named (λ t. IsFoundOf n z (form.size_of_type at t.ctype t.faults scope.now) scope.now)) }
+    ensures { (n : Numbering) → IfOk result (λ z. IsOkAnd named (λ t.
+        IsFoundOf n z (form.size_of_type at t.ctype t.faults scope.now) scope.now)) }
 {
     let named = named?;
     let TypeSaid { ctype, faults } = named;
@@ -263,7 +265,8 @@ pub(crate) fn cast(
     to: Result<TypeSaid, AllocError>,
     x: Result<Found, AllocError>,
 ) -> Result<Found, AllocError>
-    ensures { (n : Numbering) (p : Part) → IfOk result (λ z. IsOkAnd to (λ to. IsOkAnd x (λ x. IsFoundOf n x p scope.now → IsFoundOf n z (form.cast at to.ctype to.faults p) scope.now))) }
+    ensures { (n : Numbering) (p : Part) → IfOk result (λ z. IsOkAnd to (λ to. IsOkAnd x (λ x.
+        IsFoundOf n x p scope.now → IsFoundOf n z (form.cast at to.ctype to.faults p) scope.now))) }
 {
     let parts = both_ok(to, x)?;
     let (to, x) = parts;
@@ -319,7 +322,8 @@ pub(crate) fn choice(
 
 /// `target = value` (C99 6.5.16.1).
 fn simple(alloc: Global, scope: &Scope, at: u32, x: Built, y: Found) -> Result<Found, AllocError>
-    ensures { (n : Numbering) (p q : Part) → IsBuilt n x p → IsFoundOf n y q scope.now → IfOk result (λ z. IsFoundOf n z (form.assignment at None p q) scope.now) }
+    ensures { (n : Numbering) (p q : Part) → IsBuilt n x p → IsFoundOf n y q scope.now →
+        IfOk result (λ z. IsFoundOf n z (form.assignment at None p q) scope.now) }
 {
     let Found { built, .. } = y;
     let tables = scope.tables();
@@ -337,7 +341,8 @@ fn compound(
     x: Built,
     y: Found,
 ) -> Result<Found, AllocError>
-    ensures { (n : Numbering) (p q : Part) → IsBuilt n x p → IsFoundOf n y q scope.now → IfOk result (λ z. IsFoundOf n z (form.assignment at (Some operator) p q) scope.now) }
+    ensures { (n : Numbering) (p q : Part) → IsBuilt n x p → IsFoundOf n y q scope.now →
+        IfOk result (λ z. IsFoundOf n z (form.assignment at (Some operator) p q) scope.now) }
 {
     let Found { built, .. } = y;
     let tables = scope.tables();

@@ -1,10 +1,10 @@
 //! Unary operators (C99 6.5.3).
-ghost use Rattle.std.specs.Prelude.{IfOk, IsOkAnd};
+ghost use Rattle.std.specs.Prelude.{IfOk};
 ghost use Rattle.c_language.specs.declared.expr.UnaryOperator.TheVariants as u;
 ghost use Rattle.c_means.specs.Expressions as form;
 ghost use Rattle.c_means.specs.Parts.{Part};
 ghost use Rattle.elaborate.specs.Means.{Numbering};
-ghost use Rattle.core_exprs.specs.Found.{IsFoundOf};
+ghost use Rattle.core_exprs.specs.Found.{IsFoundOf, OverOne};
 
 use crate::found::{Found, plain};
 use c_language::UnaryOperator;
@@ -101,7 +101,7 @@ pub(crate) fn unary(
     operator: UnaryOperator,
     x: Result<Found, AllocError>,
 ) -> Result<Found, AllocError>
-    ensures { (n : Numbering) (p : Part) → IfOk result (λ z. IsOkAnd x (λ x. IsFoundOf n x p scope.now → IsFoundOf n z (form.unary at operator p) scope.now)) }
+    ensures { (n : Numbering) → OverOne n scope.now (form.unary at operator) x result }
 {
     let x = x?;
     match operator {
