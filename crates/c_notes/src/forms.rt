@@ -9,8 +9,7 @@ ghost use Rattle.c_notes.specs.Tellings as spec;
 ghost use Rattle.c_notes.specs.Relations.{IsForm};
 
 use crate::notes::{
-    ExprNotes, NotedExpr, as_place, as_value, both, is_moved, is_pointer, is_static,
-    nothing_noted,
+    ExprNotes, NotedExpr, as_place, as_value, both, is_moved, is_pointer, is_static, nothing_noted,
 };
 use c_declares::TypeSaid;
 use c_language::{BinaryOperator, Duration, Means, Name, Told, UnaryOperator};
