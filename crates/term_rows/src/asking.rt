@@ -14,6 +14,7 @@ use cnf_core::{Assignment, Formula, Lit};
 use gates::Bit;
 use plain_data::{Rows, World};
 use std::alloc::Global;
+use std::mem::drop;
 
 /// The bit of a value at a place.
 fn bit_at(value: u64, place: usize) -> bool {
@@ -74,9 +75,8 @@ fn number_of(bits: &[Bit], values: &Assignment) -> u64 {
     number
 }
 
-/// A clause that says that bits don't all have these values.
-fn others_of(alloc: Global, bits: &[Bit], values: &Assignment) -> Result<Vec<Lit>> {
-    let mut literals = Vec::new(alloc);
+/// Puts literals at the end that say that bits don't all have these values.
+fn push_others(literals: &mut Vec<Lit>, bits: &[Bit], values: &Assignment) -> Result<()> {
     for bit in bits {
         if let Bit::Unknown(literal) = bit {
             let literal = *literal;
@@ -87,7 +87,14 @@ fn others_of(alloc: Global, bits: &[Bit], values: &Assignment) -> Result<Vec<Lit
             })?;
         }
     }
-    Ok(literals)
+    Ok(())
+}
+
+/// A clause that says that bits don't all have these values.
+fn others_of(alloc: Global, bits: &[Bit], values: &Assignment) -> Result<Vec<Lit>> {
+    let mut literals = Vec::new(alloc);
+    let pushed = push_others(&mut literals, bits, values);
+    pushed.and(Ok(literals))
 }
 
 /// Puts a world's words and bytes at the end of a line.
@@ -103,6 +110,14 @@ fn put_world(out: &mut String, world: &World) -> Result<()> {
     Ok(())
 }
 
+/// Puts the root's value in another model.
+fn put_other(out: &mut String, roots: &Rows<Bit>, others: Assignment) -> Result<()> {
+    let other = number_of(bits_of(roots, 0), &others);
+    drop(others);
+    write!(out, " or {other}")?;
+    Ok(())
+}
+
 /// Puts whether the root has another value than it has in a model.
 fn put_others(
     alloc: Global,
@@ -112,15 +127,13 @@ fn put_others(
     values: &Assignment,
 ) -> Result<()> {
     let others = others_of(alloc, bits_of(&blasted.roots, 0), values)?;
-    push(alloc, &mut blasted.formula, solver, &others)?;
+    let pushed = push(alloc, &mut blasted.formula, solver, &others);
+    drop(others);
+    pushed?;
     match model_of(alloc, &blasted.formula, solver)? {
-        Some(others) => {
-            let other = number_of(bits_of(&blasted.roots, 0), &others);
-            write!(out, " or {other}")?;
-        }
-        None => out.push_str(" only")?,
+        Some(others) => put_other(out, &blasted.roots, others),
+        None => Ok(out.push_str(" only")?),
     }
-    Ok(())
 }
 
 /// Puts what the root is worth in a model, and whether it has another value.
@@ -136,6 +149,19 @@ fn put_root(
     put_others(alloc, out, blasted, solver, values)
 }
 
+/// Puts what the root is worth in a model, and a world.
+fn put_in_world(
+    alloc: Global,
+    out: &mut String,
+    blasted: &mut Blasted,
+    solver: &mut Solver,
+    values: &Assignment,
+    world: &World,
+) -> Result<()> {
+    put_root(alloc, out, blasted, solver, values)?;
+    put_world(out, world)
+}
+
 /// Puts what the root is worth in a model, and the world that it stands for.
 fn put_model(
     alloc: Global,
@@ -148,8 +174,9 @@ fn put_model(
     requires bytes { HasWidth 8 blasted.old.inputs.bytes }
 {
     let world = blasted.decode(alloc, values)?;
-    put_root(alloc, out, blasted, solver, values)?;
-    put_world(out, &world)
+    let put = put_in_world(alloc, out, blasted, solver, values, &world);
+    drop(world);
+    put
 }
 
 /// Puts the answer of a solver that has the clauses of the root and of what is to be.
@@ -163,7 +190,11 @@ fn put_answer(
     requires bytes { HasWidth 8 blasted.old.inputs.bytes }
 {
     match model_of(alloc, &blasted.formula, solver)? {
-        Some(values) => put_model(alloc, out, blasted, solver, &values),
+        Some(values) => {
+            let put = put_model(alloc, out, blasted, solver, &values);
+            drop(values);
+            put
+        }
         None => {
             out.push_str("none\n")?;
             Ok(())
@@ -184,8 +215,8 @@ fn answer_solved(
     push_wishes(&mut blasted.formula, &blasted.roots, wishes)?;
     add_all(alloc, solver, &blasted.formula)?;
     let mut out = String::new(alloc);
-    put_answer(alloc, &mut out, blasted, solver)?;
-    Ok(out)
+    let put = put_answer(alloc, &mut out, blasted, solver);
+    put.and(Ok(out))
 }
 
 /// The answer where the root has clauses, and nodes are to be something.
@@ -205,19 +236,25 @@ fn blast_terms(alloc: Global, terms: &mut Terms) -> Result<Blasted>
     ensures bytes { IfOk result (λ b. HasWidth 8 b.inputs.bytes) }
 {
     let roots = terms.roots(alloc)?;
-    blast_nodes(alloc, &mut terms.bank, &roots)
+    let blasted = blast_nodes(alloc, &mut terms.bank, &roots);
+    drop(roots);
+    blasted
 }
 
 /// The answer of terms.
 fn answer_terms(alloc: Global, terms: &mut Terms) -> Result<String> {
     let mut blasted = blast_terms(alloc, terms)?;
-    answer_blasted(alloc, &mut blasted, &terms.wishes)
+    let answer = answer_blasted(alloc, &mut blasted, &terms.wishes);
+    drop(blasted);
+    answer
 }
 
 /// The answer to a row.
 pub fn answer(alloc: Global, row: &str) -> Result<String> {
     let mut terms = read_terms(alloc, row)?;
-    answer_terms(alloc, &mut terms)
+    let answer = answer_terms(alloc, &mut terms);
+    drop(terms);
+    answer
 }
 
 /// How many clauses a formula has, and how many literals they have.
@@ -230,11 +267,15 @@ fn size_of(alloc: Global, formula: &Formula) -> Result<String> {
 /// How many clauses the root of terms takes, and how many literals they have.
 fn size_terms(alloc: Global, terms: &mut Terms) -> Result<String> {
     let blasted = blast_terms(alloc, terms)?;
-    size_of(alloc, &blasted.formula)
+    let size = size_of(alloc, &blasted.formula);
+    drop(blasted);
+    size
 }
 
 /// How many clauses a row's root takes, and how many literals they have.
 pub fn size(alloc: Global, row: &str) -> Result<String> {
     let mut terms = read_terms(alloc, row)?;
-    size_terms(alloc, &mut terms)
+    let size = size_terms(alloc, &mut terms);
+    drop(terms);
+    size
 }

@@ -8,6 +8,7 @@ use anyhow::{Result, anyhow};
 use bitvectors::{Blasted, blast_reads};
 use plain_data::Items;
 use std::alloc::Global;
+use std::mem::drop;
 use term_bank::{Bank, Node};
 
 /// Puts the node of a number at the end.
@@ -52,7 +53,9 @@ pub fn blast_nodes(alloc: Global, bank: &mut Bank, numbers: &[u32]) -> Result<Bl
 {
     let nodes = nodes_of(alloc, bank, numbers)?;
     keeps_bank(bank);
-    match blast_reads(alloc, bank, nodes.as_slice())? {
+    let blasted = blast_reads(alloc, bank, nodes.as_slice());
+    drop(nodes);
+    match blasted? {
         Some(blasted) => Ok(blasted),
         None => Err(anyhow!("a node depends on more than the world")),
     }

@@ -10,8 +10,10 @@ use crate::terms::node_of;
 use anyhow::{Result, anyhow};
 use bitvectors::Blasted;
 use cdcl::Solver;
+use cnf_core::Assignment;
 use plain_data::Width;
 use std::alloc::Global;
+use std::mem::drop;
 use term_bank::{Bank, Connective, Node, Sort, WordTest};
 
 /// Whether the world's word at a place is 0 in its low byte.
@@ -51,14 +53,40 @@ fn chain_of(bank: &mut Bank, count: u32) -> Result<u32> {
     Ok(number)
 }
 
+/// The clauses of a chain over a bank.
+fn blast_chain_over(alloc: Global, bank: &mut Bank, count: u32) -> Result<Blasted>
+    ensures words { IfOk result (λ b. HasWidth 64 b.inputs.words) }
+    ensures bytes { IfOk result (λ b. HasWidth 8 b.inputs.bytes) }
+{
+    let root = chain_of(bank, count)?;
+    blast_nodes(alloc, bank, &[root])
+}
+
 /// The clauses of a chain.
 fn blast_chain(alloc: Global, count: u32) -> Result<Blasted>
     ensures words { IfOk result (λ b. HasWidth 64 b.inputs.words) }
     ensures bytes { IfOk result (λ b. HasWidth 8 b.inputs.bytes) }
 {
     let mut bank = Bank::new(alloc);
-    let root = chain_of(&mut bank, count)?;
-    blast_nodes(alloc, &mut bank, &[root])
+    let blasted = blast_chain_over(alloc, &mut bank, count);
+    drop(bank);
+    blasted
+}
+
+/// How many clauses there are, and how many words the world of a model has.
+fn count_words(
+    alloc: Global,
+    blasted: &Blasted,
+    clauses: usize,
+    values: &Assignment,
+) -> Result<String>
+    requires words { HasWidth 64 blasted.now.inputs.words }
+    requires bytes { HasWidth 8 blasted.now.inputs.bytes }
+{
+    let world = blasted.decode(alloc, values)?;
+    let words = world.words().count();
+    drop(world);
+    Ok(format!(in alloc; "{clauses} {words}\n")?)
 }
 
 /// The answer of a chain's clauses, by a solver that has none yet.
@@ -70,9 +98,9 @@ fn answer_solved(alloc: Global, blasted: &Blasted, solver: &mut Solver) -> Resul
     add_all(alloc, solver, &blasted.formula)?;
     match model_of(alloc, &blasted.formula, solver)? {
         Some(values) => {
-            let world = blasted.decode(alloc, &values)?;
-            let words = world.words().count();
-            Ok(format!(in alloc; "{clauses} {words}\n")?)
+            let counted = count_words(alloc, blasted, clauses, &values);
+            drop(values);
+            counted
         }
         None => Err(anyhow!("no model")),
     }
@@ -84,5 +112,6 @@ pub fn answer_chain(alloc: Global, count: u32) -> Result<String> {
     let mut solver = Solver::new(alloc);
     let answer = answer_solved(alloc, &blasted, &mut solver);
     solver.discard();
+    drop(blasted);
     answer
 }

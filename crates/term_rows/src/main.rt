@@ -21,6 +21,7 @@ use asking::{answer, size};
 use chains::answer_chain;
 use std::alloc::Global;
 use std::env;
+use std::mem::drop;
 
 /// What is asked of a row.
 #[derive(Clone, Copy)]
@@ -40,12 +41,25 @@ impl Row {
     }
 }
 
+/// Prints a text.
+fn print_text(rt: &impl Print, text: String) -> Result<()> {
+    let printed = print!(rt; "{text}");
+    drop(text);
+    printed?;
+    Ok(())
+}
+
+/// Answers a line.
+fn answer_line(rt: &(impl Print + AllocGlobal), row: Row, line: String) -> Result<()> {
+    let text = row.answer(rt.alloc(), line.as_str());
+    drop(line);
+    print_text(rt, text?)
+}
+
 /// Answers each line of standard input.
 fn answer_lines(rt: &(impl Input + Print + AllocGlobal), row: Row) -> Result<()> {
     for line in rt.lines(rt.alloc()) {
-        let line = line?;
-        let text = row.answer(rt.alloc(), line.as_str())?;
-        print!(rt; "{text}")?;
+        answer_line(rt, row, line?)?;
     }
     Ok(())
 }
@@ -53,8 +67,7 @@ fn answer_lines(rt: &(impl Input + Print + AllocGlobal), row: Row) -> Result<()>
 /// Answers a chain.
 fn print_chain(rt: &(impl Print + AllocGlobal), count: &str) -> Result<()> {
     let text = answer_chain(rt.alloc(), count.parse::<u32>()?)?;
-    print!(rt; "{text}")?;
-    Ok(())
+    print_text(rt, text)
 }
 
 /// Does what the words ask for.

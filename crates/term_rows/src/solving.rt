@@ -5,6 +5,7 @@ use cdcl::{Answer, MostMarked, Solver};
 use cnf_core::{Assignment, Clause, Formula, Lit, satisfies};
 use proof_check::{Checker, Refutation};
 use std::alloc::Global;
+use std::mem::drop;
 
 /// The most conflicts of a question.
 const CONFLICTS: u32 = 1_000_000;
@@ -34,8 +35,17 @@ fn as_model(formula: &Formula, values: Assignment) -> Result<Option<Assignment>>
     if satisfies(formula, &values) {
         Ok(Some(values))
     } else {
+        drop(values);
         Err(anyhow!("no model"))
     }
+}
+
+/// Whether the checker accepts a refutation of a formula.
+fn check(alloc: Global, formula: &Formula, refutation: &Refutation) -> Result<()> {
+    let mut checker = Checker::with_room(alloc, formula, refutation)?;
+    let checked = checker.check(formula, refutation);
+    drop(checker);
+    Ok(checked?)
 }
 
 /// That a formula has no model, by a refutation that the checker accepts.
@@ -44,9 +54,9 @@ fn as_no_model(
     formula: &Formula,
     refutation: Refutation,
 ) -> Result<Option<Assignment>> {
-    let mut checker = Checker::with_room(alloc, formula, &refutation)?;
-    checker.check(formula, &refutation)?;
-    Ok(None)
+    let checked = check(alloc, formula, &refutation);
+    drop(refutation);
+    checked.and(Ok(None))
 }
 
 /// What the answer of a question that assumes nothing comes to.

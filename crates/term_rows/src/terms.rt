@@ -7,6 +7,7 @@ use anyhow::{Result, anyhow};
 use mem_terms::{initial, read};
 use plain_data::{Width, wrap};
 use std::alloc::Global;
+use std::mem::drop;
 use std::str::SplitWhitespace;
 use term_bank::{Bank, Connective, Extension, Node, Sort, WordOperator, WordTest};
 
@@ -165,13 +166,19 @@ fn make(bank: &mut Bank, form: Form, numbers: &[u32], operands: &[u64]) -> Resul
     }
 }
 
-/// The numbers that words write.
-fn operands_of(alloc: Global, words: SplitWhitespace<'_>) -> Result<Vec<u64>> {
-    let mut operands = Vec::new(alloc);
+/// Puts the numbers that words write at the end.
+fn push_operands(operands: &mut Vec<u64>, words: SplitWhitespace<'_>) -> Result<()> {
     for word in words {
         operands.push(word.parse::<u64>()?)?;
     }
-    Ok(operands)
+    Ok(())
+}
+
+/// The numbers that words write.
+fn operands_of(alloc: Global, words: SplitWhitespace<'_>) -> Result<Vec<u64>> {
+    let mut operands = Vec::new(alloc);
+    let pushed = push_operands(&mut operands, words);
+    pushed.and(Ok(operands))
 }
 
 impl Terms {
@@ -194,14 +201,20 @@ impl Terms {
         Ok(())
     }
 
-    /// The numbers in the bank of the root, and of the nodes that are to be something.
-    pub fn roots(&self, alloc: Global) -> Result<Vec<u32>> {
-        let mut roots = Vec::new(alloc);
+    /// Puts the numbers in the bank of the root, and of the nodes that are to be something, at the end.
+    fn push_roots(&self, roots: &mut Vec<u32>) -> Result<()> {
         roots.push(self.numbers.last().copied().ok_or(anyhow!("no node"))?)?;
         for wish in &self.wishes {
             roots.push(wish.number)?;
         }
-        Ok(roots)
+        Ok(())
+    }
+
+    /// The numbers in the bank of the root, and of the nodes that are to be something.
+    pub fn roots(&self, alloc: Global) -> Result<Vec<u32>> {
+        let mut roots = Vec::new(alloc);
+        let pushed = self.push_roots(&mut roots);
+        pushed.and(Ok(roots))
     }
 }
 
@@ -210,7 +223,17 @@ fn take_statement(alloc: Global, terms: &mut Terms, statement: &str) -> Result<(
     let mut words = statement.split_whitespace();
     let name = words.next().unwrap_or("");
     let operands = operands_of(alloc, words)?;
-    terms.take(name, &operands)
+    let taken = terms.take(name, &operands);
+    drop(operands);
+    taken
+}
+
+/// Does what the statements of a row say.
+fn take_statements(alloc: Global, terms: &mut Terms, row: &str) -> Result<()> {
+    for statement in row.split(';') {
+        take_statement(alloc, terms, statement)?;
+    }
+    Ok(())
 }
 
 /// The terms of a row.
@@ -220,8 +243,6 @@ pub fn read_terms(alloc: Global, row: &str) -> Result<Terms> {
         numbers: Vec::new(alloc),
         wishes: Vec::new(alloc),
     };
-    for statement in row.split(';') {
-        take_statement(alloc, &mut terms, statement)?;
-    }
-    Ok(terms)
+    let taken = take_statements(alloc, &mut terms, row);
+    taken.and(Ok(terms))
 }
