@@ -22,7 +22,6 @@ pub struct NameAt {
 /// The names that a tree uses and declares, the declarations that bind uses inside it, and its string literals; the
 /// tags without a list, which declare themselves where nothing else is declared (C99 6.7.2.3p7); and of a declarator
 /// its name, whether it derives a type, and what the parameters next to its name declare.
-#[derive(Drop)]
 pub struct Found {
     pub uses: Stack<Word>,
     pub declares: Stack<Binding>,
@@ -32,6 +31,22 @@ pub struct Found {
     pub named: Option<NameAt>,
     pub is_derived: bool,
     pub parameters: Stack<Binding>,
+}
+
+/// By hand, so that a call stands in place of all its parts wherever a value is let go.
+impl Drop for Found {
+    fn drop(self) {
+        let Found {
+            uses,
+            declares,
+            bound,
+            literals,
+            refers,
+            named,
+            is_derived,
+            parameters,
+        } = self;
+    }
 }
 
 impl Model for Found {

@@ -44,11 +44,17 @@ impl HasName for Linked {
 }
 
 /// Named values, the last one last, which contracts see as their list.
-#[derive(Drop)]
 pub struct Named<T: HasName> {
     alloc: Global,
     items: Vec<Shared<T>>,
     last: HashMap<Vec<u8>, Shared<T>>,
+}
+
+/// By hand, so that a call stands in place of all its parts wherever a value is let go.
+impl<T: HasName + Drop> Drop for Named<T> {
+    fn drop(self) {
+        let Named { alloc, items, last } = self;
+    }
 }
 
 impl<T: HasName> Model for Named<T> {

@@ -12,10 +12,16 @@ use std::alloc::{AllocError, Global};
 use std::marker::Model;
 
 /// What one block declares, or the file.
-#[derive(Drop)]
 pub struct Block {
     entries: Named<Entry>,
     tags: Named<Tag>,
+}
+
+/// By hand, so that a call stands in place of all its parts wherever a value is let go.
+impl Drop for Block {
+    fn drop(self) {
+        let Block { entries, tags } = self;
+    }
 }
 
 impl Model for Block {
@@ -139,7 +145,6 @@ fn copied_name(name: &Option<Name>) -> Result<Option<Name>, AllocError>
 }
 
 /// The names in force, and the tables of types, which stay when a block is left.
-#[derive(Drop)]
 pub struct Scope {
     alloc: Global,
     file: Block,
@@ -147,6 +152,20 @@ pub struct Scope {
     linked: Named<Linked>,
     function: Option<Name>,
     pub(crate) tables: Tables,
+}
+
+/// By hand, so that a call stands in place of all its parts wherever a value is let go.
+impl Drop for Scope {
+    fn drop(self) {
+        let Scope {
+            alloc,
+            file,
+            blocks,
+            linked,
+            function,
+            tables,
+        } = self;
+    }
 }
 
 impl Model for Scope {

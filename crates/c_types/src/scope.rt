@@ -16,11 +16,21 @@ use std::mem;
 /// The names in force and the tables of types. What fails for want of memory leaves them as they were: it is done to a
 /// second copy first, which takes the place of the first where that succeeds, and then to the other. So a declaration
 /// takes twice its time and memory, and one behind a failure copies what is in force first.
-#[derive(Drop)]
 pub struct Scope {
     alloc: Global,
     names: Names,
     spare: Option<Names>,
+}
+
+/// By hand, so that a call stands in place of all its parts wherever a value is let go.
+impl Drop for Scope {
+    fn drop(self) {
+        let Scope {
+            alloc,
+            names,
+            spare,
+        } = self;
+    }
 }
 
 impl Model for Scope {

@@ -7,9 +7,15 @@ use plain_data::Items;
 use std::marker::Model;
 
 /// A truth value for each variable, at the variable's number; a variable past the end is false.
-#[derive(Drop)]
 pub struct Assignment {
     values: Items<bool>,
+}
+
+/// By hand, so that a call stands in place of all its parts wherever a value is let go.
+impl Drop for Assignment {
+    fn drop(self) {
+        let Assignment { values } = self;
+    }
 }
 
 impl Model for Assignment {

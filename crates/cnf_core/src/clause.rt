@@ -6,9 +6,15 @@ use std::alloc::{AllocError, Global};
 use std::marker::Model;
 
 /// A disjunction of literals, in order; a literal may stand in it more than once.
-#[derive(Drop)]
 pub struct Clause {
     literals: Items<Lit>,
+}
+
+/// By hand, so that a call stands in place of all its parts wherever a value is let go.
+impl Drop for Clause {
+    fn drop(self) {
+        let Clause { literals } = self;
+    }
 }
 
 impl Model for Clause {

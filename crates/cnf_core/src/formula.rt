@@ -9,9 +9,15 @@ use std::marker::Model;
 /// A conjunction of clauses. They are numbered from 1: the clause number `n` stands at index `n - 1`.
 ///
 /// A clause costs a word beside its literals, and no allocation of its own.
-#[derive(Drop)]
 pub struct Formula {
     clauses: Rows<Lit>,
+}
+
+/// By hand, so that a call stands in place of all its parts wherever a value is let go.
+impl Drop for Formula {
+    fn drop(self) {
+        let Formula { clauses } = self;
+    }
 }
 
 impl Model for Formula {

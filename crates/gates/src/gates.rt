@@ -35,12 +35,23 @@ impl From<AllocError> for BlastFault {
 
 /// Clauses that define variables from 1 on by earlier ones, and a table of the gates that were made. Contracts see the
 /// clauses and the number of variables.
-#[derive(Drop)]
 pub struct Gates {
     alloc: Global,
     formula: Formula,
     count: u32,
     table: HashMap<Cell, u32>,
+}
+
+/// By hand, so that a call stands in place of all its parts wherever a value is let go.
+impl Drop for Gates {
+    fn drop(self) {
+        let Gates {
+            alloc,
+            formula,
+            count,
+            table,
+        } = self;
+    }
 }
 
 impl Model for Gates {

@@ -20,7 +20,6 @@ pub struct Aside {
 
 /// Where code led so far, what was set aside where the innermost part of it was entered, and the same of the parts
 /// round it.
-#[derive(Drop)]
 pub struct Course {
     /// Where it led so far.
     pub at: Flow,
@@ -30,6 +29,18 @@ pub struct Course {
     pub starts: Positions,
     /// What was set aside for the parts round it, the last behind.
     pub outer: Items<Aside>,
+}
+
+/// By hand, so that a call stands in place of all its parts wherever a value is let go.
+impl Drop for Course {
+    fn drop(self) {
+        let Course {
+            at,
+            passing,
+            starts,
+            outer,
+        } = self;
+    }
 }
 
 /// Whether each position of a set is in another.
@@ -61,7 +72,13 @@ impl Course {
     pub fn into_flow(self) -> Flow
         ensures { result ≡ self.at }
     {
-        self.at
+        let Course {
+            at,
+            passing,
+            starts,
+            outer,
+        } = self;
+        at
     }
 
     /// Runs that are running enter a part; the others pass it. It fails for want of memory alone.

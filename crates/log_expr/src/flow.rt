@@ -12,7 +12,6 @@ use positions::Positions;
 use std::alloc::{AllocError, Global};
 
 /// Positions at which a run may stand, by where it stands between two steps.
-#[derive(Drop)]
 pub struct Flow {
     /// What comes next runs.
     pub running: Positions,
@@ -28,6 +27,21 @@ pub struct Flow {
     pub choosing: Positions,
     /// The run has ended.
     pub ended: Positions,
+}
+
+/// By hand, so that a call stands in place of all its parts wherever a value is let go.
+impl Drop for Flow {
+    fn drop(self) {
+        let Flow {
+            running,
+            breaking,
+            continuing,
+            returning,
+            going,
+            choosing,
+            ended,
+        } = self;
+    }
 }
 
 impl Flow {
@@ -56,9 +70,18 @@ impl Flow {
     pub fn into_ends(self) -> Ends
         ensures { result ≡ record { back = self.running; ended = self.ended } }
     {
+        let Flow {
+            running,
+            breaking,
+            continuing,
+            returning,
+            going,
+            choosing,
+            ended,
+        } = self;
         Ends {
-            back: self.running,
-            ended: self.ended,
+            back: running,
+            ended,
         }
     }
 

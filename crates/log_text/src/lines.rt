@@ -12,10 +12,16 @@ pub const MAX_LOG_BYTES: usize = 65_536;
 /// A stripped log, with the first position of each line. Contracts see it as its bytes.
 ///
 /// A line ends after a newline; a last piece without one is a line where it isn't empty.
-#[derive(Drop)]
 pub struct LogText {
     bytes: Bytes,
     starts: Items<u32>,
+}
+
+/// By hand, so that a call stands in place of all its parts wherever a value is let go.
+impl Drop for LogText {
+    fn drop(self) {
+        let LogText { bytes, starts } = self;
+    }
 }
 
 impl Model for LogText {

@@ -15,7 +15,6 @@ pub struct Number {
 
 /// Where runs stand in those worlds in which the guard is true: the kind of state, the value that a `return` gave, the
 /// position in the log, the memory, what happened, and the operands that an expression waits for, the last one on top.
-#[derive(Drop)]
 pub struct State {
     pub guard: Node,
     pub kind: StateKind,
@@ -24,6 +23,21 @@ pub struct State {
     pub memory: Node,
     pub events: Node,
     pub operands: Items<Number>,
+}
+
+/// By hand, so that a call stands in place of all its parts wherever a value is let go.
+impl Drop for State {
+    fn drop(self) {
+        let State {
+            guard,
+            kind,
+            value,
+            position,
+            memory,
+            events,
+            operands,
+        } = self;
+    }
 }
 
 /// What states become in an expression: those that go on, and those in which the run has ended.

@@ -7,9 +7,16 @@ use std::marker::Model;
 use std::slice::Iter;
 
 /// A `Vec` that contracts see as the list of its items, with no capacity and no pointer.
-#[derive(Debug, Drop)]
+#[derive(Debug)]
 pub struct Items<T> {
     items: Vec<T>,
+}
+
+/// By hand, so that where a value of a type with items is let go, a call stands in place of all that a `Vec` holds.
+impl<T: Drop> Drop for Items<T> {
+    fn drop(self) {
+        let Items { items } = self;
+    }
 }
 
 impl<T> Model for Items<T> {

@@ -6,10 +6,16 @@ use std::alloc::{AllocError, Global};
 use std::marker::Model;
 
 /// A list of lists in two allocations: the items of all rows, and where each row ends.
-#[derive(Drop)]
 pub struct Rows<T> {
     items: Vec<T>,
     ends: Vec<usize>,
+}
+
+/// By hand, so that where they are let go, a call stands in place of all that two `Vec`s hold.
+impl<T: Drop> Drop for Rows<T> {
+    fn drop(self) {
+        let Rows { items, ends } = self;
+    }
 }
 
 impl<T> Model for Rows<T> {

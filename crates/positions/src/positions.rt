@@ -6,9 +6,15 @@ use std::alloc::{AllocError, Global};
 use std::marker::Model;
 
 /// A set of positions. Contracts see the list of them, in ascending order.
-#[derive(Drop)]
 pub struct Positions {
     items: Vec<usize>,
+}
+
+/// By hand, so that a call stands in place of all its parts wherever a value is let go.
+impl Drop for Positions {
+    fn drop(self) {
+        let Positions { items } = self;
+    }
 }
 
 impl Model for Positions {

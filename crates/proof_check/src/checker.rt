@@ -26,9 +26,15 @@ pub enum RoomFault {
 }
 
 /// The room that a check needs, seen as the variables that it is for.
-#[derive(Drop)]
 pub struct Checker {
     marks: Marks,
+}
+
+/// By hand, so that a call stands in place of all its parts wherever a value is let go.
+impl Drop for Checker {
+    fn drop(self) {
+        let Checker { marks } = self;
+    }
 }
 
 impl Model for Checker {

@@ -24,10 +24,16 @@ impl<'a> Model for Step<'a> {
 }
 
 /// A list of steps, with no allocation of its own for a step.
-#[derive(Drop)]
 pub struct Steps {
     clauses: Rows<Lit>,
     hints: Rows<u32>,
+}
+
+/// By hand, so that a call stands in place of all its parts wherever a value is let go.
+impl Drop for Steps {
+    fn drop(self) {
+        let Steps { clauses, hints } = self;
+    }
 }
 
 impl Model for Steps {
@@ -99,9 +105,15 @@ impl Steps {
 }
 
 /// Steps that are to end in the empty clause.
-#[derive(Drop)]
 pub struct Refutation {
     steps: Steps,
+}
+
+/// By hand, so that a call stands in place of all its parts wherever a value is let go.
+impl Drop for Refutation {
+    fn drop(self) {
+        let Refutation { steps } = self;
+    }
 }
 
 impl Model for Refutation {

@@ -4,9 +4,16 @@ use std::alloc::{AllocError, Global};
 use std::marker::Model;
 
 /// A text that contracts see as its bytes: the name of a file, a pattern.
-#[derive(Debug, Drop)]
+#[derive(Debug)]
 pub struct Name {
     text: String,
+}
+
+/// By hand, so that a call stands in place of all its parts wherever a value is let go.
+impl Drop for Name {
+    fn drop(self) {
+        let Name { text } = self;
+    }
 }
 
 impl Model for Name {
