@@ -9,7 +9,6 @@ use plain_data::{Items, Shared};
 
 /// A source that breaks no rule, with what is known of functions besides, and its core: that has the source's run in
 /// every world and bounds, its size and its room, and its functions that are reached, with what stands at their tokens.
-#[derive(Drop)]
 pub struct Accepted {
     pub externals: Items<Shared<External>>,
     pub profile: Profile,
@@ -17,6 +16,17 @@ pub struct Accepted {
     pub ghost kept: { IsAcceptedSource externals profile },
     pub ghost has_its_runs: { HasItsRuns externals profile core },
     pub ghost has_its_functions: { HasItsFunctions externals profile core },
+}
+
+/// By hand, so that a call stands in place of all its parts wherever a value is let go.
+impl Drop for Accepted {
+    fn drop(self) {
+        let Accepted {
+            externals,
+            profile,
+            core,
+        } = self;
+    }
 }
 
 /// Lets a source go that has no program. Who calls this has no proof of how whole trees are let go.

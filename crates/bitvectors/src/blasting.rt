@@ -18,7 +18,6 @@ use std::collections::HashMap;
 use term_bank::{Bank, Node, Shape, nodes_under};
 
 /// A formula, and what its variables stand for.
-#[derive(Drop)]
 pub struct Blasted {
     /// Its models are the environments.
     pub formula: Formula,
@@ -30,6 +29,19 @@ pub struct Blasted {
     pub(crate) signals: HashMap<u32, Items<Bit>>,
     /// How many variables there are.
     pub(crate) count: u32,
+}
+
+/// By hand, so that a call stands in place of all its parts wherever a value is let go.
+impl Drop for Blasted {
+    fn drop(self) {
+        let Blasted {
+            formula,
+            roots,
+            inputs,
+            signals,
+            count,
+        } = self;
+    }
 }
 
 /// The bits of a node whose parts have bits: those that are known, or new ones.

@@ -15,7 +15,6 @@ use std::alloc::{AllocError, Global};
 use term_bank::{Bank, Node};
 
 /// What is put behind a formula for more roots.
-#[derive(Drop)]
 pub struct More {
     /// The clauses.
     pub formula: Formula,
@@ -23,6 +22,17 @@ pub struct More {
     pub roots: Rows<Bit>,
     /// All words and initial bytes of the world, the formula's too.
     pub inputs: Inputs,
+}
+
+/// By hand, so that a call stands in place of all its parts wherever a value is let go.
+impl Drop for More {
+    fn drop(self) {
+        let More {
+            formula,
+            roots,
+            inputs,
+        } = self;
+    }
 }
 
 /// The clauses of a formula from an index on.

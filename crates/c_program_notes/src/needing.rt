@@ -29,11 +29,21 @@ impl Model for Text {
 }
 
 /// The names of functions and objects with linkage, the objects, and the string literals, in the order of the source.
-#[derive(Drop)]
 pub struct Needs {
     pub links: Items<Name>,
     pub lasting: Items<LastingNote>,
     pub texts: Items<Text>,
+}
+
+/// By hand, so that a call stands in place of all its parts wherever a value is let go.
+impl Drop for Needs {
+    fn drop(self) {
+        let Needs {
+            links,
+            lasting,
+            texts,
+        } = self;
+    }
 }
 
 fn no_needs(alloc: Global) -> Needs

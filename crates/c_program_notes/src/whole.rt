@@ -24,13 +24,25 @@ use std::alloc::{AllocError, Global};
 /// A source that was read once: what is noted of its external declarations; the functions that are reached and the
 /// words that are needed, the last found first; what lives throughout the run, and the places of all that may (C99
 /// 6.9).
-#[derive(Drop)]
 pub struct Overview {
     pub program: ProgramNotes,
     pub reached: Items<Shared<FunctionNotes>>,
     pub words: Items<Word>,
     pub needs: Needs,
     pub places: PlaceTable,
+}
+
+/// By hand, so that a call stands in place of all its parts wherever a value is let go.
+impl Drop for Overview {
+    fn drop(self) {
+        let Overview {
+            program,
+            reached,
+            words,
+            needs,
+            places,
+        } = self;
+    }
 }
 
 impl Overview {

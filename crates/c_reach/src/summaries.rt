@@ -10,7 +10,6 @@ use c_type_scope::HasName;
 /// A function definition (C99 6.9.1): the offset of its name's first declaration, how many parameters it has, the `{`
 /// of a body that couldn't be read, whether its type is one that `main` may have (C99 5.1.2.2.1p1), what is noted of
 /// its body, and the names that it uses, declares and binds, with its string literals.
-#[derive(Drop)]
 pub struct FunctionNotes {
     pub at: u32,
     pub name: Name,
@@ -19,6 +18,21 @@ pub struct FunctionNotes {
     pub is_main: bool,
     pub body: ItemNotes,
     pub names: Names,
+}
+
+/// By hand, so that a call stands in place of all its parts wherever a value is let go.
+impl Drop for FunctionNotes {
+    fn drop(self) {
+        let FunctionNotes {
+            at,
+            name,
+            parameters,
+            unread,
+            is_main,
+            body,
+            names,
+        } = self;
+    }
 }
 
 impl HasName for FunctionNotes {

@@ -135,7 +135,12 @@ impl Gates {
     pub fn into_formula(self) -> Formula
         ensures { result ≡ self.clauses }
     {
-        let Gates { formula, .. } = self;
+        let Gates {
+            alloc,
+            formula,
+            count,
+            table,
+        } = self;
         formula
     }
 

@@ -14,7 +14,6 @@ use std::alloc::{AllocError, Global};
 use std::collections::HashMap;
 
 /// Rows, and conditions on those whose keys may be equal.
-#[derive(Drop)]
 pub struct Table {
     /// How many bits a value has.
     pub bits: u32,
@@ -25,6 +24,19 @@ pub struct Table {
     /// Bits that are true where the rows are those of one function.
     pub conditions: Items<Bit>,
     index: HashMap<u64, usize>,
+}
+
+/// By hand, so that a call stands in place of all its parts wherever a value is let go.
+impl Drop for Table {
+    fn drop(self) {
+        let Table {
+            bits,
+            fixed,
+            free,
+            conditions,
+            index,
+        } = self;
+    }
 }
 
 /// Lets a known key be met at an index.

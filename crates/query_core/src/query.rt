@@ -28,7 +28,6 @@ use std::alloc::{AllocError, Global};
 use term_bank::{Bank, Node};
 
 /// The clauses that say that a run fits, with the bit of each fact, and a solver over them for all questions on facts.
-#[derive(Drop)]
 pub struct Query {
     /// The clauses of the roots: that the run fits, and each fact, in order.
     pub(crate) blasted: Blasted,
@@ -41,6 +40,20 @@ pub struct Query {
     pub(crate) bank: Option<Bank>,
     /// The literals of questions on values that were made.
     pub(crate) others: Items<Other>,
+}
+
+/// By hand, so that a call stands in place of all its parts wherever a value is let go.
+impl Drop for Query {
+    fn drop(self) {
+        let Query {
+            blasted,
+            solver,
+            last,
+            formula,
+            bank,
+            others,
+        } = self;
+    }
 }
 
 /// The truths that a query is asked: that the run fits, and each fact.

@@ -25,7 +25,6 @@ use std::alloc::Global;
 use term_bank::{Bank, BankFault, Node};
 
 /// What is said of a program's run in every world, by truths over the world alone.
-#[derive(Drop)]
 pub struct RunFormula {
     /// The run fits the log: it prints exactly the log, and stays within the bounds.
     pub fits: Node,
@@ -39,6 +38,20 @@ pub struct RunFormula {
     pub(crate) states: Items<State>,
     /// The log.
     pub(crate) log: LogText,
+}
+
+/// By hand, so that a call stands in place of all its parts wherever a value is let go.
+impl Drop for RunFormula {
+    fn drop(self) {
+        let RunFormula {
+            fits,
+            left,
+            facts,
+            watches,
+            states,
+            log,
+        } = self;
+    }
 }
 
 /// The answers on all facts, in order. It fails for want of memory alone.

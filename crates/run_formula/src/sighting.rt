@@ -18,10 +18,16 @@ use std::collections::HashMap;
 use term_bank::{Bank, BankFault, Node, Shape, Sort};
 
 /// Lists of numbers, each the numbers of a node, and the truths that they are shown, in one order.
-#[derive(Drop)]
 pub(crate) struct Sightings {
     pub(crate) lists: Items<u32>,
     pub(crate) truths: Items<Node>,
+}
+
+/// By hand, so that a call stands in place of all its parts wherever a value is let go.
+impl Drop for Sightings {
+    fn drop(self) {
+        let Sightings { lists, truths } = self;
+    }
 }
 
 /// A watched variable along a log, and the lists of numbers that are looked for.
