@@ -10,7 +10,7 @@ for tool in cc python3; do
         exit 0
     fi
 done
-program=$(tools/program.sh type_rows) || exit 1
+program=$(tools/program.sh rows) || exit 1
 folder=$(mktemp -d)
 trap 'rm -rf "$folder"' EXIT
 sources=15

@@ -1,5 +1,5 @@
 #!/usr/bin/env python3
-"""Compares what `table_rows` answers of programs with rows that were worked out by hand.
+"""Compares what `rows` answers of programs with rows that were worked out by hand.
 
     program_rows.py PROGRAM ROWS      the head of checks/program_rows.txt says what a row is
 """

@@ -8,5 +8,5 @@ if ! command -v python3 >/dev/null; then
     echo "programs: skipped, there is no python3"
     exit 0
 fi
-program=${1:-$(tools/program.sh table_rows)} || exit 1
+program=${1:-$(tools/program.sh rows)} || exit 1
 exec python3 checks/program_rows.py "$program" checks/program_rows.txt

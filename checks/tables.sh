@@ -1,18 +1,17 @@
 #!/usr/bin/env bash
 # Compares the answers to the tables of checks/rows with those that stand in them. A folder's name says what its rows
-# are. In a table the lines of a row begin with `>`, and its answer follows: `crates/rows/src/tables.rt` says more.
+# are. In a table the lines of a row begin with `>`, and its answer follows: `crates/text_rows/src/tables.rt` says more.
 # The answers are not the programs' own: they were worked out by hand.
 set -u
 cd "$(dirname "$0")/.." || exit 2
 program=$(tools/program.sh rows) || exit 1
-types=$(tools/program.sh type_rows) || exit 1
 
-# Prints the answer of `type_rows` to a source, where there is one.
+# Prints the answer to a source, where there is one.
 answer_source() {
-    [ -z "$2" ] || printf '%s' "$2" | "$types" "$1"
+    [ -z "$2" ] || printf '%s' "$2" | "$program" "$1"
 }
 
-# Prints a table with its answers as they are now, where each row is a source for `type_rows`.
+# Prints a table with its answers as they are now, where each row is a source.
 answer_sources() {
     local line source=
     while IFS= read -r line; do

@@ -1,5 +1,5 @@
 #!/usr/bin/env python3
-"""Rows of terms for the program `term_rows`, beside what they are worth, worked out here by Python's integers.
+"""Rows of terms for the program `rows`, beside what they are worth, worked out here by Python's integers.
 
     terms.py PROGRAM [SHARE]      asks the rows; where SHARE is given, one in so many
     terms.py sizes                prints a row for each circuit of solver_instances.c, behind its name and a space
@@ -348,7 +348,7 @@ def rows_of(share):
 def is_answered(program, name, rows):
     """Asks the program rows, and prints whether the answers are right."""
     text = "".join(text_of(row) + "\n" for row, _ in rows)
-    told = subprocess.run([program, "values"], input=text, capture_output=True, text=True)
+    told = subprocess.run([program, "terms"], input=text, capture_output=True, text=True)
     answers = told.stdout.splitlines()
     if len(answers) != len(rows):
         print(f"terms: {name}: {len(answers)} answers to {len(rows)} rows: {told.stderr.strip()}")

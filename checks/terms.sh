@@ -10,7 +10,7 @@ if ! command -v cc >/dev/null || ! command -v python3 >/dev/null; then
     echo "terms: skipped, there is no cc or no python3"
     exit 0
 fi
-program=${1:-$(tools/program.sh term_rows)} || exit 1
+program=${1:-$(tools/program.sh rows)} || exit 1
 folder=$(mktemp -d)
 trap 'rm -rf "$folder"' EXIT
 failed=0

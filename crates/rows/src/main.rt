@@ -1,85 +1,38 @@
-//! Answers rows of standard input, for comparison with outside tools and with tables.
+//! Answers rows and sources in standard input, for comparison with tables and with outside tools. The first word says
+//! which:
 //!
-//! - `words`, `texts`, `splits`: each line is a row, and is answered by a line (the modules of these names).
-//! - `table WORD`: the rows of a table are answered, each as the module `tables` says of the word.
-//! - `tree`: the text of the tree of a preprocessed source (`trees`).
-//! - `check`: whether a refutation is accepted; with `--times` also, on standard error, how long parsing and checking
-//!   took.
-//! - `solve CONFLICTS`, `solve_least CONFLICTS`: the answers to questions about a formula (`solving`), where what is decided
-//!   is the open variable that is most marked, or the least one.
+//! - `words`, `texts`, `splits`, `table`, `tree`, `check`, `solve`, `solve_least`: those of `text_rows`;
+//! - `types`, `layouts`: what declarations say (`type_rows`);
+//! - `terms`, `sizes`, `chain`: terms by their clauses (`term_rows`);
+//! - `ends`, `count`, `facts`, `lines`, `sites`, `values`, `clauses`, `observations`, `walks`, `nodes`: what is found of a
+//!   program along a log (`table_rows`), with 8 turns and 8 levels where no words say how many.
 #![tactic(auto)]
 
-mod checking;
-mod formulas;
-mod lexing;
-mod meeting;
-mod reading;
-mod solving;
-mod splits;
-mod tables;
-mod texts;
-mod trees;
-mod words;
-
 use anyhow::{Result, anyhow};
-use cdcl::{LeastOpen, MostMarked};
-use std::alloc::Global;
 use std::env;
-use std::io::{self, Read, Write};
-use tables::Row;
 
-/// Answers each line of standard input.
-fn answer_lines(rt: &(impl Input + Print + AllocGlobal), row: Row) -> Result<()> {
-    for line in rt.lines(rt.alloc()) {
-        let line = line?;
-        let answer = row.answer(rt.alloc(), line.as_str())?;
-        print!(rt; "{answer}")?;
-    }
-    Ok(())
-}
-
-/// Prints the tree of the source in standard input.
-fn print_tree(rt: &(impl Input + Print + AllocGlobal)) -> Result<()> {
-    let mut source = Vec::new(rt.alloc());
-    rt.reader().read_to_end(&mut source)?;
-    let text = trees::text_of(rt.alloc(), source.as_slice())?;
-    io::writer(rt).write_all(text.as_slice())?;
-    Ok(())
-}
-
-/// Does what the words ask for.
-fn run(rt: &HostRuntime, word: &str, second: &str) -> Result<()> {
+/// Answers what the first word asks for; what the others say is said with it.
+fn run(rt: &HostRuntime, word: &str, second: Option<&str>, third: Option<&str>) -> Result<()> {
     match word {
-        "words" => answer_lines(rt, Row::Words),
-        "texts" => answer_lines(rt, Row::Texts),
-        "splits" => answer_lines(rt, Row::Splits),
-        "tree" => print_tree(rt),
-        "table" => {
-            let row = Row::named(second).ok_or(anyhow!("no such table"))?;
-            let text = io::read_to_string(rt.alloc(), rt.stdin())?;
-            tables::answer_all(rt, rt.alloc(), row, &text)
-        }
-        "check" => {
-            let text = io::read_to_string(rt.alloc(), rt.stdin())?;
-            checking::check(rt, rt.alloc(), &text, second == "--times")
-        }
-        "solve" => {
-            let text = io::read_to_string(rt.alloc(), rt.stdin())?;
-            solving::solve(rt, rt.alloc(), &MostMarked, &text, second.parse::<u32>()?)
-        }
-        "solve_least" => {
-            let text = io::read_to_string(rt.alloc(), rt.stdin())?;
-            solving::solve(rt, rt.alloc(), &LeastOpen, &text, second.parse::<u32>()?)
-        }
-        _ => Err(anyhow!("no such rows")),
+        "types" | "layouts" => type_rows::answer(rt, word),
+        "terms" | "sizes" | "chain" => term_rows::answer(rt, word, second.unwrap_or("")),
+        "ends"
+        | "count"
+        | "facts"
+        | "lines"
+        | "sites"
+        | "values"
+        | "clauses"
+        | "observations"
+        | "walks"
+        | "nodes" => { table_rows::answer(rt, word, second.unwrap_or("8"), third.unwrap_or("8")) }
+        _ => text_rows::answer(rt, word, second.unwrap_or("")),
     }
 }
 
 fn main(rt: HostRuntime) -> Result<()> {
     let mut words = env::args(&rt)?.skip(1);
-    let first = words.next().ok_or(anyhow!("no word"))?;
-    match words.next() {
-        Some(second) => run(&rt, &first, &second),
-        None => run(&rt, &first, ""),
-    }
+    let word = words.next().ok_or(anyhow!("no word"))?;
+    let (second, third) = (words.next(), words.next());
+    run(&rt, &word, second.as_deref(), third.as_deref())
 }

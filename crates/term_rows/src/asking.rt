@@ -250,7 +250,7 @@ fn answer_terms(alloc: Global, terms: &mut Terms) -> Result<String> {
 }
 
 /// The answer to a row.
-pub fn answer(alloc: Global, row: &str) -> Result<String> {
+pub fn worth(alloc: Global, row: &str) -> Result<String> {
     let mut terms = read_terms(alloc, row)?;
     let answer = answer_terms(alloc, &mut terms);
     drop(terms);

@@ -1,5 +1,5 @@
-//! Answers what is found of a program along a log, for comparison with rows that were worked out by hand. Standard
-//! input has a preprocessed source, a byte 0, and a log.
+//! What is found of a program along a log, for comparison with rows that were worked out by hand. Standard input has a
+//! preprocessed source, a byte 0, and a log.
 //!
 //! - `ends`: the table of ends (`ends`). `count`: how many keys it has, and how many ends.
 //! - `facts`, `lines`: the facts along the log, without and with those of each line, and the watched variables
@@ -12,7 +12,7 @@
 //!   bits each number has that some print sees, and whether it is read with its sign (`observations`).
 //! - `walks`: how many bodies are walked. `nodes`: behind that, how many nodes the formula of the runs has (`walks`).
 //!
-//! A second word says how many turns a loop may take, a third how many levels of calls there may be.
+//! Further words say how many turns a loop may take, and how many levels of calls there may be.
 #![tactic(auto)]
 
 mod ends;
@@ -35,7 +35,6 @@ use plain_data::{Bounds, Bytes};
 use program_facts::facts_of;
 use sites::put_sites;
 use std::alloc::Global;
-use std::env;
 use std::io::{self, Read, Write};
 use values::{Asked, put_clauses, put_values};
 use walks::put_walks;
@@ -143,7 +142,7 @@ fn found(
 }
 
 /// The answer to a source and a log.
-fn answer(alloc: Global, word: &str, bounds: &Bounds, input: &[u8]) -> Result<Bytes> {
+fn answered(alloc: Global, word: &str, bounds: &Bounds, input: &[u8]) -> Result<Bytes> {
     let (source, log) = split(input)?;
     let program = program_of(alloc, source)?;
     let text = found(alloc, word, &program, log, bounds);
@@ -151,22 +150,17 @@ fn answer(alloc: Global, word: &str, bounds: &Bounds, input: &[u8]) -> Result<By
     text
 }
 
-/// Answers the source and the log in standard input.
-fn run(rt: &HostRuntime, word: &str, turns: &str, depth: &str) -> Result<()> {
+/// Answers the source and the log in standard input as a word asks, with so many turns of a loop and levels of calls.
+pub fn answer(
+    rt: &(impl Input + Print + AllocGlobal),
+    word: &str,
+    turns: &str,
+    depth: &str,
+) -> Result<()> {
     let bounds = bounds_of(turns.parse::<u32>()?, depth.parse::<u32>()?)?;
     let mut input = Vec::new(rt.alloc());
     rt.reader().read_to_end(&mut input)?;
-    let text = answer(rt.alloc(), word, &bounds, input.as_slice())?;
+    let text = answered(rt.alloc(), word, &bounds, input.as_slice())?;
     io::writer(rt).write_all(text.as_slice())?;
     Ok(())
-}
-
-fn main(rt: HostRuntime) -> Result<()> {
-    let mut words = env::args(&rt)?.skip(1);
-    let word = words.next().ok_or(anyhow!("no word"))?;
-    match (words.next(), words.next()) {
-        (Some(turns), Some(depth)) => run(&rt, &word, &turns, &depth),
-        (Some(turns), None) => run(&rt, &word, &turns, "8"),
-        _ => run(&rt, &word, "8", "8"),
-    }
 }

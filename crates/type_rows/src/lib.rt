@@ -1,5 +1,5 @@
-//! Answers what the declarations of a preprocessed source in standard input say of types, for comparison with tables
-//! and with a C compiler.
+//! What the declarations of a preprocessed source in standard input say of types, for comparison with tables and with a
+//! C compiler.
 //!
 //! - `types`: the names that are declared with their types, and the values of their initializers (`naming`).
 //! - `layouts`: the sizes and alignments of objects, the offsets and sizes of members, and values (`sizing`).
@@ -21,7 +21,6 @@ use c_parser::{discard, parse};
 use declaring::{Answer, put_unit};
 use plain_data::Bytes;
 use std::alloc::Global;
-use std::env;
 use std::io::{self, Read, Write};
 
 /// The most bytes that a source may have.
@@ -58,8 +57,8 @@ fn print_answer(rt: &(impl Print + AllocGlobal), answer: Answer, unit: &Unit) ->
     Ok(())
 }
 
-/// Answers the source in standard input.
-fn run(rt: &HostRuntime, word: &str) -> Result<()> {
+/// Answers the source in standard input as a word asks.
+pub fn answer(rt: &(impl Input + Print + AllocGlobal), word: &str) -> Result<()> {
     let answer = answer_named(word).ok_or(anyhow!("no such word"))?;
     let mut source = Vec::new(rt.alloc());
     rt.reader().read_to_end(&mut source)?;
@@ -67,10 +66,4 @@ fn run(rt: &HostRuntime, word: &str) -> Result<()> {
     let printed = print_answer(rt, answer, &unit);
     discard(unit);
     printed
-}
-
-fn main(rt: HostRuntime) -> Result<()> {
-    let mut words = env::args(&rt)?.skip(1);
-    let word = words.next().ok_or(anyhow!("no word"))?;
-    run(&rt, &word)
 }

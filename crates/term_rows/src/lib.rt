@@ -1,9 +1,9 @@
-//! Answers rows of terms in standard input, for comparison with values that a script works out by itself.
+//! Rows of terms in standard input, answered for comparison with values that a script works out by itself.
 //!
 //! Each line is a row: statements with `;` between them, each of which makes a node over those of the statements before
 //! it, named by their numbers from 0, or says what one is to be (`terms`). The last node is the root.
 //!
-//! - `values`: what the root is worth in a model of its clauses, whether it is worth that in each, and the world that
+//! - `terms`: what the root is worth in a model of its clauses, whether it is worth that in each, and the world that
 //!   the model stands for (`asking`).
 //! - `sizes`: how many clauses the root takes, and how many literals they have.
 //! - `chain COUNT`: no rows; the same of a chain of so many connectives over the world.
@@ -17,10 +17,9 @@ mod solving;
 mod terms;
 
 use anyhow::{Result, anyhow};
-use asking::{answer, size};
+use asking::{size, worth};
 use chains::answer_chain;
 use std::alloc::Global;
-use std::env;
 use std::mem::drop;
 
 /// What is asked of a row.
@@ -35,7 +34,7 @@ enum Row {
 impl Row {
     fn answer(self, alloc: Global, row: &str) -> Result<String> {
         match self {
-            Row::Values => answer(alloc, row),
+            Row::Values => worth(alloc, row),
             Row::Sizes => size(alloc, row),
         }
     }
@@ -70,21 +69,12 @@ fn print_chain(rt: &(impl Print + AllocGlobal), count: &str) -> Result<()> {
     print_text(rt, text)
 }
 
-/// Does what the words ask for.
-fn run(rt: &HostRuntime, word: &str, second: &str) -> Result<()> {
+/// Answers the rows that a word asks for; of a chain a second word says how long it is.
+pub fn answer(rt: &(impl Input + Print + AllocGlobal), word: &str, second: &str) -> Result<()> {
     match word {
-        "values" => answer_lines(rt, Row::Values),
+        "terms" => answer_lines(rt, Row::Values),
         "sizes" => answer_lines(rt, Row::Sizes),
         "chain" => print_chain(rt, second),
         _ => Err(anyhow!("no such rows")),
-    }
-}
-
-fn main(rt: HostRuntime) -> Result<()> {
-    let mut words = env::args(&rt)?.skip(1);
-    let first = words.next().ok_or(anyhow!("no word"))?;
-    match words.next() {
-        Some(second) => run(&rt, &first, &second),
-        None => run(&rt, &first, ""),
     }
 }
