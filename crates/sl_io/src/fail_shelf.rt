@@ -14,11 +14,21 @@ use std::alloc::Global;
 
 /// A shelf in memory whose listed calls fail and change no file. Gets and puts are counted together,
 /// from 1. Every other call is that of the shelf in memory.
-#[derive(Drop)]
 pub struct FailShelf {
     shelf: MemShelf,
     failing: Items<u64>,
     calls: u64,
+}
+
+/// By hand, so that a call stands in place of all its parts wherever a value is let go.
+impl Drop for FailShelf {
+    fn drop(self) {
+        let FailShelf {
+            shelf,
+            failing,
+            calls,
+        } = self;
+    }
 }
 
 impl FailShelf {

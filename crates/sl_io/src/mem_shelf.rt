@@ -51,10 +51,16 @@ impl ShelfCounts {
 }
 
 /// A shelf in memory. A get fails only at a name that is not held, and a put never.
-#[derive(Drop)]
 pub struct MemShelf {
     files: BTreeMap<String, Bytes>,
     counts: ShelfCounts,
+}
+
+/// By hand, so that a call stands in place of all its parts wherever a value is let go.
+impl Drop for MemShelf {
+    fn drop(self) {
+        let MemShelf { files, counts } = self;
+    }
 }
 
 impl MemShelf {
