@@ -1,6 +1,6 @@
 #!/usr/bin/env bash
 # Builds the proved program of a crate, `sherlog` where none is named, if it is missing or older than what it is
-# made of. Every crate below it is proved first: from nothing that takes half an hour or more on four processors.
+# made of. Every crate below it is proved first: from nothing that takes about an hour on four processors.
 #
 #     tools/build.sh [NAME]
 set -u
