@@ -3,17 +3,13 @@
 use acceptance::{CheckFault, accept};
 use accepted::Accepted;
 use anyhow::{Result, anyhow, ensure};
-use c_language::{Tokens, Unit};
-use c_lexer::lex;
+use c_language::Unit;
 use c_means::Profile;
-use c_parser::parse;
 use config_text::default_config;
 use log_text::{LogText, strip};
 use plain_data::Bounds;
 use std::alloc::{AllocError, Global};
-
-/// The most bytes that a source may have.
-const LONGEST: usize = 8_388_608;
+use text_rows::unit_of;
 
 /// The most bytes that a log may have.
 const LONGEST_LOG: usize = 65_536;
@@ -26,16 +22,6 @@ pub fn split(input: &[u8]) -> Result<(&[u8], &[u8])> {
         }
     }
     Err(anyhow!("no log"))
-}
-
-fn tokens_of(alloc: Global, source: &[u8]) -> Result<Tokens> {
-    ensure!(source.len() <= LONGEST, "the source is too long");
-    Ok(lex(alloc, "source", source)?)
-}
-
-fn unit_of(alloc: Global, source: &[u8]) -> Result<Unit> {
-    let tokens = tokens_of(alloc, source)?;
-    Ok(parse(alloc, &tokens)?)
 }
 
 /// What is known of functions where no configuration says more.

@@ -1,12 +1,10 @@
 //! Sources, answered by their tokens or by their first fault and where it stands. The table's head says how.
+use crate::sources::LONGEST;
 use anyhow::{Result, anyhow};
 use c_language::{Token, TokenKind};
 use c_lexer::{LexFault, lex, locate};
 use plain_data::Bytes;
 use std::alloc::{AllocError, Global};
-
-/// The most bytes that a source may have.
-const LONGEST: usize = 8_388_608;
 
 /// The file that holds before the first line marker.
 const FILE: &str = "a.c";

@@ -16,6 +16,7 @@ mod lexing;
 mod meeting;
 mod reading;
 mod solving;
+mod sources;
 mod splits;
 mod tables;
 mod texts;
@@ -24,6 +25,7 @@ mod words;
 
 use anyhow::{Result, anyhow};
 use cdcl::{LeastOpen, MostMarked};
+pub use sources::unit_of;
 use std::alloc::Global;
 use std::io::{self, Read, Write};
 use std::rt::Clock;

@@ -1,6 +1,7 @@
 //! Sources, answered by the text of their syntax tree, which is that of `tree_text`. A source that no tree derives is
 //! answered by `fault NAME K`, where K is the number of a token, counted from 0, and one that isn't tokens by
 //! `lexical NAME AT`, where AT is an offset in bytes.
+use crate::sources::{LONGEST, tokens_of};
 use anyhow::{Result, anyhow};
 use c_language::Tokens;
 use c_lexer::{LexFault, lex};
@@ -8,9 +9,6 @@ use c_parser::{ParseFault, discard, parse};
 use plain_data::Bytes;
 use std::alloc::{AllocError, Global};
 use tree_text::{placed_text, unit_text};
-
-/// The most bytes that a source may have.
-const LONGEST: usize = 8_388_608;
 
 fn bytes_of(text: String) -> Bytes {
     Bytes::from_vec(text.into_bytes())
@@ -84,10 +82,7 @@ fn placed_of(alloc: Global, tokens: &Tokens) -> Result<Bytes> {
 
 /// The text of a source's tree, with the places of its nodes.
 fn placed_in(alloc: Global, source: &[u8]) -> Result<Bytes> {
-    if LONGEST < source.len() {
-        return Err(anyhow!("the source is too long"));
-    }
-    let tokens = lex(alloc, "source", source)?;
+    let tokens = tokens_of(alloc, source)?;
     placed_of(alloc, &tokens)
 }
 

@@ -15,16 +15,13 @@ mod spelling;
 mod text;
 
 use anyhow::{Result, anyhow};
-use c_language::{Tokens, Unit};
-use c_lexer::lex;
-use c_parser::{discard, parse};
+use c_language::Unit;
+use c_parser::discard;
 use declaring::{Answer, put_unit};
 use plain_data::Bytes;
 use std::alloc::Global;
 use std::io::{self, Read, Write};
-
-/// The most bytes that a source may have.
-const LONGEST: usize = 8_388_608;
+use text_rows::unit_of;
 
 /// What a word asks of each declaration.
 fn answer_named(word: &str) -> Option<Answer> {
@@ -33,20 +30,6 @@ fn answer_named(word: &str) -> Option<Answer> {
         "layouts" => Some(Answer::Layouts),
         _ => None,
     }
-}
-
-/// The tokens of a source.
-fn tokens_of(alloc: Global, source: &[u8]) -> Result<Tokens> {
-    if LONGEST < source.len() {
-        return Err(anyhow!("the source is too long"));
-    }
-    Ok(lex(alloc, "source", source)?)
-}
-
-/// The unit of a source.
-fn unit_of(alloc: Global, source: &[u8]) -> Result<Unit> {
-    let tokens = tokens_of(alloc, source)?;
-    Ok(parse(alloc, &tokens)?)
 }
 
 /// Prints what is answered of a unit.
