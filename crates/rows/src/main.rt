@@ -4,8 +4,8 @@
 //! - `words`, `texts`, `splits`, `table`, `tree`, `check`, `solve`, `solve_least`: those of `text_rows`;
 //! - `types`, `layouts`: what declarations say (`type_rows`);
 //! - `terms`, `sizes`, `chain`: terms by their clauses (`term_rows`);
-//! - `ends`, `count`, `facts`, `lines`, `sites`, `values`, `clauses`, `observations`, `walks`, `nodes`: what is found of
-//!   a program along a log (`table_rows`), with 8 turns and 8 levels where no words say how many.
+//! - `ends`, `count`, `facts`, `lines`, `sites`, `values`, `clauses`, `observations`, `walks`, `nodes`: what is found
+//!   of a program along a log (`table_rows`), with 8 turns and 8 levels where no words say how many.
 #![tactic(auto)]
 
 use anyhow::{Result, anyhow};
